@@ -1,0 +1,54 @@
+-- The bit meanings of all 256 map bytes, by one computed test: the legal ones are the eight pairs k and k + 32 that code names.
+-- Assumes nothing.
+use mathlib.Core.Path.{_≡_, refl, _∙_, sym}
+use mathlib.Core.Bool.{Bool, true, false, cond, _||_, Bool·beq}
+use mathlib.Core.List.{List, [], _∷_}
+use mathlib.Core.Logic.{_⊎_, inl, inr}
+use Prim.Native.Nat.{ℕ, _+_, _<_}
+use borrow.Author.Tests.{ne-eqb}
+use lib.Dec.{eqb}
+use Rattle.list.specs.Maps.{bit, kindOf, legalMap, mapRead}
+use Rattle.list.specs.declared.entry.MapAnswer.{MapAnswer}
+use Rattle.list.specs.declared.entry.MapAnswer.the-variants.{Breaks, Follow}
+use Rattle.list.proofs.Table.{all, at}
+
+-- b is k or k + 32 for a k of the list
+among : List ℕ → ℕ → Bool
+among [] b = false
+among (k ∷ ks) b = eqb b k || (eqb b (k + 32) || among ks b)
+
+-- b is none of them
+abbrev pub Excluded : List ℕ → ℕ → Type 0
+Excluded [] b = Unit {0}
+Excluded (k ∷ ks) b = Excluded ks b × ((b ≡ k) ⊎ (b ≡ k + 32) → ⊥)
+
+not-among : (ks : List ℕ) (b : ℕ) → Excluded ks b → among ks b ≡ false
+unfolding among
+not-among [] b h = refl
+not-among (k ∷ ks) b h =
+    simp (ne-eqb b k (λ e. h .1 (inl e)), ne-eqb b (k + 32) (λ e. h .1 (inr e)), not-among ks b (h .0))
+
+abbrev pub pauseMaps : List ℕ
+pauseMaps = 31 ∷ 29 ∷ 27 ∷ 25 ∷ 23 ∷ 21 ∷ 19 ∷ 17 ∷ []
+
+same : (a b : Bool) → Bool·beq a b ≡ true → a ≡ b
+same true true e = refl
+same true false e = sym e
+same false true e = e
+same false false e = refl
+
+legal : (b : ℕ) → b < 256 → legalMap b ≡ among pauseMaps b
+unfolding among
+legal b h = same _ _ (at 256 (λ k. Bool·beq (legalMap k) (among pauseMaps k)) refl b h)
+
+pub breaks : (b : ℕ) → b < 256 → Excluded pauseMaps b → mapRead b ≡ Breaks
+breaks b h x = simp (legal b h ∙ not-among pauseMaps b x)
+
+-- what a map byte with these fields says
+abbrev pub following : Bool → Bool → Bool → ℕ → MapAnswer
+following s r d b = Follow (record { seal = s; r = r; d = d; kind = kindOf (bit 5 b) })
+
+-- of a byte that is k or k + 32, if those two have the fields
+pub named : (b k : ℕ) (s r d : Bool) → following s r d k ≡ mapRead k → following s r d (k + 32) ≡ mapRead (k + 32) → (b ≡ k) ⊎ (b ≡ k + 32) → following s r d b ≡ mapRead b
+named b k s r d p q (inl e) = rw e p
+named b k s r d p q (inr e) = rw e q

@@ -1,0 +1,89 @@
+-- `entry::map_answer` meets its contract: a byte that an arm names by its number is computed, and no other is legal.
+-- Assumes nothing.
+use borrow.Author.Needs.{needs}
+use mathlib.Core.Path.{sym, refl, _∙_}
+use mathlib.Core.Bool.{true, false}
+use Rattle.list.proofs.MapBytes.{breaks, named}
+use Rattle.list.proofs.entry.map_answer.Statement.{statement}
+use Rattle.list.proofs.entry.map_answer.Tie as tie
+
+follow-requires : tie.Need-follow-requires
+follow-requires c κs = search needs
+
+follow-requires-2 : tie.Need-follow-requires-2
+follow-requires-2 c κs = search needs
+
+follow-requires-3 : tie.Need-follow-requires-3
+follow-requires-3 c κs = search needs
+
+follow-requires-4 : tie.Need-follow-requires-4
+follow-requires-4 c κs = search needs
+
+follow-requires-5 : tie.Need-follow-requires-5
+follow-requires-5 c κs = search needs
+
+follow-requires-6 : tie.Need-follow-requires-6
+follow-requires-6 c κs = search needs
+
+follow-requires-7 : tie.Need-follow-requires-7
+follow-requires-7 c κs = search needs
+
+follow-requires-8 : tie.Need-follow-requires-8
+follow-requires-8 c κs = search needs
+
+returns : tie.Need-returns
+returns c = c .follow .ensures ∙ named _ 17 false false false refl refl (c .before .match .keys1)
+
+returns-2 : tie.Need-returns-2
+returns-2 c = c .follow2 .ensures ∙ named _ 19 true false false refl refl (c .before .match .keys2)
+
+returns-3 : tie.Need-returns-3
+returns-3 c = c .follow3 .ensures ∙ named _ 21 false true false refl refl (c .before .match .keys3)
+
+returns-4 : tie.Need-returns-4
+returns-4 c = c .follow4 .ensures ∙ named _ 23 true true false refl refl (c .before .match .keys4)
+
+returns-5 : tie.Need-returns-5
+returns-5 c = c .follow5 .ensures ∙ named _ 25 false false true refl refl (c .before .match .keys5)
+
+returns-6 : tie.Need-returns-6
+returns-6 c = c .follow6 .ensures ∙ named _ 27 true false true refl refl (c .before .match .keys6)
+
+returns-7 : tie.Need-returns-7
+returns-7 c = c .follow7 .ensures ∙ named _ 29 false true true refl refl (c .before .match .keys7)
+
+returns-8 : tie.Need-returns-8
+returns-8 c = c .follow8 .ensures ∙ named _ 31 true true true refl refl (c .before .match .keys8)
+
+returns-9 : tie.Need-returns-9
+returns-9 c = sym (breaks _ (c .before .before .fits .map .fits) (c .before .match .rest))
+
+returns-10 : tie.Need-returns-10
+returns-10 c = sym (breaks _ (c .before .before .before .fits .map .fits) (c .before .before .match .rest))
+
+returns-11 : tie.Need-returns-11
+returns-11 c = sym (breaks _ (c .before .before .before .fits .map .fits) (c .before .before .match .rest))
+
+pub map-answer-spec : {M : Type 1} → statement M
+map-answer-spec =
+    tie.close
+    (tie.spec
+    follow-requires
+    follow-requires-2
+    follow-requires-3
+    follow-requires-4
+    follow-requires-5
+    follow-requires-6
+    follow-requires-7
+    follow-requires-8
+    returns
+    returns-2
+    returns-3
+    returns-4
+    returns-5
+    returns-6
+    returns-7
+    returns-8
+    returns-9
+    returns-10
+    returns-11)

@@ -1,0 +1,30 @@
+-- "A list handed over as a value is tested for 2, 3, then 6 and 7 per entry; 2 and 3 then carry 0, 6 and 7 the entry's place."
+use Prim.Native.Nat.{ℕ, _+_}
+use mathlib.Core.Path.{_≡_}
+use mathlib.Core.Bool.{_||_}
+use mathlib.Core.List.{List, [], _∷_}
+use lib.Dec.{eqb, ltb}
+use Rattle.list.specs.Outcomes.{Outcome, answered, row, firstOf, andThen}
+use Rattle.list.specs.Entries.{entryFault}
+use Rattle.list.specs.DayLists.{entriesOf}
+use Rattle.list.specs.declared.types.Entry.{Entry}
+use Rattle.list.specs.declared.types.Frame.{Frame}
+use Rattle.list.specs.declared.types.DayList.{DayList}
+
+-- rows 2 and 3, for the day's length and the number of entries; 3 carries the place given
+unfoldable pub headerFault : ℕ → Frame → ℕ → Outcome (Unit {0})
+headerFault place f n =
+    firstOf (row 2 (eqb (f .h) 0 || ltb 1440 (f .h)) 0 ∷ row 3 (ltb 64 n) place ∷ []) (answered tt)
+
+-- rows 6 and 7, entry by entry, the first at place i
+unfoldable pub entriesFault : Frame → ℕ → List Entry → Outcome (Unit {0})
+entriesFault f i [] = answered tt
+entriesFault f i (e ∷ es) = andThen (entryFault f i e) (λ _. entriesFault f (i + 1) es)
+
+-- the value check
+unfoldable pub checkOf : DayList → Outcome (Unit {0})
+checkOf l = andThen (headerFault 0 (l .frame) (l .n)) (λ _. entriesFault (l .frame) 0 (entriesOf l))
+
+-- a well-formed list: one that the value check accepts
+abbrev pub WellFormed : DayList → Type 0
+WellFormed l = checkOf l ≡ answered tt

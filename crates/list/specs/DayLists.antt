@@ -1,0 +1,32 @@
+-- List values: what counts in one, and what stands where nothing counts.
+use Prim.Native.Nat.{ℕ, _-_}
+use mathlib.Core.Path.{_≡_}
+use mathlib.Core.List.{List, [], _++_}
+use lib.ListN.{length, take, replicate}
+use Rattle.list.specs.declared.types.Seal.the-variants.{Missing}
+use Rattle.list.specs.declared.types.Kind.the-variants.{Pause}
+use Rattle.list.specs.declared.types.Entry.{Entry}
+use Rattle.list.specs.declared.types.Frame.{Frame}
+use Rattle.list.specs.declared.types.DayList.{DayList}
+
+-- the entries that count: the first n
+abbrev pub entriesOf : DayList → List Entry
+entriesOf l = take (l .n) (l .entries)
+
+-- what stands at every place from n on in a list that is answered
+abbrev pub blank : Entry
+blank = record { serial = 0; seal = Missing; r = 0; d = 0; p = 0; kind = Pause }
+
+-- the list value with these entries
+abbrev pub dayList : Frame → List Entry → DayList
+dayList f es = record { frame = f; n = length es; entries = es ++ replicate (64 - length es) blank }
+
+-- the list value that stands beside a refusal
+abbrev pub emptyList : DayList
+emptyList = dayList (record { h = 0 }) []
+
+-- "Two list values are equal if H, n and the first n entries are."
+pub record SameList (a b : DayList) : Type 0 where
+  pub frame : a .frame ≡ b .frame
+  pub n : a .n ≡ b .n
+  pub entries : entriesOf a ≡ entriesOf b

@@ -1,0 +1,95 @@
+-- One entry: what its bytes say, when it is turned back, and its one form.
+use Prim.Native.Nat.{ℕ, _+_}
+use mathlib.Core.Bool.{Bool, true, false, cond, not, _&&_, _||_}
+use mathlib.Core.List.{List, [], _∷_, _++_}
+use lib.ListN.{length, getD}
+use lib.Dec.{eqb, ltb}
+use Rattle.list.specs.Outcomes.{Outcome, answered, row, firstOf, andThen}
+use Rattle.list.specs.Numbers.{u16At, u32At, u16Bytes, u32Bytes}
+use Rattle.list.specs.Maps.{legalMap, fieldsOf, rPlace, dPlace, pPlace, sizeOf}
+use Rattle.list.specs.declared.types.Seal.{Seal}
+use Rattle.list.specs.declared.types.Seal.the-variants.{Missing, Number}
+use Rattle.list.specs.declared.types.Kind.{Kind}
+use Rattle.list.specs.declared.types.Kind.the-variants.{Pause, Whole}
+use Rattle.list.specs.declared.types.Entry.{Entry}
+use Rattle.list.specs.declared.types.Frame.{Frame}
+use Rattle.list.specs.declared.entry.Fields.{Fields}
+
+-- "earliest minute r ..: missing means 0"
+abbrev pub defaultR : Frame → ℕ
+defaultR f = 0
+
+-- "latest minute d ..: missing means H"
+abbrev pub defaultD : Frame → ℕ
+defaultD f = f .h
+
+-- "A seal is either missing or a number"
+abbrev pub sealOf : Bool → ℕ → Seal
+sealOf true x = Number x
+sealOf false x = Missing
+
+-- the entry that bytes with these fields say, its map byte first
+unfoldable pub entryAt : Frame → Fields → List ℕ → Entry
+entryAt f m bs =
+    record
+      { serial = u32At bs 1
+      ; seal = sealOf (m .seal) (u32At bs 5)
+      ; r = cond (m .r) (u16At bs (rPlace m)) (defaultR f)
+      ; d = cond (m .d) (u16At bs (dPlace m)) (defaultD f)
+      ; p = u16At bs (pPlace m)
+      ; kind = m .kind
+      }
+
+-- "A written r of 0, or a written d equal to H, is refused"
+abbrev pub defaultWritten : Frame → Fields → Entry → Bool
+defaultWritten f m e = (m .r && eqb (e .r) (defaultR f)) || (m .d && eqb (e .d) (defaultD f))
+
+-- rows 6 and 7 of an entry, which carry the place given: "A window [r, d) lies in 0 to H and holds at least p minutes."
+unfoldable pub entryFault : Frame → ℕ → Entry → Outcome (Unit {0})
+entryFault f place e =
+    firstOf
+    (row 6 (eqb (e .p) 0) place
+    ∷ row 7 (ltb (f .h) (e .d) || ltb (e .d) (e .r + e .p)) place
+    ∷ [])
+    (answered tt)
+
+-- The entry at the start of bs, what is left of the input from place at on, with the bytes that it took: rows 4, 1, 5, 6
+-- and 7. "a missing map byte is 1", and 1 carries the input's length, at + length bs.
+unfoldable pub entryOf : Frame → ℕ → List ℕ → Outcome (Entry × ℕ)
+entryOf f at bs =
+    let m = fieldsOf (getD bs 0 0) in
+    firstOf
+    (row 1 (eqb (length bs) 0) (at + length bs)
+    ∷ row 4 (not (legalMap (getD bs 0 0))) at
+    ∷ row 1 (ltb (length bs) (sizeOf m)) (at + length bs)
+    ∷ row 5 (defaultWritten f m (entryAt f m bs)) at
+    ∷ [])
+    (andThen (entryFault f at (entryAt f m bs)) (λ _. answered (entryAt f m bs, sizeOf m)))
+
+-- a minute is written unless it has its default
+abbrev pub minuteBytes : ℕ → ℕ → List ℕ
+minuteBytes x default = cond (eqb x default) [] (u16Bytes x)
+
+abbrev pub sealBytes : Seal → List ℕ
+sealBytes Missing = []
+sealBytes (Number x) = u32Bytes x
+
+abbrev pub sealBit : Seal → ℕ
+sealBit Missing = 0
+sealBit (Number x) = 2
+
+abbrev pub kindBit : Kind → ℕ
+kindBit Pause = 0
+kindBit Whole = 32
+
+-- the map byte of the one form: bits 0 and 4, and a bit for each field that follows and for the kind
+abbrev pub mapOf : Frame → Entry → ℕ
+mapOf f e = 17 + sealBit (e .seal) + cond (eqb (e .r) (defaultR f)) 0 4 + cond (eqb (e .d) (defaultD f)) 0 8 + kindBit (e .kind)
+
+-- an entry's one form
+unfoldable pub entryBytes : Frame → Entry → List ℕ
+entryBytes f e =
+    mapOf f e
+    ∷ (u32Bytes (e .serial)
+    ++ (sealBytes (e .seal)
+    ++ (minuteBytes (e .r) (defaultR f) ++ (minuteBytes (e .d) (defaultD f) ++ u16Bytes (e .p)))))

@@ -1,0 +1,9 @@
+pub mod Outcomes
+pub mod Refusals
+pub mod Numbers
+pub mod Maps
+pub mod Entries
+pub mod DayLists
+pub mod Checks
+pub mod Reading
+pub mod Writing

@@ -1,0 +1,45 @@
+-- The map byte: "The map byte alone decides which fields follow and how long they are."
+use Prim.Native.Nat.{ℕ, _+_, _/_, _%_, _^_}
+use mathlib.Core.Bool.{Bool, true, false, cond, not, _&&_}
+use lib.Dec.{eqb}
+use Rattle.list.specs.declared.types.Kind.{Kind}
+use Rattle.list.specs.declared.types.Kind.the-variants.{Pause, Whole}
+use Rattle.list.specs.declared.entry.Fields.{Fields}
+use Rattle.list.specs.declared.entry.MapAnswer.{MapAnswer}
+use Rattle.list.specs.declared.entry.MapAnswer.the-variants.{Breaks, Follow}
+
+-- bit k of b stands
+abbrev pub bit : ℕ → ℕ → Bool
+bit k b = eqb (b / 2 ^ k % 2) 1
+
+-- bits 0 (serial) and 4 (p) must stand, bits 6 and 7 are clear
+abbrev pub legalMap : ℕ → Bool
+legalMap b = bit 0 b && (bit 4 b && (not (bit 6 b) && not (bit 7 b)))
+
+-- bit 5: "the entry is whole (unpausable). Clear: pause."
+abbrev pub kindOf : Bool → Kind
+kindOf true = Whole
+kindOf false = Pause
+
+-- bits 1, 2 and 3: seal, r and d may follow
+abbrev pub fieldsOf : ℕ → Fields
+fieldsOf b = record { seal = bit 1 b; r = bit 2 b; d = bit 3 b; kind = kindOf (bit 5 b) }
+
+-- Where a field starts, counted from the map byte: "then come only the fields whose bit stands, in bit order".
+-- The serial is at 1, and the seal, where it stands, at 5.
+abbrev pub rPlace : Fields → ℕ
+rPlace f = 5 + cond (f .seal) 4 0
+
+abbrev pub dPlace : Fields → ℕ
+dPlace f = rPlace f + cond (f .r) 2 0
+
+abbrev pub pPlace : Fields → ℕ
+pPlace f = dPlace f + cond (f .d) 2 0
+
+-- the bytes of an entry, its map byte too
+abbrev pub sizeOf : Fields → ℕ
+sizeOf f = pPlace f + 2
+
+-- the fields that follow a map byte, or that it breaks its rules
+abbrev pub mapRead : ℕ → MapAnswer
+mapRead b = cond (legalMap b) (Follow (fieldsOf b)) Breaks

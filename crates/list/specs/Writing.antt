@@ -1,0 +1,41 @@
+-- Writing: "The writer gives the list's one form; bytes after it keep their values." and "A refusal writes nothing to any lent buffer."
+use Prim.Native.Nat.{ℕ}
+use mathlib.Core.Path.{_≡_}
+use mathlib.Core.List.{List, [], _∷_, _++_}
+use lib.ListN.{length, drop}
+use lib.Dec.{ltb}
+use Rattle.list.specs.Outcomes.{Outcome, answered, refused, row, firstOf, andThen}
+use Rattle.list.specs.Refusals.{writeAnswerOf}
+use Rattle.list.specs.Numbers.{u16Bytes}
+use Rattle.list.specs.Entries.{entryBytes}
+use Rattle.list.specs.DayLists.{entriesOf}
+use Rattle.list.specs.Checks.{checkOf}
+use Rattle.list.specs.declared.types.Entry.{Entry}
+use Rattle.list.specs.declared.types.Frame.{Frame}
+use Rattle.list.specs.declared.types.DayList.{DayList}
+use Rattle.list.specs.declared.types.WriteAnswer.{WriteAnswer}
+
+-- the entries' one forms, one after the other
+unfoldable pub bytesOfEntries : Frame → List Entry → List ℕ
+bytesOfEntries f [] = []
+bytesOfEntries f (e ∷ es) = entryBytes f e ++ bytesOfEntries f es
+
+-- the list's one form
+unfoldable pub bytesOf : DayList → List ℕ
+bytesOf l = u16Bytes (l .frame .h) ++ (l .n ∷ bytesOfEntries (l .frame) (entriesOf l))
+
+-- the bytes written to a buffer of the length given, or the first row, 2, 3, 6, 7 and 12, that turns the list back
+unfoldable pub writeOf : DayList → ℕ → Outcome ℕ
+writeOf l room =
+    andThen (checkOf l)
+    (λ _. firstOf (row 12 (ltb room (length (bytesOf l))) (length (bytesOf l)) ∷ []) (answered (length (bytesOf l))))
+
+-- the buffer afterwards
+abbrev pub bufferAfter : Outcome ℕ → DayList → List ℕ → List ℕ
+bufferAfter (answered n) l old = bytesOf l ++ drop n old
+bufferAfter (refused k xs) l old = old
+
+-- what `write` answers of the list l and a buffer that held old, and what the buffer holds then
+pub record Writes (l : DayList) (old : List ℕ) (a : WriteAnswer) (new : List ℕ) : Type 0 where
+  pub outcome : writeAnswerOf a ≡ writeOf l (length old)
+  pub buffer : new ≡ bufferAfter (writeOf l (length old)) l old

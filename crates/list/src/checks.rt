@@ -1,0 +1,60 @@
+// The tests of list values: rows 2, 3, 6 and 7.
+use crate::types::{DayList, Entry, Frame, Refusal, Verdict};
+ghost use mathlib.Core.Path.{_≡_};
+ghost use Rattle.list.specs.Refusals.{verdictOf};
+ghost use Rattle.list.specs.Entries.{entryFault};
+ghost use Rattle.list.specs.Checks.{headerFault, checkOf};
+
+// Rows 2 and 3; 3 carries the place given.
+pub(crate) fn header_fault(place: usize, frame: Frame, n: u8) -> Verdict
+    ensures { λ v. ⌜ verdictOf v ≡ headerFault place frame n ⌝ }
+{
+    let h = frame.h;
+    if h == 0 {
+        return Verdict::Refused(Refusal::BadDayLength);
+    }
+    if 1440 < h {
+        return Verdict::Refused(Refusal::BadDayLength);
+    }
+    if 64 < n {
+        return Verdict::Refused(Refusal::TooManyEntries(place));
+    }
+    Verdict::Accepted
+}
+
+// Rows 6 and 7 of one entry, which carry the place given. The sum r + p may pass 65,535.
+pub(crate) fn entry_fault(frame: Frame, place: usize, e: Entry) -> Verdict
+    ensures { λ v. ⌜ verdictOf v ≡ entryFault frame place e ⌝ }
+{
+    if e.p == 0 {
+        return Verdict::Refused(Refusal::NoMinutes(place));
+    }
+    if frame.h < e.d {
+        return Verdict::Refused(Refusal::BadWindow(place));
+    }
+    if (e.d as u32) < (e.r as u32) + (e.p as u32) {
+        return Verdict::Refused(Refusal::BadWindow(place));
+    }
+    Verdict::Accepted
+}
+
+// The value check: 2, 3, then 6 and 7 entry by entry. Only the first n entries are looked at.
+pub fn check(list: DayList) -> Verdict
+    ensures { λ v. ⌜ verdictOf v ≡ checkOf list ⌝ }
+{
+    let n = list.n;
+    let header = header_fault(0, list.frame, n);
+    let Verdict::Accepted = header else {
+        return header;
+    };
+    let count = n as usize;
+    let mut i: usize = 0;
+    while i < count {
+        let fault = entry_fault(list.frame, i, list.entries[i]);
+        let Verdict::Accepted = fault else {
+            return fault;
+        };
+        i += 1;
+    }
+    Verdict::Accepted
+}

@@ -1,0 +1,84 @@
+// The values that travel between the crates.
+
+// "A seal is either missing or a number, and it travels inside its entry."
+pub enum Seal {
+    Missing,
+    Number(u32),
+}
+
+// Document 01's kinds: a pause entry may be interrupted (preempted), a whole one may not.
+pub enum Kind {
+    Pause,
+    Whole,
+}
+
+// One box: its serial and seal, its window [r, d) of minutes, and the p minutes of work that it needs.
+pub struct Entry {
+    pub serial: u32,
+    pub seal: Seal,
+    pub r: u16,
+    pub d: u16,
+    pub p: u16,
+    pub kind: Kind,
+}
+
+// What the header says of every entry: the day's length H in minutes.
+pub struct Frame {
+    pub h: u16,
+}
+
+// A day's list: the first n entries count, known by their place from 0.
+pub struct DayList {
+    pub frame: Frame,
+    pub n: u8,
+    pub entries: [Entry; 64],
+}
+
+// The refusals of every call of the planner, a case for each row of "Where a list is turned back".
+// specs/Refusals.antt has each case's number and the values that it carries.
+pub enum Refusal {
+    // 1: bytes are missing; the input's length.
+    BytesMissing(usize),
+    // 2: the day's length is 0 or over 1,440.
+    BadDayLength,
+    // 3: over 64 entries; the count's place.
+    TooManyEntries(usize),
+    // 4: a map byte breaks its rules; its place.
+    BadMapByte(usize),
+    // 5: r or d is written at its default; the place.
+    DefaultWritten(usize),
+    // 6: p is 0; the place.
+    NoMinutes(usize),
+    // 7: d over H, or r + p over d; the place.
+    BadWindow(usize),
+    // 8: bytes are left over; the first of them.
+    BytesLeftOver(usize),
+    // 9: the interval from a to b is overloaded; a, b and its work.
+    Overloaded(u16, u16, u32),
+    // 10: a whole entry has no place; the entry.
+    NoStart(usize),
+    // 11: a plan buffer is under H bytes; H.
+    PlanBufferShort(usize),
+    // 12: the writer's buffer is too short; the bytes needed.
+    ListBufferShort(usize),
+    // 13: the place asked is n or more; that place.
+    UnknownPlace(usize),
+}
+
+// What a test of a list answers.
+pub enum Verdict {
+    Accepted,
+    Refused(Refusal),
+}
+
+// What reading answers: the list beside Accepted, and the empty list of specs/DayLists.antt beside a refusal.
+pub struct ReadAnswer {
+    pub verdict: Verdict,
+    pub list: DayList,
+}
+
+// What writing answers: how many bytes the list's one form has, or why it was not written.
+pub enum WriteAnswer {
+    Written(usize),
+    NotWritten(Refusal),
+}
