@@ -1,2 +1,4 @@
 pub mod Table
 pub mod MapBytes
+pub mod Places
+pub mod EntryCases

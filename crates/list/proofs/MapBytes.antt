@@ -8,8 +8,8 @@ use Prim.Native.Nat.{ℕ, _+_, _<_}
 use borrow.Author.Tests.{ne-eqb}
 use lib.Dec.{eqb}
 use Rattle.list.specs.Maps.{bit, kindOf, legalMap, mapRead}
-use Rattle.list.specs.declared.entry.MapAnswer.{MapAnswer}
-use Rattle.list.specs.declared.entry.MapAnswer.the-variants.{Breaks, Follow}
+use Rattle.list.specs.declared.map.MapAnswer.{MapAnswer}
+use Rattle.list.specs.declared.map.MapAnswer.the-variants.{Breaks, Follow}
 use Rattle.list.proofs.Table.{all, at}
 
 -- b is k or k + 32 for a k of the list

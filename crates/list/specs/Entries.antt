@@ -4,7 +4,8 @@ use mathlib.Core.Bool.{Bool, true, false, cond, not, _&&_, _||_}
 use mathlib.Core.List.{List, [], _∷_, _++_}
 use lib.ListN.{length, getD}
 use lib.Dec.{eqb, ltb}
-use Rattle.list.specs.Outcomes.{Outcome, answered, row, firstOf, andThen}
+use Rattle.list.specs.Outcomes.{Outcome, answered, refused, row, firstOf, andThen}
+use Rattle.list.specs.Refusals.{codeOf}
 use Rattle.list.specs.Numbers.{u16At, u32At, u16Bytes, u32Bytes}
 use Rattle.list.specs.Maps.{legalMap, fieldsOf, rPlace, dPlace, pPlace, sizeOf}
 use Rattle.list.specs.declared.types.Seal.{Seal}
@@ -13,7 +14,9 @@ use Rattle.list.specs.declared.types.Kind.{Kind}
 use Rattle.list.specs.declared.types.Kind.the-variants.{Pause, Whole}
 use Rattle.list.specs.declared.types.Entry.{Entry}
 use Rattle.list.specs.declared.types.Frame.{Frame}
-use Rattle.list.specs.declared.entry.Fields.{Fields}
+use Rattle.list.specs.declared.map.Fields.{Fields}
+use Rattle.list.specs.declared.entry.EntryAnswer.{EntryAnswer}
+use Rattle.list.specs.declared.entry.EntryAnswer.the-variants.{Taken, TurnedBack}
 
 -- "earliest minute r ..: missing means 0"
 abbrev pub defaultR : Frame → ℕ
@@ -53,18 +56,27 @@ entryFault f place e =
     ∷ [])
     (answered tt)
 
--- The entry at the start of bs, what is left of the input from place at on, with the bytes that it took: rows 4, 1, 5, 6
--- and 7. "a missing map byte is 1", and 1 carries the input's length, at + length bs.
-unfoldable pub entryOf : Frame → ℕ → List ℕ → Outcome (Entry × ℕ)
-entryOf f at bs =
-    let m = fieldsOf (getD bs 0 0) in
+-- An entry with these fields at the start of bs, what is left of the input from place at on, with the bytes that it took:
+-- rows 1, 5, 6 and 7. 1 carries the input's length, at + length bs.
+unfoldable pub fieldsEntry : Frame → ℕ → Fields → List ℕ → Outcome (Entry × ℕ)
+fieldsEntry f at m bs =
     firstOf
-    (row 1 (eqb (length bs) 0) (at + length bs)
-    ∷ row 4 (not (legalMap (getD bs 0 0))) at
-    ∷ row 1 (ltb (length bs) (sizeOf m)) (at + length bs)
+    (row 1 (ltb (length bs) (sizeOf m)) (at + length bs)
     ∷ row 5 (defaultWritten f m (entryAt f m bs)) at
     ∷ [])
     (andThen (entryFault f at (entryAt f m bs)) (λ _. answered (entryAt f m bs, sizeOf m)))
+
+-- the same once the map byte was tested: row 4, before which "a missing map byte is 1"
+unfoldable pub entryOf : Frame → ℕ → List ℕ → Outcome (Entry × ℕ)
+entryOf f at bs =
+    firstOf
+    (row 1 (eqb (length bs) 0) (at + length bs) ∷ row 4 (not (legalMap (getD bs 0 0))) at ∷ [])
+    (fieldsEntry f at (fieldsOf (getD bs 0 0)) bs)
+
+-- the answer of reading one entry
+abbrev pub entryAnswerOf : EntryAnswer → Outcome (Entry × ℕ)
+entryAnswerOf (Taken e size) = answered (e, size)
+entryAnswerOf (TurnedBack x) = refused (codeOf x)
 
 -- a minute is written unless it has its default
 abbrev pub minuteBytes : ℕ → ℕ → List ℕ

@@ -4,9 +4,9 @@ use mathlib.Core.Bool.{Bool, true, false, cond, not, _&&_}
 use lib.Dec.{eqb}
 use Rattle.list.specs.declared.types.Kind.{Kind}
 use Rattle.list.specs.declared.types.Kind.the-variants.{Pause, Whole}
-use Rattle.list.specs.declared.entry.Fields.{Fields}
-use Rattle.list.specs.declared.entry.MapAnswer.{MapAnswer}
-use Rattle.list.specs.declared.entry.MapAnswer.the-variants.{Breaks, Follow}
+use Rattle.list.specs.declared.map.Fields.{Fields}
+use Rattle.list.specs.declared.map.MapAnswer.{MapAnswer}
+use Rattle.list.specs.declared.map.MapAnswer.the-variants.{Breaks, Follow}
 
 -- bit k of b stands
 abbrev pub bit : ℕ → ℕ → Bool

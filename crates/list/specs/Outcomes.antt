@@ -3,26 +3,34 @@ use Prim.Native.Nat.{ℕ}
 use mathlib.Core.Bool.{Bool, cond}
 use mathlib.Core.List.{List, [], _∷_}
 
--- the thing asked for, or a refusal: its number and the values that it carries
-pub data Outcome (A : Type 0) : Type 0 where
-  answered : A → Outcome A
-  refused : ℕ → List ℕ → Outcome A
-
--- a row of the table: its number, whether its condition holds, and what it carries
-pub record Row : Type 0 where
+-- a refusal: its number and the values that it carries
+pub record Code : Type 0 where
   pub number : ℕ
-  pub holds : Bool
   pub carries : List ℕ
 
+abbrev pub code : ℕ → List ℕ → Code
+code k xs = record { number = k; carries = xs }
+
+-- the thing asked for, or a refusal
+pub data Outcome (A : Type 0) : Type 0 where
+  answered : A → Outcome A
+  refused : Code → Outcome A
+
+-- a row of the table: whether its condition holds, and its refusal
+pub record Row : Type 0 where
+  pub holds : Bool
+  pub refusal : Code
+
+-- the row with number k and condition b, which carries x
 abbrev pub row : ℕ → Bool → ℕ → Row
-row k b x = record { number = k; holds = b; carries = x ∷ [] }
+row k b x = record { holds = b; refusal = code k (x ∷ []) }
 
 -- "Rows are tested in this order ..; the first that holds is given, none otherwise."
 abbrev pub firstOf : {A : Type 0} → List Row → Outcome A → Outcome A
 firstOf [] a = a
-firstOf (w ∷ ws) a = cond (w .holds) (refused (w .number) (w .carries)) (firstOf ws a)
+firstOf (w ∷ ws) a = cond (w .holds) (refused (w .refusal)) (firstOf ws a)
 
 -- the rest of a rule, given what was answered so far; a refusal stays
 abbrev pub andThen : {A B : Type 0} → Outcome A → (A → Outcome B) → Outcome B
 andThen (answered a) f = f a
-andThen (refused k xs) f = refused k xs
+andThen (refused k) f = refused k

@@ -44,7 +44,7 @@ readOf bs =
 -- the list that stands in an answer: the one read, or the empty one beside a refusal
 abbrev pub listOr : Outcome DayList → DayList
 listOr (answered l) = l
-listOr (refused k xs) = emptyList
+listOr (refused k) = emptyList
 
 -- what `read` answers of the bytes bs
 pub record ReadsAs (bs : List ℕ) (a : ReadAnswer) : Type 0 where

@@ -33,7 +33,7 @@ writeOf l room =
 -- the buffer afterwards
 abbrev pub bufferAfter : Outcome ℕ → DayList → List ℕ → List ℕ
 bufferAfter (answered n) l old = bytesOf l ++ drop n old
-bufferAfter (refused k xs) l old = old
+bufferAfter (refused k) l old = old
 
 -- what `write` answers of the list l and a buffer that held old, and what the buffer holds then
 pub record Writes (l : DayList) (old : List ℕ) (a : WriteAnswer) (new : List ℕ) : Type 0 where

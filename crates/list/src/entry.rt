@@ -1,26 +1,16 @@
-// Reading one entry: its map byte, its fields, and the rows that turn it back.
+// Reading one entry: its fields, and the rows that turn it back.
 use crate::bytes::{u16_at, u32_at};
-use crate::types::{Entry, Kind, Refusal, Seal};
+use crate::checks::entry_fault;
+use crate::map::{d_place, map_answer, p_place, r_place, size_of, Fields, MapAnswer};
+use crate::types::{Entry, Frame, Refusal, Seal, Verdict};
 ghost use mathlib.Core.Path.{_≡_};
-ghost use mathlib.Core.Bool.{Bool, cond};
+ghost use mathlib.Core.Bool.{cond, _&&_};
 ghost use Prim.Native.Nat.{_+_, _<_, _≤_, _^_};
 ghost use lib.ListN.{length};
+ghost use lib.Dec.{eqb};
 ghost use Rattle.list.specs.Numbers.{u16At, u32At};
-ghost use Rattle.list.specs.Maps.{kindOf, bit, mapRead};
-ghost use Rattle.list.specs.Entries.{sealOf};
-
-// What a map byte says: which of the fields that may be missing follow, and the kind.
-pub struct Fields {
-    pub seal: bool,
-    pub r: bool,
-    pub d: bool,
-    pub kind: Kind,
-}
-
-pub enum MapAnswer {
-    Breaks,
-    Follow(Fields),
-}
+ghost use Rattle.list.specs.Maps.{sizeOf};
+ghost use Rattle.list.specs.Entries.{defaultR, defaultD, sealOf, entryAt, defaultWritten, fieldsEntry, entryOf, entryAnswerOf};
 
 // An entry with the bytes that it took, or why it was turned back.
 pub enum EntryAnswer {
@@ -28,51 +18,18 @@ pub enum EntryAnswer {
     TurnedBack(Refusal),
 }
 
-// The fields that follow a legal map byte: bits 0 and 4 stand, bits 6 and 7 are clear; the second byte of a pair is whole.
-pub(crate) fn map_answer(map: u8) -> MapAnswer
-    ensures { λ r. ⌜ r ≡ mapRead map ⌝ }
+// "missing means 0"
+pub(crate) fn default_r(frame: Frame) -> u16
+    ensures { λ x. ⌜ x ≡ defaultR frame ⌝ }
 {
-    match map {
-        0..=16 => MapAnswer::Breaks,
-        17 | 49 => follow(map, false, false, false),
-        19 | 51 => follow(map, true, false, false),
-        21 | 53 => follow(map, false, true, false),
-        23 | 55 => follow(map, true, true, false),
-        25 | 57 => follow(map, false, false, true),
-        27 | 59 => follow(map, true, false, true),
-        29 | 61 => follow(map, false, true, true),
-        31 | 63 => follow(map, true, true, true),
-        64..=255 => MapAnswer::Breaks,
-        _ => MapAnswer::Breaks,
-    }
+    0
 }
 
-fn follow(map: u8, seal: bool, r: bool, d: bool) -> MapAnswer
-    ensures { λ a. ⌜ a ≡ MapAnswer.Follow (record { seal = seal; r = r; d = d; kind = kindOf (bit 5 map) }) ⌝ }
+// "missing means H"
+pub(crate) fn default_d(frame: Frame) -> u16
+    ensures { λ x. ⌜ x ≡ defaultD frame ⌝ }
 {
-    if map / 32 % 2 == 1 {
-        MapAnswer::Follow(Fields {
-            seal: seal,
-            r: r,
-            d: d,
-            kind: Kind::Whole,
-        })
-    } else {
-        MapAnswer::Follow(Fields {
-            seal: seal,
-            r: r,
-            d: d,
-            kind: Kind::Pause,
-        })
-    }
-}
-
-// `at`, past a field of `size` bytes that may be missing.
-fn past(at: usize, follows: bool, size: usize) -> usize
-    requires { ⌜ at + size < 2 ^ 64 ⌝ }
-    ensures { λ r. ⌜ r ≡ at + cond follows size 0 ⌝ }
-{
-    if follows { at + size } else { at }
+    frame.h
 }
 
 fn seal_at(rest: &[u8], follows: bool) -> Seal
@@ -91,4 +48,72 @@ fn minute_at(rest: &[u8], follows: bool, i: usize, default: u16) -> u16
     ensures { λ r. ⌜ r ≡ cond follows (u16At (now (rest .entry)) i) default ⌝ }
 {
     if follows { u16_at(rest, i) } else { default }
+}
+
+// The entry that bytes with these fields say.
+fn entry_at(frame: Frame, m: Fields, rest: &[u8]) -> Entry
+    requires { ⌜ sizeOf m ≤ length (now rest) ⌝ }
+    ensures { λ e. ⌜ e ≡ entryAt frame m (now (rest .entry)) ⌝ }
+{
+    let kind = m.kind;
+    let seal = seal_at(rest, m.seal);
+    Entry {
+        serial: u32_at(rest, 1),
+        seal: seal,
+        r: minute_at(rest, m.r, r_place(m), default_r(frame)),
+        d: minute_at(rest, m.d, d_place(m), default_d(frame)),
+        p: u16_at(rest, p_place(m)),
+        kind: kind,
+    }
+}
+
+// A field that is written though it has its default.
+fn at_default(follows: bool, x: u16, default: u16) -> bool
+    ensures { λ b. ⌜ b ≡ (follows && eqb x default) ⌝ }
+{
+    if follows { x == default } else { false }
+}
+
+fn default_written(frame: Frame, m: Fields, e: Entry) -> bool
+    ensures { λ b. ⌜ b ≡ defaultWritten frame m e ⌝ }
+{
+    if at_default(m.r, e.r, default_r(frame)) {
+        return true;
+    }
+    at_default(m.d, e.d, default_d(frame))
+}
+
+// Rows 1, 5, 6 and 7 of an entry whose map byte is legal.
+fn read_fields(frame: Frame, at: usize, m: Fields, rest: &[u8]) -> EntryAnswer
+    requires { ⌜ at + length (now rest) < 2 ^ 64 ⌝ }
+    ensures { λ a. ⌜ entryAnswerOf a ≡ fieldsEntry frame at m (now (rest .entry)) ⌝ }
+{
+    let size = size_of(m);
+    if rest.len() < size {
+        return EntryAnswer::TurnedBack(Refusal::BytesMissing(at + rest.len()));
+    }
+    let e = entry_at(frame, m, rest);
+    if default_written(frame, m, e) {
+        return EntryAnswer::TurnedBack(Refusal::DefaultWritten(at));
+    }
+    let fault = entry_fault(frame, at, e);
+    match fault {
+        Verdict::Accepted => EntryAnswer::Taken(e, size),
+        Verdict::Refused(x) => EntryAnswer::TurnedBack(x),
+    }
+}
+
+// The entry at the start of `rest`, what is left of the input from place `at` on.
+pub(crate) fn read_entry(frame: Frame, at: usize, rest: &[u8]) -> EntryAnswer
+    requires { ⌜ at + length (now rest) < 2 ^ 64 ⌝ }
+    ensures { λ a. ⌜ entryAnswerOf a ≡ entryOf frame at (now (rest .entry)) ⌝ }
+{
+    if rest.len() == 0 {
+        return EntryAnswer::TurnedBack(Refusal::BytesMissing(at + rest.len()));
+    }
+    let said = map_answer(rest[0]);
+    match said {
+        MapAnswer::Breaks => EntryAnswer::TurnedBack(Refusal::BadMapByte(at)),
+        MapAnswer::Follow(m) => read_fields(frame, at, m, rest),
+    }
 }

@@ -3,6 +3,7 @@
 // the definition of specs/ that its contract names. Uses nothing but the language.
 pub mod types;
 mod bytes;
+mod map;
 mod entry;
 mod checks;
 mod reader;

@@ -1,9 +1,9 @@
--- `entry::follow` meets its contract: the test is bit 5.
+-- `map::follow` meets its contract: the test is bit 5.
 -- Assumes nothing.
 use borrow.Author.Needs.{needs}
 use borrow.Author.Tests.{eq-eqb, ne-eqb, lt-ltb, le-ltb}
-use Rattle.list.proofs.entry.follow.Statement.{statement}
-use Rattle.list.proofs.entry.follow.Tie as tie
+use Rattle.list.proofs.map.follow.Statement.{statement}
+use Rattle.list.proofs.map.follow.Tie as tie
 
 returns : tie.Need-returns
 returns c = simp (eq-eqb _ _ (c .if1 .taken))

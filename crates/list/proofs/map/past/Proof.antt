@@ -1,10 +1,10 @@
--- `entry::past` meets its contract.
+-- `map::past` meets its contract.
 -- Assumes nothing.
 use borrow.Author.Needs.{needs}
 use mathlib.Core.Path.{sym}
 use native.Mathlib.Nat.{add-zero}
-use Rattle.list.proofs.entry.past.Statement.{statement}
-use Rattle.list.proofs.entry.past.Tie as tie
+use Rattle.list.proofs.map.past.Statement.{statement}
+use Rattle.list.proofs.map.past.Tie as tie
 
 add-result : tie.Need-add-result
 add-result c = search needs

@@ -1,11 +1,11 @@
--- `entry::map_answer` meets its contract: a byte that an arm names by its number is computed, and no other is legal.
+-- `map::map_answer` meets its contract: a byte that an arm names by its number is computed, and no other is legal.
 -- Assumes nothing.
 use borrow.Author.Needs.{needs}
 use mathlib.Core.Path.{sym, refl, _∙_}
 use mathlib.Core.Bool.{true, false}
 use Rattle.list.proofs.MapBytes.{breaks, named}
-use Rattle.list.proofs.entry.map_answer.Statement.{statement}
-use Rattle.list.proofs.entry.map_answer.Tie as tie
+use Rattle.list.proofs.map.map_answer.Statement.{statement}
+use Rattle.list.proofs.map.map_answer.Tie as tie
 
 follow-requires : tie.Need-follow-requires
 follow-requires c κs = search needs

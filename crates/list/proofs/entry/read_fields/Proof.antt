@@ -1,0 +1,64 @@
+-- `entry::read_fields` meets its contract: each answer is the case of `fieldsEntry` that its tests say.
+-- Assumes nothing.
+use borrow.Author.Needs.{needs}
+use mathlib.Core.Path.{sym, _∙_}
+use native.Mathlib.Omega.{arith}
+use denote.Ref.{now}
+use Rattle.list.proofs.EntryCases.{fields-short, fields-default, fields-taken, fields-turned}
+use Rattle.list.proofs.entry.read_fields.Statement.{statement}
+use Rattle.list.proofs.entry.read_fields.Tie as tie
+
+size-of-requires : tie.Need-size-of-requires
+size-of-requires c κs = search needs
+
+add-t12 : tie.Need-add-t12
+add-t12 c = search needs
+
+returns : tie.Need-returns
+returns c = fields-short (c .before .before .before .args .frame) (c .before .before .before .args .at) (c .before .before .before .args .m) (now (c .before .before .before .args .rest)) (omega (arith, c .if1 .taken, c .before .size-of .ensures))
+
+entry-at-requires : tie.Need-entry-at-requires
+entry-at-requires c κs = search needs
+
+default-written-requires : tie.Need-default-written-requires
+default-written-requires c κs = search needs
+
+returns-2 : tie.Need-returns-2
+returns-2 c = fields-default (c .before .before .before .before .before .before .args .frame) (c .before .before .before .before .before .before .args .at) (c .before .before .before .before .before .before .args .m) (now (c .before .before .before .before .before .before .args .rest)) _ (c .before .before .entry-at .ensures) (omega (arith, c .before .before .before .if1 .left, c .before .before .before .before .size-of .ensures)) (sym (c .before .default-written .ensures) ∙ c .if2 .taken)
+
+entry-fault-requires : tie.Need-entry-fault-requires
+entry-fault-requires c κs = search needs
+
+enum-told : tie.Need-enum-told
+enum-told c = search needs
+
+enum-known-fault : tie.Need-enum-known-fault
+enum-known-fault c = search needs
+
+returns-3 : tie.Need-returns-3
+returns-3 c = fields-taken (c .before .before .before .before .before .before .before .before .before .args .frame) (c .before .before .before .before .before .before .before .before .before .args .at) (c .before .before .before .before .before .before .before .before .before .args .m) (now (c .before .before .before .before .before .before .before .before .before .args .rest)) _ (c .before .before .entry-fault .result) (c .before .before .before .before .before .entry-at .ensures)
+      (omega (arith, c .before .before .before .before .before .before .if1 .left, c .before .before .before .before .before .before .before .size-of .ensures))
+      (sym (c .before .before .before .before .default-written .ensures) ∙ c .before .before .before .if2 .left)
+      (c .before .before .entry-fault .ensures) _ (c .before .before .before .before .before .before .before .size-of .ensures) (c .enum-told .given .1)
+
+returns-4 : tie.Need-returns-4
+returns-4 c = fields-turned (c .before .before .before .before .before .before .before .before .before .before .args .frame) (c .before .before .before .before .before .before .before .before .before .before .args .at) (c .before .before .before .before .before .before .before .before .before .before .args .m) (now (c .before .before .before .before .before .before .before .before .before .before .args .rest)) _ (c .before .before .before .entry-fault .result) (c .before .before .before .before .before .before .entry-at .ensures)
+      (omega (arith, c .before .before .before .before .before .before .before .if1 .left, c .before .before .before .before .before .before .before .before .size-of .ensures))
+      (sym (c .before .before .before .before .before .default-written .ensures) ∙ c .before .before .before .before .if2 .left)
+      (c .before .before .before .entry-fault .ensures) _ (c .before .fault .given .1)
+
+pub read-fields-spec : {M : Type 1} → statement M
+read-fields-spec =
+    tie.close
+    (tie.spec
+    size-of-requires
+    add-t12
+    returns
+    entry-at-requires
+    default-written-requires
+    returns-2
+    entry-fault-requires
+    enum-told
+    enum-known-fault
+    returns-3
+    returns-4)

@@ -1,0 +1,72 @@
+//! The day's list and its refusals, as document 01 describes them.
+
+/// An entry. A field that may be missing from the bytes and has a default, r or d, is always here.
+#[derive(Clone, Debug, Default, PartialEq, Eq)]
+pub struct Entry {
+    pub serial: u32,
+    pub seal: Option<u32>,
+    pub r: u16,
+    pub d: u16,
+    pub p: u16,
+    pub whole: bool,
+}
+
+/// A list that was read: its entries are the first n places.
+#[derive(Clone, Debug, PartialEq, Eq)]
+pub struct Day {
+    pub h: u16,
+    pub entries: Vec<Entry>,
+}
+
+/// The rows of document 01's table that reading and writing know, with what each carries.
+#[derive(Clone, Copy, Debug, PartialEq, Eq)]
+pub enum Refusal {
+    Missing { length: usize },
+    DayLength,
+    TooMany { carries: usize },
+    MapByte { place: usize },
+    WrittenDefault { place: usize },
+    NoMinutes { place: usize },
+    Window { place: usize },
+    LeftOver { first: usize },
+    ShortBuffer { needed: usize },
+}
+
+impl Refusal {
+    /// The refusal's number and the value that it carries.
+    pub fn code(self) -> (u32, u64) {
+        let (number, carries) = match self {
+            Refusal::Missing { length } => (1, length),
+            Refusal::DayLength => (2, 0),
+            Refusal::TooMany { carries } => (3, carries),
+            Refusal::MapByte { place } => (4, place),
+            Refusal::WrittenDefault { place } => (5, place),
+            Refusal::NoMinutes { place } => (6, place),
+            Refusal::Window { place } => (7, place),
+            Refusal::LeftOver { first } => (8, first),
+            Refusal::ShortBuffer { needed } => (12, needed),
+        };
+        (number, carries as u64)
+    }
+}
+
+impl Entry {
+    /// The rules 6 and 7, which bytes and values share; `place` is what the refusal carries.
+    pub fn fault(&self, h: u16, place: usize) -> Result<(), Refusal> {
+        if self.p == 0 {
+            return Err(Refusal::NoMinutes { place });
+        }
+        let (r, d, p) = (u32::from(self.r), u32::from(self.d), u32::from(self.p));
+        if d > u32::from(h) || r + p > d {
+            return Err(Refusal::Window { place });
+        }
+        Ok(())
+    }
+}
+
+/// The longest day, in minutes.
+pub const LONGEST_DAY: u16 = 1440;
+/// The most entries a list has.
+pub const MOST_ENTRIES: usize = 64;
+/// The bytes of a longest list: a header of 3, and 64 entries with all fields.
+pub const LONGEST_LIST: usize = 963;

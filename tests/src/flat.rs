@@ -1,0 +1,61 @@
+//! A list as 450 numbers, the form in which the static library takes and gives it: H, n, then for each of
+//! 64 places the serial, whether a seal stands, the seal's number, r, d, p, and whether the entry is whole.
+
+use crate::day::{Day, Entry, MOST_ENTRIES};
+
+/// How many numbers a place has.
+pub const WIDTH: usize = 7;
+/// How many numbers a list has.
+pub const SIZE: usize = 2 + WIDTH * MOST_ENTRIES;
+
+pub type Fields = [u32; SIZE];
+
+/// A list handed over as a value: any n, and 64 places of which those from n on mean nothing.
+#[derive(Clone, Debug)]
+pub struct Value {
+    pub h: u16,
+    pub n: u8,
+    pub places: Vec<Entry>,
+}
+
+/// The flat form of a list; the places from n on are zeros.
+pub fn of_day(day: &Day) -> Fields {
+    let mut fields = [0; SIZE];
+    fields[0] = u32::from(day.h);
+    fields[1] = day.entries.len() as u32;
+    for (place, entry) in day.entries.iter().enumerate() {
+        put(&mut fields, place, entry);
+    }
+    fields
+}
+
+/// Puts an entry at a place.
+pub fn put(fields: &mut Fields, place: usize, entry: &Entry) {
+    let numbers = [
+        entry.serial,
+        u32::from(entry.seal.is_some()),
+        entry.seal.unwrap_or(0),
+        u32::from(entry.r),
+        u32::from(entry.d),
+        u32::from(entry.p),
+        u32::from(entry.whole),
+    ];
+    fields[2 + WIDTH * place..][..WIDTH].copy_from_slice(&numbers);
+}
+
+/// The value that 450 numbers stand for: H, r, d and p modulo 65,536, n modulo 256, and any other number
+/// than 0 as a yes.
+pub fn value(fields: &Fields) -> Value {
+    let places = fields[2..].chunks_exact(WIDTH).map(|place| match place {
+        &[serial, stands, seal, r, d, p, whole] => Entry {
+            serial,
+            seal: (stands != 0).then_some(seal),
+            r: r as u16,
+            d: d as u16,
+            p: p as u16,
+            whole: whole != 0,
+        },
+        _ => unreachable!("a place has {WIDTH} numbers"),
+    });
+    Value { h: fields[0] as u16, n: fields[1] as u8, places: places.collect() }
+}

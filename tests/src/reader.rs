@@ -1,0 +1,79 @@
+//! The second reader: takes the fields one after the other, as document 01 names them.
+
+use crate::day::{Day, Entry, Refusal, LONGEST_DAY, MOST_ENTRIES};
+
+/// What is left of the input, and how long the whole of it is.
+struct Cursor<'a> {
+    left: &'a [u8],
+    length: usize,
+}
+
+impl Cursor<'_> {
+    fn place(&self) -> usize {
+        self.length - self.left.len()
+    }
+
+    /// The next bytes as a number, lowest byte first.
+    fn number(&mut self, bytes: usize) -> Result<u32, Refusal> {
+        if self.left.len() < bytes {
+            return Err(Refusal::Missing { length: self.length });
+        }
+        let (now, later) = self.left.split_at(bytes);
+        self.left = later;
+        Ok(now.iter().rev().fold(0, |sum, byte| sum << 8 | u32::from(*byte)))
+    }
+
+    fn two(&mut self) -> Result<u16, Refusal> {
+        self.number(2).map(|number| number as u16)
+    }
+
+    /// A field that stands only if its bit in the map does.
+    fn field(&mut self, stands: bool, bytes: usize) -> Result<Option<u32>, Refusal> {
+        stands.then(|| self.number(bytes)).transpose()
+    }
+}
+
+/// Reads a list, or gives the first refusal.
+pub fn read(input: &[u8]) -> Result<Day, Refusal> {
+    let length = input.len();
+    if length < 3 {
+        return Err(Refusal::Missing { length });
+    }
+    let mut cursor = Cursor { left: input, length };
+    let h = cursor.two()?;
+    if h == 0 || h > LONGEST_DAY {
+        return Err(Refusal::DayLength);
+    }
+    let n = cursor.number(1)? as usize;
+    if n > MOST_ENTRIES {
+        return Err(Refusal::TooMany { carries: 2 });
+    }
+    let entries = (0..n).map(|_| entry(&mut cursor, h)).collect::<Result<_, _>>()?;
+    match cursor.left {
+        [] => Ok(Day { h, entries }),
+        _ => Err(Refusal::LeftOver { first: cursor.place() }),
+    }
+}
+
+/// Reads one entry. All its fields are taken before any of them is judged.
+fn entry(cursor: &mut Cursor, h: u16) -> Result<Entry, Refusal> {
+    let place = cursor.place();
+    let map = cursor.number(1)?;
+    let bit = |number: u32| map >> number & 1 == 1;
+    if !bit(0) || !bit(4) || bit(6) || bit(7) {
+        return Err(Refusal::MapByte { place });
+    }
+    let serial = cursor.number(4)?;
+    let seal = cursor.field(bit(1), 4)?;
+    let r = cursor.field(bit(2), 2)?;
+    let d = cursor.field(bit(3), 2)?;
+    let p = cursor.two()?;
+    if r == Some(0) || d == Some(u32::from(h)) {
+        return Err(Refusal::WrittenDefault { place });
+    }
+    let r = r.map_or(0, |r| r as u16);
+    let d = d.map_or(h, |d| d as u16);
+    let entry = Entry { serial, seal, r, d, p, whole: bit(5) };
+    entry.fault(h, place)?;
+    Ok(entry)
+}
