@@ -24,11 +24,11 @@ use Rattle.list.specs.declared.map.MapAnswer.the-variants.{Breaks, Follo
 
 -- `entryAt`, field by field, each at the place and with the default that code found
 pub entry-is : (f : Frame) (m : Fields) (bs : List ℕ) (serial : ℕ) (seal : Seal) (r d p ri di pi r₀ d₀ : ℕ)
-  → serial ≡ u32At bs 1 → seal ≡ sealOf (m .seal) (u32At bs 5)
-  → r ≡ cond (m .r) (u16At bs ri) r₀ → ri ≡ rPlace m → r₀ ≡ defaultR f
-  → d ≡ cond (m .d) (u16At bs di) d₀ → di ≡ dPlace m → d₀ ≡ defaultD f
-  → p ≡ u16At bs pi → pi ≡ pPlace m
-  → record { serial = serial; seal = seal; r = r; d = d; p = p; kind = m .kind } ≡ entryAt f m bs
+    → serial ≡ u32At bs 1 → seal ≡ sealOf (m .seal) (u32At bs 5)
+    → r ≡ cond (m .r) (u16At bs ri) r₀ → ri ≡ rPlace m → r₀ ≡ defaultR f
+    → d ≡ cond (m .d) (u16At bs di) d₀ → di ≡ dPlace m → d₀ ≡ defaultD f
+    → p ≡ u16At bs pi → pi ≡ pPlace m
+    → record { serial = serial; seal = seal; r = r; d = d; p = p; kind = m .kind } ≡ entryAt f m bs
 unfolding entryAt
 entry-is f m bs serial seal r d p ri di pi r₀ d₀ a b c₁ c₂ c₃ d₁ d₂ d₃ e₁ e₂ =
     rw (a, b, c₁, c₂, c₃, d₁, d₂, d₃, e₁, e₂)

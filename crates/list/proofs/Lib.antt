@@ -2,3 +2,5 @@ pub mod Table
 pub mod MapBytes
 pub mod Places
 pub mod EntryCases
+pub mod Walk
+pub mod CheckCases

@@ -34,14 +34,14 @@ sealOf false x = Missing
 -- the entry that bytes with these fields say, its map byte first
 unfoldable pub entryAt : Frame → Fields → List ℕ → Entry
 entryAt f m bs =
-    record
-      { serial = u32At bs 1
-      ; seal = sealOf (m .seal) (u32At bs 5)
-      ; r = cond (m .r) (u16At bs (rPlace m)) (defaultR f)
-      ; d = cond (m .d) (u16At bs (dPlace m)) (defaultD f)
-      ; p = u16At bs (pPlace m)
-      ; kind = m .kind
-      }
+    record {
+      serial = u32At bs 1;
+      seal = sealOf (m .seal) (u32At bs 5);
+      r = cond (m .r) (u16At bs (rPlace m)) (defaultR f);
+      d = cond (m .d) (u16At bs (dPlace m)) (defaultD f);
+      p = u16At bs (pPlace m);
+      kind = m .kind;
+    }
 
 -- "A written r of 0, or a written d equal to H, is refused"
 abbrev pub defaultWritten : Frame → Fields → Entry → Bool

@@ -1,5 +1,9 @@
 // The tests of list values: rows 2, 3, 6 and 7.
-use crate::types::{DayList, Entry, Frame, Refusal, Verdict};
+use crate::types::DayList;
+use crate::types::Entry;
+use crate::types::Frame;
+use crate::types::Refusal;
+use crate::types::Verdict;
 ghost use mathlib.Core.Path.{_≡_};
 ghost use Rattle.list.specs.Refusals.{verdictOf};
 ghost use Rattle.list.specs.Entries.{entryFault};

@@ -1,8 +1,19 @@
 // Reading one entry: its fields, and the rows that turn it back.
-use crate::bytes::{u16_at, u32_at};
+use crate::bytes::u16_at;
+use crate::bytes::u32_at;
 use crate::checks::entry_fault;
-use crate::map::{d_place, map_answer, p_place, r_place, size_of, Fields, MapAnswer};
-use crate::types::{Entry, Frame, Refusal, Seal, Verdict};
+use crate::map::Fields;
+use crate::map::MapAnswer;
+use crate::map::d_place;
+use crate::map::map_answer;
+use crate::map::p_place;
+use crate::map::r_place;
+use crate::map::size_of;
+use crate::types::Entry;
+use crate::types::Frame;
+use crate::types::Refusal;
+use crate::types::Seal;
+use crate::types::Verdict;
 ghost use mathlib.Core.Path.{_≡_};
 ghost use mathlib.Core.Bool.{cond, _&&_};
 ghost use Prim.Native.Nat.{_+_, _<_, _≤_, _^_};

@@ -26,10 +26,11 @@ mul-result c = omega (arith, c .shared-slice-known2 .given (c .before .before .a
 
 add-result-2 : tie.Need-add-result-2
 add-result-2 c =
-    omega
-    (arith
-    , c .shared-slice-known2 .given (c .before .before .args .i + 1)
-    , c .shared-slice-known2 .given (c .before .before .args .i))
+    omega (
+      arith,
+      c .shared-slice-known2 .given (c .before .before .args .i + 1),
+      c .shared-slice-known2 .given (c .before .before .args .i),
+    )
 
 returns : tie.Need-returns
 returns c = search needs

@@ -1,77 +1,88 @@
+-- `checks::check` meets its contract. The loop's invariant: the entries passed are sound, so those left decide. The measure is
+-- what is left of n.
+-- Assumes nothing.
+use borrow.Author.Needs.{needs}
+use borrow.Author.Needs.{zero≤}
+use mathlib.Core.Path.{_≡_, sym, _∙_}
+use Prim.Native.Nat.{_≤_, _-_}
+use native.Mathlib.Omega.{arith}
+use lib.ListN.{length, drop}
+use Rattle.list.specs.Outcomes.{answered}
+use Rattle.list.specs.DayLists.{entriesOf}
+use Rattle.list.specs.Checks.{headerFault, checkOf, entriesFault}
+use Rattle.list.specs.declared.types.Verdict.the-variants.{Accepted}
+use Rattle.list.proofs.Walk.{length-mapped}
+use Rattle.list.proofs.CheckCases.{header-of, check-header, check-entries, check-turned, check-next, check-done}
 use Rattle.list.proofs.checks.check.Statement.{statement}
 use Rattle.list.proofs.checks.check.Tie as tie
-use Rattle.list.proofs.checks.check.Reads as reads
-use Rattle.list.proofs.checks.check.Lts as lts
-use Rattle.list.proofs.checks.entry_fault.Reads as entry-fault-reads
-use Rattle.list.proofs.checks.header_fault.Reads as header-fault-reads
 
 abbrev Inv-loop : tie.InvT-loop
-Inv-loop list n count i₀ i = ?
+Inv-loop list n count i₀ i = (i ≤ list .n) × (list .n ≤ 64) × (checkOf list ≡ entriesFault (list .frame) i (drop i (entriesOf list)))
 
 abbrev μ-loop : tie.MeasureT-loop
-μ-loop list n count i₀ i = ?
+μ-loop list n count i₀ i = list .n - i
 
--- src/checks.rt:46:9
 header-fault-requires : tie.Need-header-fault-requires Inv-loop μ-loop
-header-fault-requires c κs = ?
+header-fault-requires c κs = search needs
 
 enum-told : tie.Need-enum-told Inv-loop μ-loop
-enum-told c = ?
+enum-told c = search needs
 
--- src/checks.rt:48:9
 enum-told-2 : tie.Need-enum-told-2 Inv-loop μ-loop
-enum-told-2 c = ?
+enum-told-2 c = search needs
 
--- src/checks.rt:48:9
 returns : tie.Need-returns Inv-loop μ-loop
-returns c = ?
+returns c = check-header (c .before .before .before .before .args .t1) _ _ (c .before .before .header-fault .ensures) (c .enum-told2 .given .1)
 
--- src/checks.rt:50:17
 cast-count : tie.Need-cast-count Inv-loop μ-loop
-cast-count c = ?
+cast-count c = search needs
 
--- src/checks.rt:52:5
 loop-holds : tie.Need-loop-holds Inv-loop μ-loop
-loop-holds c = ?
+loop-holds c =
+    let v = c .before .before .header-fault .result in
+    let w = c .before .before .header-fault .ensures in
+    let a : v ≡ Accepted = c .enum-told .given .1 in
+    let e : headerFault 0 ((c .before .before .before .before .args .t1) .frame) ((c .before .before .before .before .args .t1) .n) ≡ answered tt = rw a at (sym w) in
+    (zero≤, header-of 0 ((c .before .before .before .before .args .t1) .frame) ((c .before .before .before .before .args .t1) .n) e .room, check-entries (c .before .before .before .before .args .t1) v w a)
 
--- src/checks.rt:53:48
 mul-entry-fault : tie.Need-mul-entry-fault Inv-loop μ-loop
-mul-entry-fault c = ?
+mul-entry-fault c = search needs
 
--- src/checks.rt:53:48
 element-copy-out-entry-fault : tie.Need-element-copy-out-entry-fault Inv-loop μ-loop
-element-copy-out-entry-fault c = ?
+element-copy-out-entry-fault c = search needs
 
--- src/checks.rt:53:13
 entry-fault-requires : tie.Need-entry-fault-requires Inv-loop μ-loop
-entry-fault-requires c κs = ?
+entry-fault-requires c κs = search needs
 
 enum-told-3 : tie.Need-enum-told-3 Inv-loop μ-loop
-enum-told-3 c = ?
+enum-told-3 c = search needs
 
--- src/checks.rt:55:13
 enum-told-4 : tie.Need-enum-told-4 Inv-loop μ-loop
-enum-told-4 c = ?
+enum-told-4 c = search needs
 
--- src/checks.rt:55:13
 returns-2 : tie.Need-returns-2 Inv-loop μ-loop
-returns-2 c = ?
+returns-2 c =
+    let len : length ((c .before .before .before .before .before .before .before .before .before .before .before .args .t1) .entries) ≡ 64 = search (needs, length-mapped) in
+    check-turned (c .before .before .before .before .before .before .before .before .before .before .before .args .t1) (omega (arith, len, c .before .before .before .before .before .before .loop .inv .1)) (c .before .before .before .before .before .before .loop .i) _ (c .before .before .entry-fault .result) (c .before .before .entry-fault .ensures) (c .before .before .before .before .before .loop-test .taken) _ (c .enum-told4 .given .1) ∙ sym (c .before .before .before .before .before .before .loop .inv .2)
 
--- src/checks.rt:57:9
 add-i : tie.Need-add-i Inv-loop μ-loop
-add-i c = ?
+add-i c = search needs
 
--- src/checks.rt:52:5
 loop-less : tie.Need-loop-less Inv-loop μ-loop
-loop-less c = ?
+loop-less c = search needs
 
--- src/checks.rt:52:5
 loop-again : tie.Need-loop-again Inv-loop μ-loop
-loop-again c = ?
+loop-again c =
+    let len : length ((c .before .before .before .before .before .before .before .before .before .before .before .args .t1) .entries) ≡ 64 = search (needs, length-mapped) in (
+      omega (arith, c .before .before .before .before .before .loop-test .taken),
+      c .before .before .before .before .before .before .loop .inv .1,
+      c .before .before .before .before .before .before .loop .inv .2 ∙ check-next (c .before .before .before .before .before .before .before .before .before .before .before .args .t1) (omega (arith, len, c .before .before .before .before .before .before .loop .inv .1)) (c .before .before .before .before .before .before .loop .i) _ (c .before .before .entry-fault .result) (c .before .before .entry-fault .ensures) (c .before .before .before .before .before .loop-test .taken) (c .enum-told3 .given .1),
+    )
 
--- src/checks.rt:42:1
 returns-3 : tie.Need-returns-3 Inv-loop μ-loop
-returns-3 c = ?
+returns-3 c =
+    let len : length ((c .before .before .before .before .before .before .args .t1) .entries) ≡ 64 = search (needs, length-mapped) in
+    sym (c .before .loop .inv .2 ∙ check-done (c .before .before .before .before .before .before .args .t1) (omega (arith, len, c .before .loop .inv .1)) (c .before .loop .i) (c .loop-test .left))
 
 pub check-spec : {M : Type 1} → statement M
 check-spec =

@@ -37,12 +37,12 @@ u16-at-requires : tie.Need-u16-at-requires
 u16-at-requires c κs = search needs
 
 returns : tie.Need-returns
-returns c = 
+returns c =
     entry-is (c .before .before .before .before .before .before .before .before .before .before .before .args .frame) (c .before .before .before .before .before .before .before .before .before .before .before .args .m) (now (c .before .before .before .before .before .before .before .before .before .before .before .args .rest)) _ _ _ _ _ _ _ _ _ _
-      (c .before .before .before .before .before .before .before .before .u32-at .ensures) (c .before .before .before .before .before .before .before .before .before .seal-at .ensures)
-      (c .before .before .before .before .before .minute-at .ensures) (c .before .before .before .before .before .before .before .r-place .ensures) (c .before .before .before .before .before .before .default-r .ensures)
-      (c .before .before .minute-at2 .ensures) (c .before .before .before .before .d-place .ensures) (c .before .before .before .default-d .ensures)
-      (c .u16-at .ensures) (c .before .p-place .ensures)
+    (c .before .before .before .before .before .before .before .before .u32-at .ensures) (c .before .before .before .before .before .before .before .before .before .seal-at .ensures)
+    (c .before .before .before .before .before .minute-at .ensures) (c .before .before .before .before .before .before .before .r-place .ensures) (c .before .before .before .before .before .before .default-r .ensures)
+    (c .before .before .minute-at2 .ensures) (c .before .before .before .before .d-place .ensures) (c .before .before .before .default-d .ensures)
+    (c .u16-at .ensures) (c .before .p-place .ensures)
 
 pub entry-at-spec : {M : Type 1} → statement M
 entry-at-spec =

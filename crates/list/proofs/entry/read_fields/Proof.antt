@@ -37,15 +37,15 @@ enum-known-fault c = search needs
 
 returns-3 : tie.Need-returns-3
 returns-3 c = fields-taken (c .before .before .before .before .before .before .before .before .before .args .frame) (c .before .before .before .before .before .before .before .before .before .args .at) (c .before .before .before .before .before .before .before .before .before .args .m) (now (c .before .before .before .before .before .before .before .before .before .args .rest)) _ (c .before .before .entry-fault .result) (c .before .before .before .before .before .entry-at .ensures)
-      (omega (arith, c .before .before .before .before .before .before .if1 .left, c .before .before .before .before .before .before .before .size-of .ensures))
-      (sym (c .before .before .before .before .default-written .ensures) ∙ c .before .before .before .if2 .left)
-      (c .before .before .entry-fault .ensures) _ (c .before .before .before .before .before .before .before .size-of .ensures) (c .enum-told .given .1)
+    (omega (arith, c .before .before .before .before .before .before .if1 .left, c .before .before .before .before .before .before .before .size-of .ensures))
+    (sym (c .before .before .before .before .default-written .ensures) ∙ c .before .before .before .if2 .left)
+    (c .before .before .entry-fault .ensures) _ (c .before .before .before .before .before .before .before .size-of .ensures) (c .enum-told .given .1)
 
 returns-4 : tie.Need-returns-4
 returns-4 c = fields-turned (c .before .before .before .before .before .before .before .before .before .before .args .frame) (c .before .before .before .before .before .before .before .before .before .before .args .at) (c .before .before .before .before .before .before .before .before .before .before .args .m) (now (c .before .before .before .before .before .before .before .before .before .before .args .rest)) _ (c .before .before .before .entry-fault .result) (c .before .before .before .before .before .before .entry-at .ensures)
-      (omega (arith, c .before .before .before .before .before .before .before .if1 .left, c .before .before .before .before .before .before .before .before .size-of .ensures))
-      (sym (c .before .before .before .before .before .default-written .ensures) ∙ c .before .before .before .before .if2 .left)
-      (c .before .before .before .entry-fault .ensures) _ (c .before .fault .given .1)
+    (omega (arith, c .before .before .before .before .before .before .before .if1 .left, c .before .before .before .before .before .before .before .before .size-of .ensures))
+    (sym (c .before .before .before .before .before .default-written .ensures) ∙ c .before .before .before .before .if2 .left)
+    (c .before .before .before .entry-fault .ensures) _ (c .before .fault .given .1)
 
 pub read-fields-spec : {M : Type 1} → statement M
 read-fields-spec =

@@ -1,0 +1,75 @@
+//! Holds the static library against the second reader and writer, call by call.
+
+use crate::abi::{self, Answer};
+use crate::day::{Day, Refusal};
+use crate::flat::{self, Fields};
+use crate::{reader, writer};
+
+fn refusing(refusal: &Refusal) -> Answer {
+    let (number, carries) = refusal.code();
+    Answer { number, carried: [carries, 0, 0] }
+}
+
+/// Reads with both programs. Answer and fields must be alike, a refusal must leave the fields as they were,
+/// and what is accepted must be written back byte for byte.
+#[track_caller]
+pub fn read(bytes: &[u8]) -> Result<Day, Refusal> {
+    let expected = reader::read(bytes);
+    let (answer, fields) = abi::read(bytes);
+    let (wanted, wanted_fields) = match &expected {
+        Ok(day) => (Answer { number: 0, carried: [0; 3] }, flat::of_day(day)),
+        Err(refusal) => (refusing(refusal), abi::untouched_fields()),
+    };
+    assert_eq!(answer, wanted, "answer to {bytes:02X?}");
+    let differs = (0..flat::SIZE).find(|&i| fields[i] != wanted_fields[i]);
+    assert_eq!(differs, None, "the first field that is wrong after {bytes:02X?}");
+    if expected.is_ok() {
+        assert_eq!(write(&fields, bytes.len()).as_deref(), Ok(bytes), "accepted and written back");
+    }
+    expected
+}
+
+/// Reads an input that must be accepted.
+#[track_caller]
+pub fn accepted(bytes: &[u8]) -> Day {
+    read(bytes).unwrap_or_else(|refusal| panic!("{refusal:?} of {bytes:02X?}"))
+}
+
+/// Reads an input that must be refused with this number, carrying this value.
+#[track_caller]
+pub fn refused(bytes: &[u8], number: u32, carries: usize) {
+    let refusal = read(bytes).expect_err("must be refused");
+    assert_eq!(refusal.code(), (number, carries as u64), "refusal of {bytes:02X?}");
+}
+
+/// Writes with both programs into `room` bytes. Answer and bytes must be alike: the form at the start, and
+/// all else as it was.
+#[track_caller]
+pub fn write(fields: &Fields, room: usize) -> Result<Vec<u8>, Refusal> {
+    let expected = writer::write(&flat::value(fields), room);
+    let (answer, out) = abi::write(fields, room);
+    let mut wanted_out = abi::untouched_bytes(room);
+    let wanted = match &expected {
+        Ok(form) => {
+            wanted_out[..form.len()].copy_from_slice(form);
+            Answer { number: 0, carried: [form.len() as u64, 0, 0] }
+        }
+        Err(refusal) => refusing(refusal),
+    };
+    assert_eq!(answer, wanted, "answer to {:?} and {room} bytes", &fields[..]);
+    assert_eq!(out, wanted_out, "bytes after writing {:?}", &fields[..]);
+    expected
+}
+
+/// Writes a value that must be written, and gives its form.
+#[track_caller]
+pub fn written(fields: &Fields, room: usize) -> Vec<u8> {
+    write(fields, room).expect("must be written")
+}
+
+/// Writes a value that must be refused with this number, carrying this value.
+#[track_caller]
+pub fn not_written(fields: &Fields, room: usize, number: u32, carries: usize) {
+    let refusal = write(fields, room).expect_err("must not be written");
+    assert_eq!(refusal.code(), (number, carries as u64));
+}

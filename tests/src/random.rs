@@ -1,0 +1,117 @@
+//! Random lists, damaged inputs and wild values. Every sequence is fixed by its seed.
+
+use crate::day::{Day, Entry, LONGEST_DAY, MOST_ENTRIES};
+use crate::flat::{self, Fields, WIDTH};
+use crate::writer;
+
+/// The generator splitmix64.
+pub struct Random(u64);
+
+impl Random {
+    pub fn new(seed: u64) -> Random {
+        Random(seed)
+    }
+
+    pub fn next(&mut self) -> u64 {
+        self.0 = self.0.wrapping_add(0x9E37_79B9_7F4A_7C15);
+        let mixed = (self.0 ^ self.0 >> 30).wrapping_mul(0xBF58_476D_1CE4_E5B9);
+        let mixed = (mixed ^ mixed >> 27).wrapping_mul(0x94D0_49BB_1331_11EB);
+        mixed ^ mixed >> 31
+    }
+
+    /// A number below `end`, which is not 0.
+    pub fn below(&mut self, end: usize) -> usize {
+        (self.next() % end as u64) as usize
+    }
+
+    /// A number from `low` to `high`, both included.
+    pub fn within(&mut self, low: u16, high: u16) -> u16 {
+        low + self.below(usize::from(high - low) + 1) as u16
+    }
+
+    /// True once in `times`.
+    pub fn once_in(&mut self, times: usize) -> bool {
+        self.below(times) == 0
+    }
+
+    pub fn pick<T: Copy>(&mut self, from: &[T]) -> T {
+        from[self.below(from.len())]
+    }
+
+    fn wide(&mut self) -> u32 {
+        let any = self.next() as u32;
+        self.pick(&[0, 1, any % 4, any, u32::MAX])
+    }
+}
+
+/// A well-formed list of at most `most` entries.
+pub fn day(random: &mut Random, most: usize) -> Day {
+    let any = random.within(1, LONGEST_DAY);
+    let h = random.pick(&[1, 2, any % 20 + 1, any, LONGEST_DAY]);
+    let n = random.below(most + 1);
+    Day { h, entries: (0..n).map(|_| entry(random, h)).collect() }
+}
+
+/// A well-formed list: mostly a short one, else one of any length or a full one.
+pub fn any_day(random: &mut Random) -> Day {
+    let most = random.pick(&[3, 3, 3, MOST_ENTRIES]);
+    let mut day = day(random, most);
+    if random.once_in(8) {
+        day.entries.resize_with(MOST_ENTRIES, || entry(random, day.h));
+    }
+    day
+}
+
+fn entry(random: &mut Random, h: u16) -> Entry {
+    let d = if random.once_in(3) { h } else { random.within(1, h) };
+    let r = if random.once_in(3) { 0 } else { random.within(0, d - 1) };
+    let p = if random.once_in(3) { d - r } else { random.within(1, d - r) };
+    let seal = if random.once_in(2) { None } else { Some(random.wide()) };
+    Entry { serial: random.wide(), seal, r, d, p, whole: random.once_in(2) }
+}
+
+/// The bytes of a random list with one to three damages.
+pub fn damaged(random: &mut Random) -> Vec<u8> {
+    let mut bytes = writer::form(&any_day(random));
+    for _ in 0..=random.below(3) {
+        damage(random, &mut bytes);
+    }
+    bytes
+}
+
+fn damage(random: &mut Random, bytes: &mut Vec<u8>) {
+    let end = bytes.len();
+    let at = random.below(end + 1);
+    let byte = random.next() as u8;
+    match random.below(7) {
+        0 if at < end => bytes[at] = byte,
+        1 if at < end => bytes[at] ^= 1 << (byte % 8),
+        2 if at < end => bytes[at] = random.pick(&[0, 1, bytes[0], bytes[end - 1], 0xFF]),
+        3 => bytes.truncate(at),
+        4 => bytes.extend((0..=random.below(20)).map(|i| byte.wrapping_mul(i as u8))),
+        5 => drop(bytes.splice(at.., writer::form(&any_day(random)).into_iter().skip(3))),
+        6 => drop(bytes.drain(at..(at + random.below(4)).min(end))),
+        _ => bytes.insert(at, byte),
+    }
+}
+
+/// A flat value that may break any rule: a list with some of its numbers changed, or only noise.
+pub fn wild_fields(random: &mut Random) -> Fields {
+    let day = any_day(random);
+    let mut fields = flat::of_day(&day);
+    if random.once_in(2) {
+        let n = 2 + WIDTH * day.entries.len();
+        fields[n..].fill_with(|| random.next() as u32);
+    }
+    for _ in 0..random.below(4) {
+        let used = 2 + WIDTH * (day.entries.len() + 1).min(MOST_ENTRIES);
+        fields[random.below(used)] = wild_number(random, day.h);
+    }
+    fields
+}
+
+fn wild_number(random: &mut Random, h: u16) -> u32 {
+    let h = u32::from(h);
+    let any = random.next() as u32;
+    random.pick(&[0, 1, h - 1, h, h + 1, 64, 65, 255, 256, 1441, 65_535, 65_536, 65_536 + h, any % 1500, any])
+}

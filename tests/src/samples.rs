@@ -1,0 +1,89 @@
+//! Inputs and lists that several tests share, and what is needed to write others down.
+
+use crate::day::{Day, Entry, LONGEST_DAY, MOST_ENTRIES};
+use crate::writer;
+
+/// Bytes written as in document 01: hexadecimal, with blanks and bars anywhere.
+pub fn hex(text: &str) -> Vec<u8> {
+    let digits: Vec<u32> = text.chars().filter_map(|digit| digit.to_digit(16)).collect();
+    assert_eq!(digits.len() % 2, 0, "a byte has two digits");
+    digits.chunks(2).map(|pair| (pair[0] << 4 | pair[1]) as u8).collect()
+}
+
+/// Document 01's sample input.
+pub fn document() -> Vec<u8> {
+    hex("0C 00 03 | 11 F5 01 00 00 04 00 | 3F F6 01 00 00 4D 00 00 00 02 00 08 00 03 00
+         | 1F F7 01 00 00 4E 00 00 00 03 00 06 00 02 00")
+}
+
+/// The fields of an entry as they are written, right or wrong.
+#[derive(Clone, Copy)]
+pub struct Written {
+    pub serial: u32,
+    pub seal: Option<u32>,
+    pub r: Option<u16>,
+    pub d: Option<u16>,
+    pub p: u16,
+    pub whole: bool,
+}
+
+/// The shortest entry, of one minute at any time of the day: 7 bytes.
+pub const SHORT: Written = Written { serial: 9, seal: None, r: None, d: None, p: 1, whole: false };
+
+/// The bytes of a list with entries that are written so.
+pub fn list(h: u16, entries: &[Written]) -> Vec<u8> {
+    let mut bytes = h.to_le_bytes().to_vec();
+    bytes.push(entries.len() as u8);
+    for entry in entries {
+        let stands = [entry.seal.is_some(), entry.r.is_some(), entry.d.is_some(), true, entry.whole];
+        let map = (1..).zip(stands).fold(1, |map, (bit, stands)| map | u8::from(stands) << bit);
+        bytes.push(map);
+        bytes.extend(entry.serial.to_le_bytes());
+        bytes.extend(entry.seal.iter().flat_map(|seal| seal.to_le_bytes()));
+        bytes.extend([entry.r, entry.d].iter().flatten().flat_map(|minute| minute.to_le_bytes()));
+        bytes.extend(entry.p.to_le_bytes());
+    }
+    bytes
+}
+
+/// A longest list: 64 entries with all their fields.
+pub fn longest() -> Day {
+    let entry = |i: usize| {
+        let i = i as u32;
+        let r = 1 + 20 * i as u16;
+        Entry {
+            serial: 0x0403_0201 * (i + 1),
+            seal: Some(i),
+            r,
+            d: r + 20,
+            p: 1 + i as u16 % 20,
+            whole: i % 3 == 0,
+        }
+    };
+    Day { h: LONGEST_DAY, entries: (0..MOST_ENTRIES).map(entry).collect() }
+}
+
+/// A list with each of the 16 shapes of an entry.
+pub fn every_shape() -> Day {
+    let entry = |shape: u32| Entry {
+        serial: 0x0102_0304 << (shape % 5),
+        seal: (shape & 1 != 0).then_some(shape * 0x1111_1111),
+        r: if shape & 2 != 0 { 256 + shape as u16 } else { 0 },
+        d: if shape & 4 != 0 { 515 + shape as u16 } else { 777 },
+        p: 256 + shape as u16 % 3,
+        whole: shape & 8 != 0,
+    };
+    Day { h: 777, entries: (0..16).map(entry).collect() }
+}
+
+/// Accepted inputs, from the smallest to a longest.
+pub fn inputs() -> Vec<Vec<u8>> {
+    let crowded = vec![SHORT; MOST_ENTRIES];
+    vec![
+        hex("01 00 00"),
+        document(),
+        writer::form(&every_shape()),
+        list(1, &crowded),
+        writer::form(&longest()),
+    ]
+}

@@ -1,0 +1,73 @@
+//! The inputs that document 01 and its readers write out, byte for byte.
+
+use dock_tests::day::{Day, Entry, LONGEST_LIST};
+use dock_tests::samples::{self, hex};
+use dock_tests::{abi, check, writer};
+
+fn three_boxes() -> Day {
+    let first = Entry { serial: 501, seal: None, r: 0, d: 12, p: 4, whole: false };
+    let second = Entry { serial: 502, seal: Some(77), r: 2, d: 8, p: 3, whole: true };
+    let third = Entry { serial: 503, seal: Some(78), r: 3, d: 6, p: 2, whole: false };
+    Day { h: 12, entries: vec![first, second, third] }
+}
+
+#[test]
+fn the_documents_sample_is_read() {
+    assert_eq!(check::accepted(&samples::document()), three_boxes());
+}
+
+#[test]
+fn the_documents_sample_in_flat_form() {
+    let (answer, fields) = abi::read(&samples::document());
+    assert_eq!((answer.number, answer.carried), (0, [0, 0, 0]));
+    assert_eq!(fields[..2], [12, 3]);
+    assert_eq!(fields[2..9], [501, 0, 0, 0, 12, 4, 0]);
+    assert_eq!(fields[9..16], [502, 1, 77, 2, 8, 3, 1]);
+    assert_eq!(fields[16..23], [503, 1, 78, 3, 6, 2, 0]);
+    assert!(fields[23..].iter().all(|&number| number == 0));
+}
+
+#[test]
+fn the_documents_sample_is_written() {
+    let (_, fields) = abi::read(&samples::document());
+    let (answer, out) = abi::write(&fields, 41);
+    assert_eq!((answer.number, answer.carried), (0, [40, 0, 0]));
+    assert_eq!(out[..40], samples::document());
+    assert_eq!(out[40], abi::untouched_bytes(41)[40]);
+}
+
+#[test]
+fn a_day_of_one_minute_without_entries_is_accepted() {
+    let day = check::accepted(&hex("01 00 00"));
+    assert_eq!(day, Day { h: 1, entries: vec![] });
+}
+
+#[test]
+fn a_missing_field_comes_before_a_written_default_in_one_entry() {
+    check::refused(&hex("64 00 01 | 1F 01000000 02000000 0000 3200 01"), 1, 17);
+}
+
+#[test]
+fn a_fault_of_one_entry_comes_before_the_next_entry_that_is_missing() {
+    check::refused(&hex("64 00 02 | 1F 01000000 02000000 0000 3200 0100"), 5, 3);
+}
+
+#[test]
+fn a_broken_map_byte_is_told_even_as_the_last_byte() {
+    check::refused(&hex("64 00 01 | 51"), 4, 3);
+    check::refused(&hex("64 00 02 | 11 01000000 0100 | 01"), 4, 10);
+}
+
+#[test]
+fn the_longest_list_has_963_bytes() {
+    let bytes = writer::form(&samples::longest());
+    assert_eq!((bytes.len(), LONGEST_LIST), (963, 963));
+    assert_eq!(check::accepted(&bytes), samples::longest());
+}
+
+#[test]
+fn a_964th_byte_is_left_over() {
+    let mut bytes = writer::form(&samples::longest());
+    bytes.push(0);
+    check::refused(&bytes, 8, 963);
+}

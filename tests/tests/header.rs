@@ -1,0 +1,80 @@
+//! The header: its length, the day's length H, the number of entries n, in this order.
+
+use dock_tests::check::{accepted, refused};
+use dock_tests::samples::{hex, list, SHORT};
+
+#[test]
+fn under_three_bytes_is_1_with_the_inputs_length() {
+    refused(&[], 1, 0);
+    refused(&hex("01"), 1, 1);
+    refused(&hex("01 00"), 1, 2);
+}
+
+#[test]
+fn a_short_header_comes_before_a_wrong_day() {
+    refused(&hex("00"), 1, 1);
+    refused(&hex("00 00"), 1, 2);
+    refused(&hex("FF FF"), 1, 2);
+}
+
+#[test]
+fn the_day_has_1_to_1440_minutes() {
+    refused(&hex("00 00 00"), 2, 0);
+    assert_eq!(accepted(&hex("01 00 00")).h, 1);
+    assert_eq!(accepted(&hex("A0 05 00")).h, 1440);
+    refused(&hex("A1 05 00"), 2, 0);
+    refused(&hex("FF FF 00"), 2, 0);
+}
+
+#[test]
+fn every_day_length() {
+    for h in 0..=u16::MAX {
+        let bytes = list(h, &[]);
+        match h {
+            1..=1440 => assert_eq!(accepted(&bytes).h, h),
+            _ => refused(&bytes, 2, 0),
+        }
+    }
+}
+
+#[test]
+fn every_number_of_entries_before_an_input_that_ends() {
+    for n in 0..=u8::MAX {
+        let bytes = [100, 0, n];
+        match n {
+            0 => assert!(accepted(&bytes).entries.is_empty()),
+            1..=64 => refused(&bytes, 1, 3),
+            _ => refused(&bytes, 3, 2),
+        }
+    }
+}
+
+#[test]
+fn every_number_of_entries_with_as_many_entries() {
+    for n in 0..=u8::MAX {
+        let bytes = list(100, &vec![SHORT; usize::from(n)]);
+        match n {
+            0..=64 => assert_eq!(accepted(&bytes).entries.len(), usize::from(n)),
+            _ => refused(&bytes, 3, 2),
+        }
+    }
+}
+
+#[test]
+fn a_wrong_day_comes_before_too_many_entries() {
+    refused(&hex("00 00 41"), 2, 0);
+    refused(&hex("A1 05 FF"), 2, 0);
+    refused(&hex("A0 05 41"), 3, 2);
+}
+
+#[test]
+fn the_header_comes_before_the_entries() {
+    refused(&hex("00 00 01 | 00"), 2, 0);
+    refused(&hex("01 00 41 | 00"), 3, 2);
+}
+
+#[test]
+fn bytes_after_an_empty_list_are_left_over() {
+    refused(&hex("01 00 00 | 11"), 8, 3);
+    refused(&hex("01 00 00 | 11 22 33"), 8, 3);
+}
