@@ -12,13 +12,14 @@ use Rattle.list.specs.Outcomes.{Code, Outcome, answered, refused, andThe
 use Rattle.list.specs.Refusals.{codeOf, verdictOf}
 use Rattle.list.specs.Entries.{entryFault}
 use Rattle.list.specs.DayLists.{entriesOf}
-use Rattle.list.specs.Checks.{headerFault, entriesFault, checkOf}
+use Rattle.list.specs.Checks.{headerRows, headerFault, entriesFault, checkOf}
 use Rattle.list.specs.declared.types.Entry.{Entry}
 use Rattle.list.specs.declared.types.Frame.{Frame}
 use Rattle.list.specs.declared.types.DayList.{DayList}
 use Rattle.list.specs.declared.types.Refusal.{Refusal}
 use Rattle.list.specs.declared.types.Verdict.{Verdict}
 use Rattle.list.specs.declared.types.Verdict.the-variants.{Accepted, Refused}
+use Rattle.list.proofs.Inversion.{passed, neither}
 use Rattle.list.proofs.Walk.{walk-next, walk-done}
 
 -- what rows 2 and 3 leave
@@ -29,18 +30,14 @@ pub record Header (f : Frame) (n : ℕ) : Type 0 where
 
 pub header-of : (place : ℕ) (f : Frame) (n : ℕ) → headerFault place f n ≡ answered tt → Header f n
 unfolding headerFault
-header-of place f n e = go (eqb (f .h) 0) refl (ltb 1440 (f .h)) refl (ltb 64 n) refl
-  where
-    go : (a : Bool) → eqb (f .h) 0 ≡ a → (b : Bool) → ltb 1440 (f .h) ≡ b → (c : Bool) → ltb 64 n ≡ c → Header f n
-    go true p b q c s = let z : _≡_ {A = ℕ} 0 1 = cc (simp p at e) in absurd (omega arith)
-    go false p true q c s = let z : _≡_ {A = ℕ} 0 1 = cc (simp (p, q) at e) in absurd (omega arith)
-    go false p false q true s = let z : _≡_ {A = ℕ} 0 1 = cc (simp (p, q, s) at e) in absurd (omega arith)
-    go false p false q false s =
-        record {
-          some-minutes = omega (arith, eqb-false (f .h) 0 p);
-          one-day = omega (arith, ltb-false 1440 (f .h) q);
-          room = omega (arith, ltb-false 64 n s);
-        }
+header-of place f n e =
+    let none = passed (headerRows place f n) (answered tt) tt e .0 in
+    let minutes = neither _ _ (none .0) in
+    record {
+      some-minutes = omega (arith, eqb-false (f .h) 0 (minutes .0));
+      one-day = omega (arith, ltb-false 1440 (f .h) (minutes .1));
+      room = omega (arith, ltb-false 64 n (none .1 .0));
+    }
 
 module _ (l : DayList) where
   -- the header is turned back, or the entries decide

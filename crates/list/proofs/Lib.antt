@@ -4,3 +4,5 @@ pub mod Places
 pub mod EntryCases
 pub mod Walk
 pub mod CheckCases
+pub mod ReadCases
+pub mod Inversion

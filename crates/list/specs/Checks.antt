@@ -4,7 +4,7 @@ use mathlib.Core.Path.{_≡_}
 use mathlib.Core.Bool.{_||_}
 use mathlib.Core.List.{List, [], _∷_}
 use lib.Dec.{eqb, ltb}
-use Rattle.list.specs.Outcomes.{Outcome, answered, row, firstOf, andThen}
+use Rattle.list.specs.Outcomes.{Outcome, answered, Row, row, firstOf, andThen}
 use Rattle.list.specs.Entries.{entryFault}
 use Rattle.list.specs.DayLists.{entriesOf}
 use Rattle.list.specs.declared.types.Entry.{Entry}
@@ -12,9 +12,11 @@ use Rattle.list.specs.declared.types.Frame.{Frame}
 use Rattle.list.specs.declared.types.DayList.{DayList}
 
 -- rows 2 and 3, for the day's length and the number of entries; 3 carries the place given
+abbrev pub headerRows : ℕ → Frame → ℕ → List Row
+headerRows place f n = row 2 (eqb (f .h) 0 || ltb 1440 (f .h)) 0 ∷ row 3 (ltb 64 n) place ∷ []
+
 unfoldable pub headerFault : ℕ → Frame → ℕ → Outcome (Unit {0})
-headerFault place f n =
-    firstOf (row 2 (eqb (f .h) 0 || ltb 1440 (f .h)) 0 ∷ row 3 (ltb 64 n) place ∷ []) (answered tt)
+headerFault place f n = firstOf (headerRows place f n) (answered tt)
 
 -- rows 6 and 7, entry by entry, the first at place i
 unfoldable pub entriesFault : Frame → ℕ → List Entry → Outcome (Unit {0})

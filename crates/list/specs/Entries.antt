@@ -4,7 +4,7 @@ use mathlib.Core.Bool.{Bool, true, false, cond, not, _&&_, _||_}
 use mathlib.Core.List.{List, [], _∷_, _++_}
 use lib.ListN.{length, getD}
 use lib.Dec.{eqb, ltb}
-use Rattle.list.specs.Outcomes.{Outcome, answered, refused, row, firstOf, andThen}
+use Rattle.list.specs.Outcomes.{Outcome, answered, refused, Row, row, firstOf, andThen}
 use Rattle.list.specs.Refusals.{codeOf}
 use Rattle.list.specs.Numbers.{u16At, u32At, u16Bytes, u32Bytes}
 use Rattle.list.specs.Maps.{legalMap, fieldsOf, rPlace, dPlace, pPlace, sizeOf}
@@ -48,30 +48,32 @@ abbrev pub defaultWritten : Frame → Fields → Entry → Bool
 defaultWritten f m e = (m .r && eqb (e .r) (defaultR f)) || (m .d && eqb (e .d) (defaultD f))
 
 -- rows 6 and 7 of an entry, which carry the place given: "A window [r, d) lies in 0 to H and holds at least p minutes."
-unfoldable pub entryFault : Frame → ℕ → Entry → Outcome (Unit {0})
-entryFault f place e =
-    firstOf
-    (row 6 (eqb (e .p) 0) place
-    ∷ row 7 (ltb (f .h) (e .d) || ltb (e .d) (e .r + e .p)) place
-    ∷ [])
-    (answered tt)
+abbrev pub faultRows : Frame → ℕ → Entry → List Row
+faultRows f place e =
+    row 6 (eqb (e .p) 0) place ∷ row 7 (ltb (f .h) (e .d) || ltb (e .d) (e .r + e .p)) place ∷ []
 
--- An entry with these fields at the start of bs, what is left of the input from place at on, with the bytes that it took:
--- rows 1, 5, 6 and 7. 1 carries the input's length, at + length bs.
+unfoldable pub entryFault : Frame → ℕ → Entry → Outcome (Unit {0})
+entryFault f place e = firstOf (faultRows f place e) (answered tt)
+
+-- rows 1 and 5 of an entry with these fields at the start of bs, what is left of the input from place at on: 1 carries the
+-- input's length, at + length bs
+abbrev pub fieldRows : Frame → ℕ → Fields → List ℕ → List Row
+fieldRows f at m bs =
+    row 1 (ltb (length bs) (sizeOf m)) (at + length bs) ∷ row 5 (defaultWritten f m (entryAt f m bs)) at ∷ []
+
+-- that entry with the bytes that it took, or the first of its rows 1, 5, 6 and 7 that holds
 unfoldable pub fieldsEntry : Frame → ℕ → Fields → List ℕ → Outcome (Entry × ℕ)
 fieldsEntry f at m bs =
-    firstOf
-    (row 1 (ltb (length bs) (sizeOf m)) (at + length bs)
-    ∷ row 5 (defaultWritten f m (entryAt f m bs)) at
-    ∷ [])
+    firstOf (fieldRows f at m bs)
     (andThen (entryFault f at (entryAt f m bs)) (λ _. answered (entryAt f m bs, sizeOf m)))
 
--- the same once the map byte was tested: row 4, before which "a missing map byte is 1"
+-- row 4, before which "a missing map byte is 1"
+abbrev pub mapRows : ℕ → List ℕ → List Row
+mapRows at bs = row 1 (eqb (length bs) 0) (at + length bs) ∷ row 4 (not (legalMap (getD bs 0 0))) at ∷ []
+
+-- the entry at the start of bs with the bytes that it took, or the first of its rows that holds
 unfoldable pub entryOf : Frame → ℕ → List ℕ → Outcome (Entry × ℕ)
-entryOf f at bs =
-    firstOf
-    (row 1 (eqb (length bs) 0) (at + length bs) ∷ row 4 (not (legalMap (getD bs 0 0))) at ∷ [])
-    (fieldsEntry f at (fieldsOf (getD bs 0 0)) bs)
+entryOf f at bs = firstOf (mapRows at bs) (fieldsEntry f at (fieldsOf (getD bs 0 0)) bs)
 
 -- the answer of reading one entry
 abbrev pub entryAnswerOf : EntryAnswer → Outcome (Entry × ℕ)

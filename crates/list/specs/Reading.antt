@@ -46,7 +46,7 @@ abbrev pub listOr : Outcome DayList → DayList
 listOr (answered l) = l
 listOr (refused k) = emptyList
 
--- what `read` answers of the bytes bs
-pub record ReadsAs (bs : List ℕ) (a : ReadAnswer) : Type 0 where
-  pub outcome : readAnswerOf a ≡ readOf bs
-  pub beside : a .list ≡ listOr (readOf bs)
+-- an answer that says an outcome, with its list beside it
+pub record AnswersAs (o : Outcome DayList) (a : ReadAnswer) : Type 0 where
+  pub outcome : readAnswerOf a ≡ o
+  pub beside : a .list ≡ listOr o

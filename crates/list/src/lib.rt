@@ -8,6 +8,7 @@ mod map;
 mod reader;
 pub mod types;
 mod writer;
-// pub use checks::check;
-// pub use reader::read;
+
+pub use checks::check;
+pub use reader::read;
 // pub use writer::write;

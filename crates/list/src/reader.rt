@@ -1,1 +1,99 @@
-// reader
+// Reading a list from its bytes.
+use crate::bytes::u16_at;
+use crate::checks::header_fault;
+use crate::entry::EntryAnswer;
+use crate::entry::read_entry;
+use crate::types::DayList;
+use crate::types::Entry;
+use crate::types::Frame;
+use crate::types::Kind;
+use crate::types::ReadAnswer;
+use crate::types::Refusal;
+use crate::types::Seal;
+use crate::types::Verdict;
+ghost use mathlib.Core.Path.{_≡_};
+ghost use Prim.Native.Nat.{_≤_};
+ghost use lib.ListN.{length};
+ghost use Rattle.list.specs.DayLists.{blank, emptyList};
+ghost use Rattle.list.specs.Reading.{frameOf, countOf, bodyOf, readOf, AnswersAs};
+
+// What stands at every place from n on.
+pub(crate) fn blank_entry() -> Entry
+    ensures { λ e. ⌜ e ≡ blank ⌝ }
+{
+    Entry {
+        serial: 0,
+        seal: Seal::Missing,
+        r: 0,
+        d: 0,
+        p: 0,
+        kind: Kind::Pause,
+    }
+}
+
+// A refusal, with the empty list beside it.
+fn turned_back(x: Refusal) -> ReadAnswer
+    ensures { λ a. ⌜ a ≡ record { verdict = Verdict.Refused x; list = emptyList } ⌝ }
+{
+    let list = DayList {
+        frame: Frame { h: 0 },
+        n: 0,
+        entries: [blank_entry(); 64],
+    };
+    ReadAnswer {
+        verdict: Verdict::Refused(x),
+        list: list,
+    }
+}
+
+// The entries after a sound header, and row 8.
+fn read_body(bytes: &[u8], frame: Frame, n: u8) -> ReadAnswer
+    requires { ⌜ (3 ≤ length (now bytes)) × (n ≤ 64) × (frame ≡ frameOf (now bytes)) × (n ≡ countOf (now bytes)) ⌝ }
+    ensures { λ a. ⌜ AnswersAs (bodyOf (now (bytes .entry))) a ⌝ }
+{
+    let mut entries = [blank_entry(); 64];
+    let mut at: usize = 3;
+    let mut i: usize = 0;
+    while i < n as usize {
+        let one = read_entry(frame, at, &bytes[at..]);
+        match one {
+            EntryAnswer::Taken(e, size) => {
+                entries[i] = e;
+                at += size;
+            }
+            EntryAnswer::TurnedBack(x) => {
+                return turned_back(x);
+            }
+        }
+        i += 1;
+    }
+    if at < bytes.len() {
+        return turned_back(Refusal::BytesLeftOver(at));
+    }
+    ReadAnswer {
+        verdict: Verdict::Accepted,
+        list: DayList {
+            frame: frame,
+            n: n,
+            entries: entries,
+        },
+    }
+}
+
+// The list that bytes say, or why they are turned back.
+pub fn read(bytes: &[u8]) -> ReadAnswer
+    ensures { λ a. ⌜ AnswersAs (readOf (now (bytes .entry))) a ⌝ }
+{
+    if bytes.len() < 3 {
+        return turned_back(Refusal::BytesMissing(bytes.len()));
+    }
+    let frame = Frame {
+        h: u16_at(bytes, 0),
+    };
+    let n = bytes[2];
+    let header = header_fault(2, frame, n);
+    match header {
+        Verdict::Accepted => read_body(bytes, frame, n),
+        Verdict::Refused(x) => turned_back(x),
+    }
+}

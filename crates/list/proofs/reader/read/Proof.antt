@@ -1,0 +1,63 @@
+-- `reader::read` meets its contract: the header decides, or what follows it does.
+-- Assumes nothing.
+use borrow.Author.Needs.{needs}
+use mathlib.Core.Path.{_≡_, refl, sym, ap}
+use Prim.Native.Nat.{ℕ}
+use lib.ListN.{getD}
+use Rattle.list.specs.Outcomes.{answered}
+use Rattle.list.specs.Checks.{headerFault}
+use Rattle.list.proofs.CheckCases.{header-of}
+use Rattle.list.proofs.ReadCases.{answers-refused, read-short, read-header, read-body}
+use Rattle.list.proofs.reader.read.Statement.{statement}
+use Rattle.list.proofs.reader.read.Tie as tie
+
+turned-back-requires : tie.Need-turned-back-requires
+turned-back-requires c κs = search needs
+
+returns : tie.Need-returns
+returns c = answers-refused _ _ _ (c .turned-back .ensures) (read-short (c .before .before .before .args .bytes .now) (c .before .if1 .taken))
+
+u16-at-requires : tie.Need-u16-at-requires
+u16-at-requires c κs = search needs
+
+shared-slice-read-n : tie.Need-shared-slice-read-n
+shared-slice-read-n c = search needs
+
+header-fault-requires : tie.Need-header-fault-requires
+header-fault-requires c κs = search needs
+
+enum-told : tie.Need-enum-told
+enum-told c = search needs
+
+read-body-requires : tie.Need-read-body-requires
+read-body-requires c κs =
+    let e : headerFault 2 (record { h = c .before .before .before .before .u16-at .result }) (getD (c .before .before .before .before .before .before .before .args .bytes .now) 2 0) ≡ answered tt = rw (c .enum-told .given .1) at (sym (c .before .before .header-fault .ensures)) in
+    (c .before .before .before .before .before .if1 .left, header-of 2 _ _ e .room, (ap (λ (x : ℕ). record { h = x }) (c .before .before .before .before .u16-at .ensures)), refl)
+
+enum-known-header : tie.Need-enum-known-header
+enum-known-header c = search needs
+
+turned-back-requires-2 : tie.Need-turned-back-requires-2
+turned-back-requires-2 c κs = search needs
+
+returns-2 : tie.Need-returns-2
+returns-2 c = rw (read-body (c .before .before .before .before .before .before .before .before .args .bytes .now) (record { h = c .before .before .before .before .before .u16-at .result }) (c .before .before .before .header-fault .result) (ap (λ (x : ℕ). record { h = x }) (c .before .before .before .before .before .u16-at .ensures)) (c .before .before .before .before .before .before .if1 .left) (c .before .before .before .header-fault .ensures) (c .before .enum-told .given .1)) (c .read-body .ensures)
+
+returns-3 : tie.Need-returns-3
+returns-3 c = answers-refused _ _ _ (c .turned-back2 .ensures) (read-header (c .before .before .before .before .before .before .before .before .before .args .bytes .now) (record { h = c .before .before .before .before .before .before .u16-at .result }) (c .before .before .before .before .header-fault .result) (ap (λ (x : ℕ). record { h = x }) (c .before .before .before .before .before .before .u16-at .ensures)) (c .before .before .before .before .before .before .before .if1 .left) (c .before .before .before .before .header-fault .ensures) _ (c .before .before .header .given .1))
+
+pub read-spec : {M : Type 1} → statement M
+read-spec =
+    tie.close
+    (tie.spec
+    turned-back-requires
+    returns
+    u16-at-requires
+    shared-slice-read-n
+    header-fault-requires
+    enum-told
+    read-body-requires
+    enum-known-header
+    turned-back-requires-2
+    returns-2
+    returns-3)

@@ -1,0 +1,112 @@
+-- `reader::read_body` meets its contract. The loop's invariant is `SoFar`: the entries read stand in front of those that are still
+-- to come, and the places after them are blank. The measure is what is left of n.
+-- Assumes nothing.
+use borrow.Author.Needs.{needs}
+use mathlib.Core.Path.{sym, ap, _∙_}
+use native.Mathlib.Omega.{arith}
+use Prim.Native.Nat.{_-_}
+use Rattle.list.specs.Outcomes.{answered}
+use Rattle.list.proofs.ReadCases.{SoFar, start, turned, next, done, list-is, size-here, body-turned, body-left, body-done, answers-refused, answers-list}
+use Rattle.list.proofs.reader.read_body.Statement.{statement}
+use Rattle.list.proofs.reader.read_body.Tie as tie
+
+abbrev Inv-loop : tie.InvT-loop
+Inv-loop bytes frame n entries₀ at₀ i₀ entries at i = SoFar frame n bytes entries at i
+
+abbrev μ-loop : tie.MeasureT-loop
+μ-loop bytes frame n entries₀ at₀ i₀ entries at i = n - i
+
+blank-entry-requires : tie.Need-blank-entry-requires Inv-loop μ-loop
+blank-entry-requires c κs = search needs
+
+loop-holds : tie.Need-loop-holds Inv-loop μ-loop
+loop-holds c = rw (c .blank-entry .ensures) (start (c .before .before .args .frame) (c .before .before .args .n) (c .before .before .args .bytes .now) (c .before .before .pre .0))
+
+sub-read-entry : tie.Need-sub-read-entry Inv-loop μ-loop
+sub-read-entry c = search needs
+
+part-read-entry-start : tie.Need-part-read-entry-start Inv-loop μ-loop
+part-read-entry-start c = search needs
+
+part-read-entry-end : tie.Need-part-read-entry-end Inv-loop μ-loop
+part-read-entry-end c = search needs
+
+read-entry-requires : tie.Need-read-entry-requires Inv-loop μ-loop
+read-entry-requires c κs = search needs
+
+enum-known-one : tie.Need-enum-known-one Inv-loop μ-loop
+enum-known-one c = search needs
+
+mul-entries : tie.Need-mul-entries Inv-loop μ-loop
+mul-entries c = search needs
+
+array-set-from-entries : tie.Need-array-set-from-entries Inv-loop μ-loop
+array-set-from-entries c = search needs
+
+add-at : tie.Need-add-at Inv-loop μ-loop
+add-at c =
+    omega (
+      arith,
+      size-here (c .before .before .before .before .before .before .before .before .before .args .frame) (c .before .before .before .before .before .before .loop .at) (c .before .before .before .before .before .before .before .before .before .args .bytes .now) (c .before .before .before .read-entry .result) (c .before .one .given .0 .0) (c .before .one .given .0 .1 .0) (c .before .before .before .before .before .before .loop .inv .inside) (c .before .before .before .read-entry .ensures) (c .before .one .given .1),
+      c .before .before .before .before .before .before .before .before .before .good,
+    )
+
+enum-known-one-2 : tie.Need-enum-known-one-2 Inv-loop μ-loop
+enum-known-one-2 c = search needs
+
+turned-back-requires : tie.Need-turned-back-requires Inv-loop μ-loop
+turned-back-requires c κs = search needs
+
+returns : tie.Need-returns Inv-loop μ-loop
+returns c =
+    let o = turned (c .before .before .before .before .before .before .before .loop .inv) (c .before .before .before .before .read-entry .result) _ (c .before .before .before .before .before .before .loop-test .taken) (c .before .before .before .before .read-entry .ensures) (c .before .before .one2 .given .1) in
+    answers-refused _ _ _ (c .turned-back .ensures) (body-turned (c .before .before .before .before .before .before .before .before .before .before .args .bytes .now) _ _ (c .before .before .before .before .before .before .before .before .before .before .pre .2) (c .before .before .before .before .before .before .before .before .before .before .pre .3) _ o)
+
+add-i : tie.Need-add-i Inv-loop μ-loop
+add-i c = search needs
+
+loop-less : tie.Need-loop-less Inv-loop μ-loop
+loop-less c = search needs
+
+loop-again : tie.Need-loop-again Inv-loop μ-loop
+loop-again c = next (c .before .before .before .before .before .before .loop .inv) (c .before .before .before .read-entry .result) _ _ (c .before .before .before .before .before .before .before .before .before .pre .1) (c .before .before .before .before .before .loop-test .taken) (c .before .before .before .read-entry .ensures) (c .before .one .given .1)
+
+turned-back-requires-2 : tie.Need-turned-back-requires-2 Inv-loop μ-loop
+turned-back-requires-2 c κs = search needs
+
+returns-2 : tie.Need-returns-2 Inv-loop μ-loop
+returns-2 c =
+    let o = done (c .before .before .before .loop .inv) (c .before .before .loop-test .left) in
+    answers-refused _ _ _ (c .turned-back2 .ensures) (body-left (c .before .before .before .before .before .before .args .bytes .now) _ _ (c .before .before .before .before .before .before .pre .2) (c .before .before .before .before .before .before .pre .3) _ _ o (c .before .if1 .taken))
+
+returns-3 : tie.Need-returns-3 Inv-loop μ-loop
+returns-3 c =
+    let s = c .before .before .loop .inv in
+    let o = done s (c .before .loop-test .left) in
+    answers-list _ _ (body-done (c .before .before .before .before .before .args .bytes .now) _ _ (c .before .before .before .before .before .pre .2) (c .before .before .before .before .before .pre .3) _ _ o (c .if1 .left) ∙ ap answered (sym (list-is s (c .before .before .before .before .before .pre .1) (c .before .loop-test .left))))
+
+pub read-body-spec : {M : Type 1} → statement M
+read-body-spec =
+    tie.close
+    (tie.spec
+    Inv-loop
+    μ-loop
+    blank-entry-requires
+    loop-holds
+    sub-read-entry
+    part-read-entry-start
+    part-read-entry-end
+    read-entry-requires
+    enum-known-one
+    mul-entries
+    array-set-from-entries
+    add-at
+    enum-known-one-2
+    turned-back-requires
+    returns
+    add-i
+    loop-less
+    loop-again
+    turned-back-requires-2
+    returns-2
+    returns-3)

@@ -1,0 +1,14 @@
+-- `reader::turned_back` meets its contract.
+-- Assumes nothing.
+use borrow.Author.Needs.{needs}
+use Rattle.list.proofs.reader.turned_back.Statement.{statement}
+use Rattle.list.proofs.reader.turned_back.Tie as tie
+
+blank-entry-requires : tie.Need-blank-entry-requires
+blank-entry-requires c κs = search needs
+
+returns : tie.Need-returns
+returns c = rw (c .blank-entry .ensures)
+
+pub turned-back-spec : {M : Type 1} → statement M
+turned-back-spec = tie.close (tie.spec blank-entry-requires returns)
