@@ -26,7 +26,7 @@ fresh() {
     # shellcheck disable=SC2016
     printf '#!/usr/bin/env bash\n! [ -f "$0.$1" ] || . "$0.$1"\n' | tee "$room/bin/rt" >"$room/bin/cargo"
     chmod +x "$room/bin/rt" "$room/bin/cargo"
-    fake rt fmt "printf '9 passed, 0 failed\n8\r7 passed, 0 failed\n'"
+    fake rt fmt "printf '9 passed, 0 failed\n8\r7 passed, 0 failed\n'; echo 6 passed, 0 failed >&2"
     fake rt ci "echo '3 passed, 0 failed'"
     tests 0 4 4 0 0 0 0
 }
@@ -36,7 +36,7 @@ hold() { # STATUS LAST WHAT
     local want=1
     [[ $2 != *', 0 failed' ]] || want=0
     [ "$1" -ne "$want" ] || [ "$(tail -n 1 "$room/log")" != "$2" ] ||
-        [ "$(grep -cE '^[0-9]+ passed, [0-9]+ failed' "$room/log")" -ne 1 ] || return 0
+        [ "$(tr '\r' '\n' <"$room/log" | grep -cE '^[0-9]+ passed, [0-9]+ failed')" -ne 1 ] || return 0
     printf "WRONG: %s: exit status %s; the one closing line must be '%s' and come last:\n" "$3" "$1" "$2"
     cat "$room/log"
     wrong=$((wrong + 1))

@@ -10,6 +10,11 @@ fn refusing(refusal: &Refusal) -> Answer {
     Answer { number, carried: [carries, 0, 0] }
 }
 
+/// The number of an answer, 0 for a success.
+pub fn number<T>(answer: &Result<T, Refusal>) -> usize {
+    answer.as_ref().map_or_else(|refusal| refusal.code().0 as usize, |_| 0)
+}
+
 /// Reads with both programs. Answer and fields must be alike, a refusal must leave the fields as they were,
 /// and what is accepted must be written back byte for byte.
 #[track_caller]

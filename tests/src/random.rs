@@ -12,7 +12,7 @@ impl Random {
         Random(seed)
     }
 
-    pub fn next(&mut self) -> u64 {
+    pub fn any(&mut self) -> u64 {
         self.0 = self.0.wrapping_add(0x9E37_79B9_7F4A_7C15);
         let mixed = (self.0 ^ self.0 >> 30).wrapping_mul(0xBF58_476D_1CE4_E5B9);
         let mixed = (mixed ^ mixed >> 27).wrapping_mul(0x94D0_49BB_1331_11EB);
@@ -21,7 +21,7 @@ impl Random {
 
     /// A number below `end`, which is not 0.
     pub fn below(&mut self, end: usize) -> usize {
-        (self.next() % end as u64) as usize
+        (self.any() % end as u64) as usize
     }
 
     /// A number from `low` to `high`, both included.
@@ -39,7 +39,7 @@ impl Random {
     }
 
     fn wide(&mut self) -> u32 {
-        let any = self.next() as u32;
+        let any = self.any() as u32;
         self.pick(&[0, 1, any % 4, any, u32::MAX])
     }
 }
@@ -82,7 +82,7 @@ pub fn damaged(random: &mut Random) -> Vec<u8> {
 fn damage(random: &mut Random, bytes: &mut Vec<u8>) {
     let end = bytes.len();
     let at = random.below(end + 1);
-    let byte = random.next() as u8;
+    let byte = random.any() as u8;
     match random.below(7) {
         0 if at < end => bytes[at] = byte,
         1 if at < end => bytes[at] ^= 1 << (byte % 8),
@@ -95,13 +95,13 @@ fn damage(random: &mut Random, bytes: &mut Vec<u8>) {
     }
 }
 
-/// A flat value that may break any rule: a list with some of its numbers changed, or only noise.
+/// A flat value that may break any rule: a list, often with noise behind it, with up to three numbers changed.
 pub fn wild_fields(random: &mut Random) -> Fields {
     let day = any_day(random);
     let mut fields = flat::of_day(&day);
     if random.once_in(2) {
         let n = 2 + WIDTH * day.entries.len();
-        fields[n..].fill_with(|| random.next() as u32);
+        fields[n..].fill_with(|| random.any() as u32);
     }
     for _ in 0..random.below(4) {
         let used = 2 + WIDTH * (day.entries.len() + 1).min(MOST_ENTRIES);
@@ -112,6 +112,6 @@ pub fn wild_fields(random: &mut Random) -> Fields {
 
 fn wild_number(random: &mut Random, h: u16) -> u32 {
     let h = u32::from(h);
-    let any = random.next() as u32;
+    let any = random.any() as u32;
     random.pick(&[0, 1, h - 1, h, h + 1, 64, 65, 255, 256, 1441, 65_535, 65_536, 65_536 + h, any % 1500, any])
 }

@@ -52,12 +52,12 @@ pub fn longest() -> Day {
         let i = i as u32;
         let r = 1 + 20 * i as u16;
         Entry {
-            serial: 0x0403_0201 * (i + 1),
+            serial: 0x0104_0302 * (i + 1),
             seal: Some(i),
             r,
             d: r + 20,
             p: 1 + i as u16 % 20,
-            whole: i % 3 == 0,
+            whole: i % 3 == 1,
         }
     };
     Day { h: LONGEST_DAY, entries: (0..MOST_ENTRIES).map(entry).collect() }

@@ -1,7 +1,6 @@
 //! Damaged inputs, held against the second reader: number, what it carries, and the fields.
 
 use dock_tests::check;
-use dock_tests::day::{Day, Refusal};
 use dock_tests::random::{self, Random};
 use dock_tests::samples;
 
@@ -54,17 +53,12 @@ fn every_change_of_one_byte_of_a_longest_list() {
     every_change(samples::inputs().swap_remove(4));
 }
 
-/// The number of an answer, 0 for an accepted input.
-fn number(answer: &Result<Day, Refusal>) -> usize {
-    answer.as_ref().map_or_else(|refusal| refusal.code().0 as usize, |_| 0)
-}
-
 #[test]
 fn a_hundred_thousand_damaged_lists() {
     let mut random = Random::new(1);
     let mut seen = [0; 9];
     for _ in 0..100_000 {
-        seen[number(&check::read(&random::damaged(&mut random)))] += 1;
+        seen[check::number(&check::read(&random::damaged(&mut random)))] += 1;
     }
     assert!(seen.iter().all(|&times| times > 500), "too few of an answer: {seen:?}");
 }

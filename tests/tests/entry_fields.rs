@@ -13,6 +13,11 @@ fn one(r: Option<u16>, d: Option<u16>, p: u16) -> Vec<u8> {
     list(100, &[minutes(r, d, p)])
 }
 
+/// An entry for each rule that it can break in a day of 100 minutes, with the refusal's number.
+fn wrong_entries() -> [(Written, u32); 3] {
+    [(minutes(Some(0), None, 1), 5), (minutes(None, None, 0), 6), (minutes(None, None, 101), 7)]
+}
+
 #[track_caller]
 fn window(bytes: &[u8]) -> (u16, u16, u16) {
     let day = accepted(bytes);
@@ -110,8 +115,7 @@ fn a_day_of_one_minute() {
 #[test]
 fn a_refusal_carries_the_place_of_its_entrys_map_byte() {
     let wide = Written { seal: Some(1), r: Some(1), d: Some(99), ..SHORT };
-    let wrong = [(minutes(Some(0), None, 1), 5), (minutes(None, None, 0), 6), (minutes(None, None, 101), 7)];
-    for (entry, number) in wrong {
+    for (entry, number) in wrong_entries() {
         refused(&list(100, &[entry, SHORT]), number, 3);
         refused(&list(100, &[SHORT, entry]), number, 10);
         refused(&list(100, &[wide, entry]), number, 18);
@@ -121,9 +125,8 @@ fn a_refusal_carries_the_place_of_its_entrys_map_byte() {
 
 #[test]
 fn the_first_wrong_entry_is_told_whatever_its_number() {
-    let wrong = [(minutes(Some(0), None, 1), 5), (minutes(None, None, 0), 6), (minutes(None, None, 101), 7)];
-    for (first, number) in wrong {
-        for (second, _) in wrong {
+    for (first, number) in wrong_entries() {
+        for (second, _) in wrong_entries() {
             refused(&list(100, &[SHORT, first, second]), number, 10);
         }
     }
@@ -131,10 +134,8 @@ fn the_first_wrong_entry_is_told_whatever_its_number() {
 
 #[test]
 fn a_wrong_entry_comes_before_bytes_left_over() {
-    for entry in [minutes(Some(0), None, 1), minutes(None, None, 0), minutes(None, None, 101)] {
-        let bytes = list(100, &[entry]);
-        let number = check::read(&bytes).unwrap_err();
-        assert_eq!(check::read(&[bytes, vec![0]].concat()), Err(number));
+    for (entry, number) in wrong_entries() {
+        refused(&[list(100, &[entry]), vec![0]].concat(), number, 3);
     }
 }
 

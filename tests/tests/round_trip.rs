@@ -16,20 +16,22 @@ fn there_and_back(day: &Day) {
     assert_eq!(check::accepted(form), *day);
 }
 
-#[test]
-fn small_lists() {
-    let mut random = Random::new(3);
-    for _ in 0..20_000 {
-        there_and_back(&random::day(&mut random, 4));
+/// Random lists of at most `most` entries.
+fn random_lists(seed: u64, times: usize, most: usize) {
+    let mut random = Random::new(seed);
+    for _ in 0..times {
+        there_and_back(&random::day(&mut random, most));
     }
 }
 
 #[test]
+fn small_lists() {
+    random_lists(3, 20_000, 4);
+}
+
+#[test]
 fn lists_of_any_length() {
-    let mut random = Random::new(4);
-    for _ in 0..5_000 {
-        there_and_back(&random::day(&mut random, MOST_ENTRIES));
-    }
+    random_lists(4, 5_000, MOST_ENTRIES);
 }
 
 #[test]

@@ -6,3 +6,8 @@ pub mod Walk
 pub mod CheckCases
 pub mod ReadCases
 pub mod Inversion
+pub mod Stores
+pub mod FormCases
+pub mod FieldTrip
+pub mod EntryTrip
+pub mod WriteCases

@@ -1,13 +1,17 @@
--- The bit meanings of all 256 map bytes, by one computed test: the legal ones are the eight pairs k and k + 32 that code names.
+-- The bit meanings of all 256 map bytes, by computed tests: the legal ones are the eight pairs k and k + 32 that code names, and each is the map byte of its fields.
 -- Assumes nothing.
 use mathlib.Core.Path.{_≡_, refl, _∙_, sym}
-use mathlib.Core.Bool.{Bool, true, false, cond, _||_, Bool·beq}
+use mathlib.Core.Bool.{Bool, true, false, cond, not, _||_, Bool·beq}
 use mathlib.Core.List.{List, [], _∷_}
 use mathlib.Core.Logic.{_⊎_, inl, inr}
 use Prim.Native.Nat.{ℕ, _+_, _<_}
-use borrow.Author.Tests.{ne-eqb}
+use borrow.Author.Tests.{ne-eqb, eqb-true}
 use lib.Dec.{eqb}
-use Rattle.list.specs.Maps.{bit, kindOf, legalMap, mapRead}
+use Rattle.list.specs.Maps.{bit, kindOf, legalMap, fieldsOf, mapRead}
+use Rattle.list.specs.Entries.{kindBit}
+use Rattle.list.specs.declared.types.Kind.{Kind}
+use Rattle.list.specs.declared.types.Kind.the-variants.{Pause, Whole}
+use Rattle.list.specs.declared.map.Fields.{Fields}
 use Rattle.list.specs.declared.map.MapAnswer.{MapAnswer}
 use Rattle.list.specs.declared.map.MapAnswer.the-variants.{Breaks, Follow}
 use Rattle.list.proofs.Table.{all, at}
@@ -52,3 +56,33 @@ following s r d b = Follow (record { seal = s; r = r; d = d; kind = kindOf (bit 
 pub named : (b k : ℕ) (s r d : Bool) → following s r d k ≡ mapRead k → following s r d (k + 32) ≡ mapRead (k + 32) → (b ≡ k) ⊎ (b ≡ k + 32) → following s r d b ≡ mapRead b
 named b k s r d p q (inl e) = rw e p
 named b k s r d p q (inr e) = rw e q
+
+-- the map byte of these fields
+abbrev pub mapFor : Fields → ℕ
+mapFor m = 17 + cond (m .seal) 2 0 + cond (m .r) 4 0 + cond (m .d) 8 0 + kindBit (m .kind)
+
+-- a legal byte is the map byte of its fields; below, the map byte of fields says those fields
+pub map-form : (b : ℕ) → b < 256 → legalMap b ≡ true → mapFor (fieldsOf b) ≡ b
+map-form b h e =
+    eqb-true _ _ (simp e at (at 256 (λ k. not (legalMap k) || eqb (mapFor (fieldsOf k)) k) refl b h))
+
+flags-back : (s r d : Bool) (k : Kind) → let m : Fields = record { seal = s; r = r; d = d; kind = k } in mapRead (mapFor m) ≡ Follow m
+flags-back true true true Pause = refl
+flags-back true true true Whole = refl
+flags-back true true false Pause = refl
+flags-back true true false Whole = refl
+flags-back true false true Pause = refl
+flags-back true false true Whole = refl
+flags-back true false false Pause = refl
+flags-back true false false Whole = refl
+flags-back false true true Pause = refl
+flags-back false true true Whole = refl
+flags-back false true false Pause = refl
+flags-back false true false Whole = refl
+flags-back false false true Pause = refl
+flags-back false false true Whole = refl
+flags-back false false false Pause = refl
+flags-back false false false Whole = refl
+
+pub map-back : (m : Fields) → mapRead (mapFor m) ≡ Follow m
+map-back m = flags-back (m .seal) (m .r) (m .d) (m .kind)

@@ -100,10 +100,10 @@ kindBit Whole = 32
 abbrev pub mapOf : Frame → Entry → ℕ
 mapOf f e = 17 + sealBit (e .seal) + cond (eqb (e .r) (defaultR f)) 0 4 + cond (eqb (e .d) (defaultD f)) 0 8 + kindBit (e .kind)
 
+-- r, d and p
+abbrev pub timesBytes : Frame → Entry → List ℕ
+timesBytes f e = minuteBytes (e .r) (defaultR f) ++ (minuteBytes (e .d) (defaultD f) ++ u16Bytes (e .p))
+
 -- an entry's one form
 unfoldable pub entryBytes : Frame → Entry → List ℕ
-entryBytes f e =
-    mapOf f e
-    ∷ (u32Bytes (e .serial)
-    ++ (sealBytes (e .seal)
-    ++ (minuteBytes (e .r) (defaultR f) ++ (minuteBytes (e .d) (defaultD f) ++ u16Bytes (e .p)))))
+entryBytes f e = mapOf f e ∷ (u32Bytes (e .serial) ++ (sealBytes (e .seal) ++ timesBytes f e))

@@ -4,6 +4,7 @@
 mod bytes;
 mod checks;
 mod entry;
+mod form;
 mod map;
 mod reader;
 pub mod types;
@@ -11,4 +12,4 @@ mod writer;
 
 pub use checks::check;
 pub use reader::read;
-// pub use writer::write;
+pub use writer::write;

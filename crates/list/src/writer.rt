@@ -1,1 +1,71 @@
-// writer
+// Writing a list's one form.
+use crate::bytes::put_u16;
+use crate::checks::check;
+use crate::form::entry_size;
+use crate::form::put_entry;
+use crate::types::DayList;
+use crate::types::Refusal;
+use crate::types::Verdict;
+use crate::types::WriteAnswer;
+ghost use mathlib.Core.Path.{_≡_};
+ghost use Prim.Native.Nat.{_≤_};
+ghost use lib.ListN.{length};
+ghost use lib.Seq.{sets};
+ghost use Rattle.list.specs.Checks.{WellFormed};
+ghost use Rattle.list.specs.Writing.{bytesOf, Writes};
+
+// The bytes of a list's one form.
+fn list_size(list: DayList) -> usize
+    requires { ⌜ list .n ≤ 64 ⌝ }
+    ensures { λ k. ⌜ k ≡ length (bytesOf list) ⌝ }
+{
+    let n = list.n as usize;
+    let mut size: usize = 3;
+    let mut i: usize = 0;
+    while i < n {
+        size += entry_size(list.frame, list.entries[i]);
+        i += 1;
+    }
+    size
+}
+
+// A list's one form, at the start of the buffer.
+fn put_list(list: DayList, out: &mut [u8])
+    requires { ⌜ (list .n ≤ 64) × (length (bytesOf list) ≤ length (now out)) ⌝ }
+    ensures { λ _. ⌜ now (out .exit) ≡ sets (now (out .entry)) 0 (bytesOf list) ⌝ }
+{
+    let n = list.n as usize;
+    let frame = list.frame;
+    put_u16(out, 0, frame.h);
+    out[2] = list.n;
+    let mut at: usize = 3;
+    let mut i: usize = 0;
+    while i < n {
+        at = put_entry(out, at, frame, list.entries[i]);
+        i += 1;
+    }
+}
+
+// The value checks, then 12, else the one form.
+pub fn write(list: DayList, out: &mut [u8]) -> WriteAnswer
+    ensures { λ a. ⌜ Writes list (now (out .entry)) a (now (out .exit)) ⌝ }
+{
+    let verdict = check(list);
+    match verdict {
+        Verdict::Accepted => write_checked(list, out),
+        Verdict::Refused(x) => WriteAnswer::NotWritten(x),
+    }
+}
+
+// Row 12, else the one form of a well-formed list.
+fn write_checked(list: DayList, out: &mut [u8]) -> WriteAnswer
+    requires { ⌜ WellFormed list ⌝ }
+    ensures { λ a. ⌜ Writes list (now (out .entry)) a (now (out .exit)) ⌝ }
+{
+    let size = list_size(list);
+    if out.len() < size {
+        return WriteAnswer::NotWritten(Refusal::ListBufferShort(size));
+    }
+    put_list(list, out);
+    WriteAnswer::Written(size)
+}

@@ -1,0 +1,284 @@
+-- One entry, both ways: an entry without a fault is read back from its one form, and bytes that are taken are the one form of the entry read.
+-- Also what a refusal carries, and that an entry without a fault has none at any place.
+-- Assumes nothing.
+use mathlib.Core.Path.{_≡_, refl, sym, ap, subst, _∙_}
+use mathlib.Core.Bool.{Bool, true, false, cond, not, _&&_, _||_, false≢true, not-and-self}
+use mathlib.Core.List.{List, [], _∷_, _++_, append-assoc}
+use Prim.Native.Nat.{ℕ, _+_, _^_, _≤_, _<_}
+use native.Mathlib.Nat.{add-zero}
+use native.Mathlib.Omega.{arith}
+use borrow.Author.Tests.{ltb-false, eqb-true, eqb-false, le-ltb, eq-eqb, ne-eqb, not-false}
+use lib.Dec.{eqb, ltb}
+use lib.ListN.{length, getD, drop, length-append}
+use Rattle.list.specs.Outcomes.{Code, code, Outcome, answered, refused, andThen}
+use Rattle.list.specs.Numbers.{u16At, u32At, u16Bytes, u32Bytes}
+use Rattle.list.specs.Maps.{legalMap, fieldsOf, rPlace, dPlace, pPlace, sizeOf, mapRead}
+use Rattle.list.specs.Entries.{defaultR, defaultD, sealOf, entryAt, entryFault, entryOf, fieldsEntry, defaultWritten, minuteBytes, sealBytes, sealBit, mapOf, entryBytes}
+use Rattle.list.specs.declared.types.Seal.{Seal}
+use Rattle.list.specs.declared.types.Seal.the-variants.{Missing, Number}
+use Rattle.list.specs.declared.types.Entry.{Entry}
+use Rattle.list.specs.declared.types.Frame.{Frame}
+use Rattle.list.specs.declared.types.Verdict.the-variants.{Accepted}
+use Rattle.list.specs.declared.map.Fields.{Fields}
+use Rattle.list.specs.declared.map.MapAnswer.the-variants.{Follow}
+use Rattle.list.proofs.FieldTrip.{Bytes, past-field, u16-read, u32-read, u32-small, byte-stands, u16-stands, u32-stands}
+use Rattle.list.proofs.MapBytes.{mapFor, map-form, map-back}
+use Rattle.list.proofs.EntryCases.{entry-is, entry-legal, fields-taken}
+
+-- what holds of a row's refusal, and of the rows after it, holds of the table
+pub by-row : {A : Type 0} (Q : Outcome A → Type 0) (t : Bool) (k : Code) (o : Outcome A) → (t ≡ true → Q (refused k)) → (t ≡ false → Q o) → Q (cond t (refused k) o)
+by-row Q true k o p q = p refl
+by-row Q false k o p q = q refl
+
+neither : (a b : Bool) → a || b ≡ false → (a ≡ false) × (b ≡ false)
+neither true b e = absurd (false≢true (sym e))
+neither false b e = (refl, e)
+
+-- what rows 6 and 7 leave
+record Sound (f : Frame) (e : Entry) : Type 0 where
+  some-minutes : 1 ≤ e .p
+  in-day : e .d ≤ f .h
+  room : e .r + e .p ≤ e .d
+
+-- a refusal other than 1 that carries the place at
+record Inside (at : ℕ) (k : Code) : Type 0 where
+  carried : k .carries ≡ at ∷ []
+  other : k .number ≡ 1 → ⊥
+
+inside : (n at : ℕ) → (n ≡ 1 → ⊥) → Inside at (code n (at ∷ []))
+inside n at h = record { carried = refl; other = h }
+
+module _ (f : Frame) (at : ℕ) (e : Entry) where
+  abbrev Faulted : Outcome (Unit {0}) → Type 0
+  Faulted (answered u) = Sound f e
+  Faulted (refused k) = Inside at k
+
+  fault-cases : Faulted (entryFault f at e)
+  unfolding entryFault
+  fault-cases =
+      by-row Faulted (eqb (e .p) 0) _ _ (λ t. inside 6 at (omega arith))
+      (λ p. by-row Faulted (ltb (f .h) (e .d) || ltb (e .d) (e .r + e .p)) _ _ (λ t. inside 7 at (omega arith))
+      (λ w.
+      let z = neither _ _ w in
+      record { some-minutes = omega (arith, eqb-false (e .p) 0 p); in-day = ltb-false _ _ (z .0); room = ltb-false _ _ (z .1) }))
+
+  sound-of : entryFault f at e ≡ answered tt → Sound f e
+  sound-of h = subst Faulted h fault-cases
+
+  faultless : Sound f e → entryFault f at e ≡ answered tt
+  unfolding entryFault
+  faultless s =
+      let p : e .p ≡ 0 → ⊥ = omega arith in
+      simp (ne-eqb _ _ p, le-ltb _ _ (s .in-day), le-ltb _ _ (s .room))
+
+pub fault-anywhere : (f : Frame) (a b : ℕ) (e : Entry) → entryFault f a e ≡ answered tt → entryFault f b e ≡ answered tt
+fault-anywhere f a b e h = faultless f b e (sound-of f a e h)
+
+-- the seal's number, if it is one, fits its four bytes
+abbrev pub SealFits : Seal → Type 0
+SealFits Missing = Unit {0}
+SealFits (Number x) = x < 2 ^ 32
+
+abbrev numbered : Seal → Bool
+numbered Missing = false
+numbered (Number x) = true
+
+-- the fields that an entry's one form has
+abbrev fieldsFor : Frame → Entry → Fields
+fieldsFor f e =
+    record {
+      seal = numbered (e .seal);
+      r = not (eqb (e .r) (defaultR f));
+      d = not (eqb (e .d) (defaultD f));
+      kind = e .kind;
+    }
+
+seal-bit : (s : Seal) → cond (numbered s) 2 0 ≡ sealBit s
+seal-bit Missing = refl
+seal-bit (Number x) = refl
+
+cond-not : (t : Bool) (x : ℕ) → cond (not t) x 0 ≡ cond t 0 x
+cond-not true x = refl
+cond-not false x = refl
+
+map-for : (f : Frame) (e : Entry) → mapFor (fieldsFor f e) ≡ mapOf f e
+map-for f e = simp (seal-bit, cond-not)
+
+-- an entry's one form with bytes after it
+abbrev laid : Frame → Entry → List ℕ → List ℕ
+laid f e rest =
+    mapOf f e
+    ∷ (u32Bytes (e .serial)
+    ++ (sealBytes (e .seal)
+    ++ (minuteBytes (e .r) (defaultR f) ++ (minuteBytes (e .d) (defaultD f) ++ (u16Bytes (e .p) ++ rest)))))
+
+laid-out : (f : Frame) (e : Entry) (rest : List ℕ) → entryBytes f e ++ rest ≡ laid f e rest
+unfolding entryBytes
+laid-out f e rest = simp append-assoc
+
+seal-length : (s : Seal) → length (sealBytes s) ≡ cond (numbered s) 4 0
+seal-length Missing = refl
+seal-length (Number x) = refl
+
+optional-length : (x : ℕ) (t : Bool) → length (cond t [] (u16Bytes x)) ≡ cond (not t) 2 0
+optional-length x true = refl
+optional-length x false = refl
+
+minute-length : (x x₀ : ℕ) → length (minuteBytes x x₀) ≡ cond (not (eqb x x₀)) 2 0
+minute-length x x₀ = optional-length x (eqb x x₀)
+
+size-for : (f : Frame) (e : Entry) → sizeOf (fieldsFor f e) ≡ length (entryBytes f e)
+unfolding entryBytes
+size-for f e = simp (length-append, seal-length, minute-length) (omega arith)
+
+module _ (bs : List ℕ) (i : ℕ) (tail : List ℕ) where
+  seal-read : (s : Seal) → SealFits s → drop i bs ≡ sealBytes s ++ tail → s ≡ sealOf (numbered s) (u32At bs i)
+  seal-read Missing h e = refl
+  seal-read (Number x) h e = ap Number (sym (u32-read bs i x tail h e))
+
+  minute-read : (x x₀ : ℕ) → x < 65536 → (t : Bool) → eqb x x₀ ≡ t → drop i bs ≡ cond t [] (u16Bytes x) ++ tail → x ≡ cond (not t) (u16At bs i) x₀
+  minute-read x x₀ h true q e = eqb-true _ _ q
+  minute-read x x₀ h false q e = sym (u16-read bs i x tail h e)
+
+entry-back : (f : Frame) (e : Entry) (rest : List ℕ) → f .h < 65536 → e .serial < 2 ^ 32 → SealFits (e .seal) → Sound f e → e ≡ entryAt f (fieldsFor f e) (laid f e rest)
+entry-back f e rest h serial seal s =
+    let m = fieldsFor f e in
+    let bs = laid f e rest in
+    let r-here = past-field bs 5 (sealBytes (e .seal)) _ _ (seal-length (e .seal)) refl in
+    let d-here = past-field bs (rPlace m) (minuteBytes (e .r) (defaultR f)) _ _ (minute-length (e .r) (defaultR f)) r-here in
+    let p-here = past-field bs (dPlace m) (minuteBytes (e .d) (defaultD f)) _ _ (minute-length (e .d) (defaultD f)) d-here in
+    entry-is f m bs _ _ _ _ _ _ _ _ _ _
+    (sym (u32-read bs 1 (e .serial) _ serial refl))
+    (seal-read bs 5 _ (e .seal) seal refl)
+    (minute-read bs (rPlace m) _ (e .r) (defaultR f) (omega arith) _ refl r-here) refl refl
+    (minute-read bs (dPlace m) _ (e .d) (defaultD f) (omega arith) _ refl d-here) refl refl
+    (sym (u16-read bs (pPlace m) (e .p) _ (omega arith) p-here)) refl
+
+pub entry-reads-back : (f : Frame) (at : ℕ) (e : Entry) (rest : List ℕ) → f .h < 65536 → e .serial < 2 ^ 32 → SealFits (e .seal) → entryFault f at e ≡ answered tt
+    → entryOf f at (entryBytes f e ++ rest) ≡ answered (e, length (entryBytes f e))
+entry-reads-back f at e rest h serial seal ok =
+    let m = fieldsFor f e in
+    let bs = laid f e rest in
+    let long : sizeOf m ≤ length bs = omega (arith, size-for f e, length-append (entryBytes f e) rest, ap length (laid-out f e rest)) in
+    let first : mapRead (getD bs 0 0) ≡ Follow m = rw (← map-for) (map-back m) in
+    rw laid-out (sym
+    (fields-taken f at m bs e Accepted (entry-back f e rest h serial seal (sound-of f at e ok)) long (simp not-and-self) (sym ok) _ (sym (size-for f e)) refl
+    ∙ entry-legal f at bs m (omega arith) first))
+
+-- a minute that is not a written default: its field follows again exactly if it did
+written-again : (w : Bool) (x x₀ : ℕ) → w && eqb (cond w x x₀) x₀ ≡ false → not (eqb (cond w x x₀) x₀) ≡ w
+written-again true x x₀ e = rw e
+written-again false x x₀ e = rw (eq-eqb x₀ x₀ refl)
+
+numbered-again : (w : Bool) (x : ℕ) → numbered (sealOf w x) ≡ w
+numbered-again true x = refl
+numbered-again false x = refl
+
+module _ (bs : List ℕ) (b : Bytes bs) (i : ℕ) where
+  minute-stands : (w : Bool) (x₀ : ℕ) → i + cond w 2 0 ≤ length bs → w && eqb (cond w (u16At bs i) x₀) x₀ ≡ false
+      → drop i bs ≡ minuteBytes (cond w (u16At bs i) x₀) x₀ ++ drop (i + cond w 2 0) bs
+  minute-stands true x₀ l e = simp e (u16-stands bs b i l)
+  minute-stands false x₀ l e = simp (eq-eqb x₀ x₀ refl, add-zero)
+
+  seal-stands : (w : Bool) → i + cond w 4 0 ≤ length bs → drop i bs ≡ sealBytes (sealOf w (u32At bs i)) ++ drop (i + cond w 4 0) bs
+  seal-stands true l = u32-stands bs b i l
+  seal-stands false l = simp add-zero
+
+  seal-fits : (w : Bool) → SealFits (sealOf w (u32At bs i))
+  seal-fits true = u32-small bs b i
+  seal-fits false = tt
+
+module _ (f : Frame) (m : Fields) (bs : List ℕ) (r-kept : m .r && eqb (entryAt f m bs .r) (defaultR f) ≡ false) (d-kept : m .d && eqb (entryAt f m bs .d) (defaultD f) ≡ false) where
+  fields-again : fieldsFor f (entryAt f m bs) ≡ m
+  unfolding entryAt
+  fields-again =
+      rw (numbered-again, written-again (m .r) (u16At bs (rPlace m)) (defaultR f) r-kept, written-again (m .d) (u16At bs (dPlace m)) (defaultD f) d-kept)
+
+  entry-stands : Bytes bs → sizeOf m ≤ length bs → mapOf f (entryAt f m bs) ≡ getD bs 0 0 → bs ≡ laid f (entryAt f m bs) (drop (sizeOf m) bs)
+  unfolding entryAt
+  entry-stands b l q =
+      byte-stands bs 0 (omega arith)
+      ∙ rw (
+        q,
+        ← u16-stands bs b (pPlace m) l,
+        ← minute-stands bs b (dPlace m) (m .d) (defaultD f) (omega arith) d-kept,
+        ← minute-stands bs b (rPlace m) (m .r) (defaultR f) (omega arith) r-kept,
+        ← seal-stands bs b 5 (m .seal) (omega arith),
+        ← u32-stands bs b 1 (omega arith),
+      )
+
+-- what bytes are of which the first s are taken as the entry e
+pub record OneForm (f : Frame) (at : ℕ) (bs : List ℕ) (e : Entry) (s : ℕ) : Type 0 where
+  pub form : bs ≡ entryBytes f e ++ drop s bs
+  pub size : s ≡ length (entryBytes f e)
+  pub within : s ≤ length bs
+  pub sound : entryFault f at e ≡ answered tt
+  pub serial : e .serial < 2 ^ 32
+  pub seal : SealFits (e .seal)
+
+-- what a refusal of bytes from the place at on carries: 1 the input's length, the others at, where a byte stands
+pub record TurnedAt (at : ℕ) (bs : List ℕ) (k : Code) : Type 0 where
+  pub place : ℕ
+  pub carried : k .carries ≡ place ∷ []
+  pub at-end : k .number ≡ 1 → place ≡ at + length bs
+  pub at-entry : (k .number ≡ 1 → ⊥) → (place ≡ at) × (1 ≤ length bs)
+
+module _ (f : Frame) (at : ℕ) (bs : List ℕ) where
+  abbrev Read : Outcome (Entry × ℕ) → Type 0
+  Read (answered x) = Bytes bs → OneForm f at bs (x .0) (x .1)
+  Read (refused k) = TurnedAt at bs k
+
+  ended : TurnedAt at bs (code 1 ((at + length bs) ∷ []))
+  ended = record { place = at + length bs; carried = refl; at-end = λ n. refl; at-entry = λ n. absurd (n refl) }
+
+  entered : (k : Code) → 1 ≤ length bs → Inside at k → TurnedAt at bs k
+  entered k h i = record { place = at; carried = i .carried; at-end = λ n. absurd (i .other n); at-entry = λ n. (refl, h) }
+
+  -- the fields and the entry that bs says
+  abbrev m : Fields
+  m = fieldsOf (getD bs 0 0)
+
+  abbrev e : Entry
+  e = entryAt f m bs
+
+  module _ (legal : legalMap (getD bs 0 0) ≡ true) (long : sizeOf m ≤ length bs) (w : defaultWritten f m e ≡ false) where
+    taken : entryFault f at e ≡ answered tt → Bytes bs → OneForm f at bs e (sizeOf m)
+    unfolding entryAt
+    taken q b =
+        let z = neither (m .r && eqb (e .r) (defaultR f)) (m .d && eqb (e .d) (defaultD f)) w in
+        let again : fieldsFor f e ≡ m = fields-again f m bs (z .0) (z .1) in
+        let map : mapOf f e ≡ getD bs 0 0 = sym (map-for f e) ∙ ap mapFor again ∙ map-form (getD bs 0 0) (b 0) legal in
+        record {
+          form = entry-stands f m bs (z .0) (z .1) b long map ∙ sym (laid-out f e (drop (sizeOf m) bs));
+          size = ap sizeOf (sym again) ∙ size-for f e;
+          within = long;
+          sound = q;
+          serial = u32-small bs b 1;
+          seal = seal-fits bs b 5 (m .seal);
+        }
+
+    judged : (o : Outcome (Unit {0})) → entryFault f at e ≡ o → Faulted f at e o → Read (andThen o (λ _. answered (e, sizeOf m)))
+    judged (answered u) q z = taken q
+    judged (refused k) q z = entered k (omega arith) z
+
+  fields-cases : legalMap (getD bs 0 0) ≡ true → 1 ≤ length bs → Read (fieldsEntry f at m bs)
+  unfolding fieldsEntry
+  fields-cases legal h =
+      by-row Read (ltb (length bs) (sizeOf m)) _ _ (λ t. ended)
+      (λ l. by-row Read (defaultWritten f m e) _ _ (λ t. entered _ h (inside 5 at (omega arith)))
+      (λ w. judged legal (ltb-false _ _ l) w (entryFault f at e) refl (fault-cases f at e)))
+
+  entry-cases : Read (entryOf f at bs)
+  unfolding entryOf
+  entry-cases =
+      by-row Read (eqb (length bs) 0) _ _ (λ t. ended)
+      (λ n.
+      let h : 1 ≤ length bs = omega (arith, eqb-false (length bs) 0 n) in
+      by-row Read (not (legalMap (getD bs 0 0))) _ _ (λ t. entered _ h (inside 4 at (omega arith)))
+      (λ t. fields-cases (not-false _ t) h))
+
+pub entry-one-form : (f : Frame) (at : ℕ) (bs : List ℕ) (e : Entry) (s : ℕ) → Bytes bs → entryOf f at bs ≡ answered (e, s) → OneForm f at bs e s
+entry-one-form f at bs e s b h = subst (Read f at bs) h (entry-cases f at bs) b
+
+pub entry-refused-places : (f : Frame) (at : ℕ) (bs : List ℕ) (k : Code) → entryOf f at bs ≡ refused k → TurnedAt at bs k
+entry-refused-places f at bs k h = subst (Read f at bs) h (entry-cases f at bs)

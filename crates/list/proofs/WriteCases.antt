@@ -1,0 +1,130 @@
+-- A list's one form, entry by entry: its length, and the steps that store it.
+-- Assumes nothing.
+use mathlib.Core.Path.{_≡_, refl, sym, ap, _∙_}
+use mathlib.Core.List.{List, [], _∷_, _++_, append-assoc}
+use Prim.Native.Nat.{ℕ, _+_, _*_, _≤_, _<_}
+use native.Mathlib.Nat.{zero-add}
+use native.Mathlib.Omega.{arith}
+use borrow.Author.Tests.{lt-ltb, le-ltb}
+use lib.ListN.{length, getD, take, drop, set, length-append, length-set}
+use lib.Seq.{sets, sets-eq, length-sets}
+use Rattle.list.specs.Outcomes.{Outcome, code, answered, refused, andThen}
+use Rattle.list.specs.Refusals.{codeOf, verdictOf}
+use Rattle.list.specs.Numbers.{u16Bytes}
+use Rattle.list.specs.Entries.{entryBytes}
+use Rattle.list.specs.DayLists.{entriesOf}
+use Rattle.list.specs.Checks.{WellFormed, checkOf, headerFault}
+use Rattle.list.specs.Writing.{Wrote, bytesOfEntries, bytesOf, writeOf, Writes}
+use Rattle.list.specs.declared.types.Entry.{Entry}
+use Rattle.list.specs.declared.types.Frame.{Frame}
+use Rattle.list.specs.declared.types.DayList.{DayList}
+use Rattle.list.specs.declared.types.Refusal.{Refusal}
+use Rattle.list.specs.declared.types.Refusal.the-variants.{ListBufferShort}
+use Rattle.list.specs.declared.types.Verdict.{Verdict}
+use Rattle.list.specs.declared.types.Verdict.the-variants.{Accepted, Refused}
+use Rattle.list.specs.declared.types.WriteAnswer.the-variants.{Written, NotWritten}
+use Rattle.list.proofs.Inversion.{then-answered}
+use Rattle.list.proofs.CheckCases.{header-of}
+use Rattle.list.proofs.Stores.{wrote-length, wrote-more, room-first, room-after}
+use Rattle.list.proofs.FormCases.{entry-short}
+use Rattle.list.proofs.Walk.{walk-next, walk-done}
+
+-- the bytes of the entries from place i on
+abbrev pub restBytes : DayList → ℕ → List ℕ
+restBytes l i = bytesOfEntries (l .frame) (drop i (entriesOf l))
+
+-- i entries were counted
+pub record Counted (l : DayList) (size i : ℕ) : Type 0 where
+  pub passed : i ≤ l .n
+  pub small : size ≤ 3 + 15 * i
+  pub whole : size + length (restBytes l i) ≡ length (bytesOf l)
+
+-- i entries were stored, up to place at, in a buffer that held from after the header
+pub record StoredSoFar (l : DayList) (from out : List ℕ) (at i : ℕ) : Type 0 where
+  pub passed : i ≤ l .n
+  pub long : length out ≡ length from
+  pub room : at + length (restBytes l i) ≤ length out
+  pub rest : sets out at (restBytes l i) ≡ sets from 3 (restBytes l 0)
+
+module _ (l : DayList) (enough : l .n ≤ length (l .entries)) where
+  rest-next : (i : ℕ) (e₀ : Entry) → i < l .n → restBytes l i ≡ entryBytes (l .frame) (getD (l .entries) i e₀) ++ restBytes l (i + 1)
+  unfolding bytesOfEntries
+  rest-next i e₀ h = rw (walk-next (l .entries) (l .n) enough i e₀ h)
+
+  rest-done : (i : ℕ) → l .n ≤ i → restBytes l i ≡ []
+  unfolding bytesOfEntries
+  rest-done i h = rw (walk-done (l .entries) (l .n) enough i h)
+
+  pub counted-next : (size k i : ℕ) (e₀ : Entry) → Counted l size i → i < l .n → k ≡ length (entryBytes (l .frame) (getD (l .entries) i e₀)) → Counted l (size + k) (i + 1)
+  counted-next size k i e₀ c h z =
+      let e = getD (l .entries) i e₀ in
+      let q : length (restBytes l i) ≡ length (entryBytes (l .frame) e) + length (restBytes l (i + 1)) = rw (rest-next i e₀ h) (length-append (entryBytes (l .frame) e) (restBytes l (i + 1))) in
+      record {
+        passed = omega arith;
+        small = omega (arith, c .small, entry-short (l .frame) e);
+        whole = omega (arith, c .whole, q);
+      }
+
+  pub counted-done : (size i : ℕ) → Counted l size i → l .n ≤ i → size ≡ length (bytesOf l)
+  counted-done size i c h = omega (arith, c .whole, ap (λ (bs : List ℕ). length bs) (rest-done i h))
+
+  pub stored-room : (from out : List ℕ) (at i : ℕ) (e₀ : Entry) → StoredSoFar l from out at i → i < l .n → at + length (entryBytes (l .frame) (getD (l .entries) i e₀)) ≤ length out
+  stored-room from out at i e₀ s h = room-first (entryBytes (l .frame) (getD (l .entries) i e₀)) (restBytes l (i + 1)) at (length out) (rw (rest-next i e₀ h) at (s .room))
+
+  pub stored-next : (from out new : List ℕ) (at next i : ℕ) (e₀ : Entry) → StoredSoFar l from out at i → i < l .n → Wrote out at (entryBytes (l .frame) (getD (l .entries) i e₀)) new next → StoredSoFar l from new next (i + 1)
+  stored-next from out new at next i e₀ s h w =
+      record {
+        passed = omega arith;
+        long = wrote-length w ∙ s .long;
+        room = room-after w (restBytes l (i + 1)) (rw (rest-next i e₀ h) at (s .room));
+        rest = wrote-more w (restBytes l (i + 1)) ∙ (rw (rest-next i e₀ h) at (s .rest));
+      }
+
+  pub stored-done : (from out : List ℕ) (at i : ℕ) → StoredSoFar l from out at i → l .n ≤ i → out ≡ sets from 3 (restBytes l 0)
+  stored-done from out at i s h = rw (rest-done i h) at (s .rest)
+
+module _ (l : DayList) where
+  pub list-length : length (bytesOf l) ≡ 3 + length (restBytes l 0)
+  unfolding bytesOf
+  list-length = simp length-append (omega arith)
+
+  pub counted-start : Counted l 3 0
+  counted-start = record { passed = omega arith; small = omega arith; whole = sym list-length }
+
+  -- the header and the entries one after the other
+  pub list-stored : {old o : List ℕ} {next : ℕ} → Wrote old 0 (u16Bytes (l .frame .h)) o next → sets (set o 2 (l .n)) 3 (restBytes l 0) ≡ sets old 0 (bytesOf l)
+  unfolding bytesOf
+  list-stored {old} {o} w = rw (w .stored)
+
+  pub stored-start : (old o : List ℕ) (next : ℕ) → Wrote old 0 (u16Bytes (l .frame .h)) o next → length (bytesOf l) ≤ length old → StoredSoFar l (set o 2 (l .n)) (set o 2 (l .n)) 3 0
+  stored-start old o next w h =
+      record {
+        passed = omega arith;
+        long = refl;
+        room = omega (arith, list-length, wrote-length w, length-set o 2 (l .n));
+        rest = refl;
+      }
+
+  -- a well-formed list has room for its entries
+  pub has-room : WellFormed l → l .n ≤ 64
+  unfolding checkOf
+  has-room w = header-of 0 (l .frame) (l .n) (then-answered (headerFault 0 (l .frame) (l .n)) _ tt w .1) .room
+
+  module _ (old : List ℕ) where
+    pub write-refused : (v : Verdict) (x : Refusal) → verdictOf v ≡ checkOf l → v ≡ Refused x → Writes l old (NotWritten x) old
+    unfolding writeOf
+    write-refused v x w a = let q : checkOf l ≡ refused (codeOf x) = sym w ∙ rw a in record { outcome = rw q; buffer = rw q }
+
+    pub write-short : (size : ℕ) → WellFormed l → size ≡ length (bytesOf l) → length old < size → Writes l old (NotWritten (ListBufferShort size)) old
+    unfolding writeOf
+    write-short size w z h =
+        let k : length old < length (bytesOf l) = omega (arith, z) in
+        let q : writeOf l (length old) ≡ refused (code 12 (length (bytesOf l) ∷ [])) = rw w (simp (lt-ltb _ _ k)) in
+        record { outcome = rw (q, z); buffer = rw q }
+
+    pub write-whole : (size : ℕ) (new : List ℕ) → WellFormed l → size ≡ length (bytesOf l) → size ≤ length old → new ≡ sets old 0 (bytesOf l) → Writes l old (Written size) new
+    unfolding writeOf
+    write-whole size new w z h q₀ =
+        let k : length (bytesOf l) ≤ length old = omega (arith, z) in
+        let q : writeOf l (length old) ≡ answered (length (bytesOf l)) = rw w (simp (le-ltb _ _ k)) in
+        record { outcome = rw (q, z); buffer = rw q (q₀ ∙ sets-eq (bytesOf l) old 0 (omega (arith, z)) ∙ rw zero-add) }

@@ -1,0 +1,83 @@
+-- `writer::put_list` meets its contract. The loop's invariant is `StoredSoFar`: storing the rest gives the whole. The measure is what is
+-- left of n.
+-- Assumes nothing.
+use borrow.Author.Needs.{needs}
+use mathlib.Core.Path.{_≡_, sym, _∙_}
+use Prim.Native.Nat.{_≤_, _-_}
+use native.Mathlib.Omega.{arith}
+use lib.ListN.{length, length-set}
+use Rattle.list.proofs.Walk.{length-mapped}
+use Rattle.list.proofs.Stores.{wrote-length}
+use Rattle.list.proofs.WriteCases.{StoredSoFar, list-length, list-stored, stored-start, stored-room, stored-next, stored-done}
+use Rattle.list.proofs.writer.put_list.Statement.{statement}
+use Rattle.list.proofs.writer.put_list.Tie as tie
+
+abbrev Inv-loop : tie.InvT-loop
+Inv-loop out₀ list n frame at₀ i₀ out at i = StoredSoFar list out₀ out at i
+
+abbrev μ-loop : tie.MeasureT-loop
+μ-loop out₀ list n frame at₀ i₀ out at i = list .n - i
+
+cast-n : tie.Need-cast-n Inv-loop μ-loop
+cast-n c = search needs
+
+put-u16-requires : tie.Need-put-u16-requires Inv-loop μ-loop
+put-u16-requires c κs = omega (arith, c .before .before .before .pre .1, list-length (c .before .before .before .args .t1))
+
+slice-write-out : tie.Need-slice-write-out Inv-loop μ-loop
+slice-write-out c = omega (arith, c .before .before .before .before .before .before .pre .1, list-length (c .before .before .before .before .before .before .args .t1), wrote-length (c .before .before .put-u16 .ensures))
+
+loop-holds : tie.Need-loop-holds Inv-loop μ-loop
+loop-holds c = stored-start (c .before .before .before .before .before .before .args .t1) _ _ _ (c .before .before .put-u16 .ensures) (c .before .before .before .before .before .before .pre .1)
+
+mul-put-entry : tie.Need-mul-put-entry Inv-loop μ-loop
+mul-put-entry c = search needs
+
+element-copy-out-put-entry : tie.Need-element-copy-out-put-entry Inv-loop μ-loop
+element-copy-out-put-entry c = search needs
+
+put-entry-requires : tie.Need-put-entry-requires Inv-loop μ-loop
+put-entry-requires c κs =
+    let len : length (c .before .before .before .before .before .before .before .before .before .before .args .t1 .entries) ≡ 64 = search (needs, length-mapped) in
+    let enough : c .before .before .before .before .before .before .before .before .before .before .args .t1 .n ≤ length (c .before .before .before .before .before .before .before .before .before .before .args .t1 .entries) = omega (arith, len, c .before .before .before .before .before .before .before .before .before .before .pre) in
+    stored-room (c .before .before .before .before .before .before .before .before .before .before .args .t1) enough _ _ _ (c .before .before .before .loop .i) _ (c .before .before .before .loop .inv) (c .before .before .loop-test .taken)
+
+add-i : tie.Need-add-i Inv-loop μ-loop
+add-i c = search needs
+
+loop-less : tie.Need-loop-less Inv-loop μ-loop
+loop-less c = search needs
+
+loop-again : tie.Need-loop-again Inv-loop μ-loop
+loop-again c =
+    let len : length (c .before .before .before .before .before .before .before .before .before .before .before .before .before .args .t1 .entries) ≡ 64 = search (needs, length-mapped) in
+    let enough : c .before .before .before .before .before .before .before .before .before .before .before .before .before .args .t1 .n ≤ length (c .before .before .before .before .before .before .before .before .before .before .before .before .before .args .t1 .entries) = omega (arith, len, c .before .before .before .before .before .before .before .before .before .before .before .before .before .pre) in
+    stored-next (c .before .before .before .before .before .before .before .before .before .before .before .before .before .args .t1) enough _ _ _ _ _ (c .before .before .before .before .before .before .loop .i) _ (c .before .before .before .before .before .before .loop .inv) (c .before .before .before .before .before .loop-test .taken) (c .before .before .put-entry .ensures)
+
+same-length : tie.Need-same-length Inv-loop μ-loop
+same-length c = c .before .loop .inv .long ∙ length-set (c .before .before .before .before .put-u16 .last .0) 2 (c .before .before .before .before .before .before .before .before .args .t1 .n) ∙ wrote-length (c .before .before .before .before .put-u16 .ensures)
+
+returns : tie.Need-returns Inv-loop μ-loop
+returns c =
+    let len : length (c .before .before .before .before .before .before .before .before .args .t1 .entries) ≡ 64 = search (needs, length-mapped) in
+    let enough : c .before .before .before .before .before .before .before .before .args .t1 .n ≤ length (c .before .before .before .before .before .before .before .before .args .t1 .entries) = omega (arith, len, c .before .before .before .before .before .before .before .before .pre) in
+    stored-done (c .before .before .before .before .before .before .before .before .args .t1) enough _ _ _ _ (c .before .loop .inv) (c .loop-test .left) ∙ list-stored (c .before .before .before .before .before .before .before .before .args .t1) (c .before .before .before .before .put-u16 .ensures)
+
+pub put-list-spec : {M : Type 1} → statement M
+put-list-spec =
+    tie.close
+    (tie.spec
+    Inv-loop
+    μ-loop
+    cast-n
+    put-u16-requires
+    slice-write-out
+    loop-holds
+    mul-put-entry
+    element-copy-out-put-entry
+    put-entry-requires
+    add-i
+    loop-less
+    loop-again
+    same-length
+    returns)
