@@ -11,7 +11,7 @@ use lib.Seq.{sets, length-sets, sets-eq}
 use Rattle.list.specs.Numbers.{u16Bytes, u32Bytes}
 use Rattle.list.specs.Writing.{Wrote}
 
-sets-append : (l : List ℕ) (i : ℕ) (a b : List ℕ) → sets l i (a ++ b) ≡ sets (sets l i a) (i + length a) b
+pub sets-append : (l : List ℕ) (i : ℕ) (a b : List ℕ) → sets l i (a ++ b) ≡ sets (sets l i a) (i + length a) b
 sets-append l i [] b = rw add-zero
 sets-append l i (x ∷ a) b =
     let z : suc i + length a ≡ i + suc (length a) = omega arith in

@@ -1,4 +1,6 @@
 // Reading a list from its bytes.
+use crate::blank::blank_entry;
+use crate::blank::empty_list;
 use crate::bytes::u16_at;
 use crate::checks::header_fault;
 use crate::entry::EntryAnswer;
@@ -14,35 +16,16 @@ use crate::types::Verdict;
 ghost use mathlib.Core.Path.{_≡_};
 ghost use Prim.Native.Nat.{_≤_};
 ghost use lib.ListN.{length};
-ghost use Rattle.list.specs.DayLists.{blank, emptyList};
+ghost use Rattle.list.specs.DayLists.{emptyList};
 ghost use Rattle.list.specs.Reading.{frameOf, countOf, bodyOf, readOf, AnswersAs};
-
-// What stands at every place from n on.
-pub(crate) fn blank_entry() -> Entry
-    ensures { λ e. ⌜ e ≡ blank ⌝ }
-{
-    Entry {
-        serial: 0,
-        seal: Seal::Missing,
-        r: 0,
-        d: 0,
-        p: 0,
-        kind: Kind::Pause,
-    }
-}
 
 // A refusal, with the empty list beside it.
 fn turned_back(x: Refusal) -> ReadAnswer
     ensures { λ a. ⌜ a ≡ record { verdict = Verdict.Refused x; list = emptyList } ⌝ }
 {
-    let list = DayList {
-        frame: Frame { h: 0 },
-        n: 0,
-        entries: [blank_entry(); 64],
-    };
     ReadAnswer {
         verdict: Verdict::Refused(x),
-        list: list,
+        list: empty_list(),
     }
 }
 

@@ -1,0 +1,87 @@
+-- The flat form, entry by entry.
+-- Assumes nothing.
+use mathlib.Core.Path.{_≡_, refl, sym, ap, _∙_}
+use mathlib.Core.List.{List, [], _∷_, _++_, append-assoc, append-nil}
+use Prim.Native.Nat.{ℕ, suc, _+_, _*_, _-_, _≤_, _<_}
+use native.Mathlib.Nat.{zero-add}
+use native.Mathlib.Numerals.{add-one}
+use native.Mathlib.Omega.{arith}
+use lib.ListN.{length, getD, take, drop, set, length-append, length-set, drop-of-length-le}
+use lib.Seq.{take-suc-set, take-all, drop-cons, sets, sets-eq, length-sets}
+use Rattle.list.specs.declared.types.Entry.{Entry}
+use Rattle.list.specs.declared.types.DayList.{DayList}
+use Rattle.list.proofs.Stores.{sets-append}
+use Rattle.abi.specs.Flat.{flatEntry, flatEntries, flatOf, entryIn, entriesIn, valueOf}
+
+-- i entries were read from the numbers
+pub record ReadInSoFar (xs : List ℕ) (entries : List Entry) (i : ℕ) : Type 0 where
+  pub passed : i ≤ 64
+  pub long : length entries ≡ 64
+  pub rest : entriesIn 64 0 xs ≡ take i entries ++ entriesIn (64 - i) i xs
+
+pub read-in-start : (xs : List ℕ) (entries : List Entry) → length entries ≡ 64 → ReadInSoFar xs entries 0
+read-in-start xs entries h = record { passed = omega arith; long = h; rest = refl }
+
+module _ {xs : List ℕ} {entries : List Entry} {i : ℕ} (s : ReadInSoFar xs entries i) where
+  pub read-in-next : (e : Entry) → i < 64 → e ≡ entryIn xs (2 + 7 * i) → ReadInSoFar xs (set entries i e) (i + 1)
+  unfolding entriesIn
+  read-in-next e h q =
+      let z : 64 - i ≡ suc (64 - (i + 1)) = omega arith in
+      record {
+        passed = omega arith;
+        long = length-set entries i e ∙ s .long;
+        rest = s .rest ∙ rw z (ap (λ (x : Entry). take i entries ++ (x ∷ entriesIn (64 - (i + 1)) (i + 1) xs)) (sym q) ∙ one-more);
+      }
+    where
+      one-more : take i entries ++ (e ∷ entriesIn (64 - (i + 1)) (i + 1) xs) ≡ take (i + 1) (set entries i e) ++ entriesIn (64 - (i + 1)) (i + 1) xs
+      one-more = sym (append-assoc (take i entries) (e ∷ []) (entriesIn (64 - (i + 1)) (i + 1) xs)) ∙ ap (λ (l : List Entry). l ++ entriesIn (64 - (i + 1)) (i + 1) xs) taken
+        where
+          taken : take i entries ++ (e ∷ []) ≡ take (i + 1) (set entries i e)
+          taken = rw (add-one i) (sym (take-suc-set entries i e (omega (arith, s .long))))
+
+  pub read-in-done : 64 ≤ i → entriesIn 64 0 xs ≡ entries
+  unfolding entriesIn
+  read-in-done h =
+      let z : 64 - i ≡ 0 = omega arith in
+      s .rest ∙ rw z (append-nil (take i entries) ∙ take-all i entries (omega (arith, s .long)))
+
+-- i entries were stored as numbers
+pub record PutSoFar (l : DayList) (fields : List ℕ) (i : ℕ) : Type 0 where
+  pub passed : i ≤ 64
+  pub long : length fields ≡ 450
+  pub rest : sets fields (2 + 7 * i) (flatEntries (drop i (l .entries))) ≡ flatOf l
+
+flat-length : (es : List Entry) → length (flatEntries es) ≡ 7 * length es
+unfolding flatEntries
+flat-length [] = refl
+flat-length (e ∷ es) = omega (arith, flat-length es)
+
+pub put-start : (l : DayList) (old : List ℕ) → length old ≡ 450 → length (l .entries) ≡ 64 → PutSoFar l (set (set old 0 (l .frame .h)) 1 (l .n)) 0
+put-start l old h k =
+    let flat : length (flatOf l) ≡ 450 = omega (arith, flat-length (l .entries)) in
+    let short : length old ≤ 0 + length (flatOf l) = omega (arith, h, flat) in
+    let none : drop (0 + length (flatOf l)) old ≡ [] = drop-of-length-le old short in
+    record {
+      passed = omega arith;
+      long = length-set (set old 0 (l .frame .h)) 1 (l .n) ∙ length-set old 0 (l .frame .h) ∙ h;
+      rest = sets-eq (flatOf l) old 0 (omega (arith, h, flat)) ∙ rw none (append-nil (flatOf l));
+    }
+
+module _ {l : DayList} {fields : List ℕ} {i : ℕ} (s : PutSoFar l fields i) (k : length (l .entries) ≡ 64) where
+  pub put-next : (new : List ℕ) (e₀ : Entry) → i < 64 → new ≡ sets fields (2 + 7 * i) (flatEntry (getD (l .entries) i e₀)) → PutSoFar l new (i + 1)
+  unfolding flatEntries
+  put-next new e₀ h q =
+      let e = getD (l .entries) i e₀ in
+      let next : drop i (l .entries) ≡ e ∷ drop (i + 1) (l .entries) = rw (add-one i) (drop-cons (l .entries) i e₀ (omega (arith, k))) in
+      let z : 2 + 7 * i + 7 ≡ 2 + 7 * (i + 1) = omega arith in
+      record {
+        passed = omega arith;
+        long = rw q (length-sets fields (2 + 7 * i) (flatEntry e) ∙ s .long);
+        rest = rw (q, ← z) (sym (sets-append fields (2 + 7 * i) (flatEntry e) (flatEntries (drop (i + 1) (l .entries)))) ∙ rw next at (s .rest));
+      }
+
+  pub put-done : 64 ≤ i → fields ≡ flatOf l
+  unfolding flatEntries
+  put-done h =
+      let short : length (l .entries) ≤ i = omega (arith, k) in
+      rw (drop-of-length-le (l .entries) short) at (s .rest)

@@ -1,0 +1,2 @@
+pub mod FlatCases
+pub mod CallCases

@@ -1,0 +1,39 @@
+-- `dock_read` meets its contract.
+-- Assumes nothing.
+use borrow.Author.Needs.{needs}
+use Rattle.abi.proofs.CallCases.{read-accepted, read-refused}
+use Rattle.abi.proofs.dock_read.Statement.{statement}
+use Rattle.abi.proofs.dock_read.Tie as tie
+
+read-requires : tie.Need-read-requires
+read-requires c κs = search needs
+
+enum-told : tie.Need-enum-told
+enum-told c = search needs
+
+flat-of-requires : tie.Need-flat-of-requires
+flat-of-requires c κs = search needs
+
+enum-known-verdict : tie.Need-enum-known-verdict
+enum-known-verdict c = search needs
+
+give-requires : tie.Need-give-requires
+give-requires c κs = search needs
+
+returns : tie.Need-returns
+returns c = read-accepted (c .before .before .before .before .before .before .before .args .bytes .now) (c .before .before .before .before .before .before .before .args .fields .now) (c .before .before .before .before .before .read .result) (c .before .before .before .before .before .read .ensures) _ (c .before .before .before .enum-told .given .1) (c .before .flat-of .ensures)
+
+returns-2 : tie.Need-returns-2
+returns-2 c = read-refused (c .before .before .before .before .before .before .before .args .bytes .now) (c .before .before .before .before .before .before .before .args .fields .now) (c .before .before .before .before .before .read .result) (c .before .before .before .before .before .read .ensures) _ _ _ (c .before .before .before .verdict .given .1) (c .give .ensures .0) (c .give .ensures .1)
+
+pub dock-read-spec : {M : Type 1} → statement M
+dock-read-spec =
+    tie.close
+    (tie.spec
+    read-requires
+    enum-told
+    flat-of-requires
+    enum-known-verdict
+    give-requires
+    returns
+    returns-2)

@@ -1,0 +1,14 @@
+-- `flat::kind_in` meets its contract.
+-- Assumes nothing.
+use borrow.Author.Tests.{eq-eqb, ne-eqb}
+use Rattle.abi.proofs.flat.kind_in.Statement.{statement}
+use Rattle.abi.proofs.flat.kind_in.Tie as tie
+
+returns : tie.Need-returns
+returns c = simp (eq-eqb _ _ (c .if1 .taken))
+
+returns-2 : tie.Need-returns-2
+returns-2 c = simp (ne-eqb _ _ (c .if1 .left))
+
+pub kind-in-spec : {M : Type 1} → statement M
+kind-in-spec = tie.close (tie.spec returns returns-2)

@@ -1,0 +1,119 @@
+-- `flat::put_entry` meets its contract: seven stores, one after the other.
+-- Assumes nothing.
+use borrow.Author.Needs.{needs}
+use native.Mathlib.Numerals.{towards-suc}
+use Rattle.abi.proofs.flat.put_entry.Statement.{statement}
+use Rattle.abi.proofs.flat.put_entry.Tie as tie
+
+mul-fields : tie.Need-mul-fields
+mul-fields c = search needs
+
+element-write-fields : tie.Need-element-write-fields
+element-write-fields c = search needs
+
+seal-stands-requires : tie.Need-seal-stands-requires
+seal-stands-requires c κs = search needs
+
+add-fields : tie.Need-add-fields
+add-fields c = search needs
+
+mul-fields-2 : tie.Need-mul-fields-2
+mul-fields-2 c = search needs
+
+element-write-fields-2 : tie.Need-element-write-fields-2
+element-write-fields-2 c = search needs
+
+seal-number-requires : tie.Need-seal-number-requires
+seal-number-requires c κs = search needs
+
+add-fields-2 : tie.Need-add-fields-2
+add-fields-2 c = search needs
+
+mul-fields-3 : tie.Need-mul-fields-3
+mul-fields-3 c = search needs
+
+element-write-fields-3 : tie.Need-element-write-fields-3
+element-write-fields-3 c = search needs
+
+cast-fields : tie.Need-cast-fields
+cast-fields c = search needs
+
+add-fields-3 : tie.Need-add-fields-3
+add-fields-3 c = search needs
+
+mul-fields-4 : tie.Need-mul-fields-4
+mul-fields-4 c = search needs
+
+element-write-fields-4 : tie.Need-element-write-fields-4
+element-write-fields-4 c = search needs
+
+cast-fields-2 : tie.Need-cast-fields-2
+cast-fields-2 c = search needs
+
+add-fields-4 : tie.Need-add-fields-4
+add-fields-4 c = search needs
+
+mul-fields-5 : tie.Need-mul-fields-5
+mul-fields-5 c = search needs
+
+element-write-fields-5 : tie.Need-element-write-fields-5
+element-write-fields-5 c = search needs
+
+cast-fields-3 : tie.Need-cast-fields-3
+cast-fields-3 c = search needs
+
+add-fields-5 : tie.Need-add-fields-5
+add-fields-5 c = search needs
+
+mul-fields-6 : tie.Need-mul-fields-6
+mul-fields-6 c = search needs
+
+element-write-fields-6 : tie.Need-element-write-fields-6
+element-write-fields-6 c = search needs
+
+is-whole-requires : tie.Need-is-whole-requires
+is-whole-requires c κs = search needs
+
+add-fields-6 : tie.Need-add-fields-6
+add-fields-6 c = search needs
+
+mul-fields-7 : tie.Need-mul-fields-7
+mul-fields-7 c = search needs
+
+element-write-fields-7 : tie.Need-element-write-fields-7
+element-write-fields-7 c = search needs
+
+returns : tie.Need-returns
+returns c = rw (c .before .before .before .before .seal-number .ensures, c .before .before .before .before .before .seal-stands .ensures, c .is-whole .ensures) (simp towards-suc)
+
+pub put-entry-spec : {M : Type 1} → statement M
+put-entry-spec =
+    tie.close
+    (tie.spec
+    mul-fields
+    element-write-fields
+    seal-stands-requires
+    add-fields
+    mul-fields-2
+    element-write-fields-2
+    seal-number-requires
+    add-fields-2
+    mul-fields-3
+    element-write-fields-3
+    cast-fields
+    add-fields-3
+    mul-fields-4
+    element-write-fields-4
+    cast-fields-2
+    add-fields-4
+    mul-fields-5
+    element-write-fields-5
+    cast-fields-3
+    add-fields-5
+    mul-fields-6
+    element-write-fields-6
+    is-whole-requires
+    add-fields-6
+    mul-fields-7
+    element-write-fields-7
+    returns)

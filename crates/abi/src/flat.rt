@@ -1,0 +1,123 @@
+// A list value as 450 numbers.
+use list::types::DayList;
+use list::types::Entry;
+use list::types::Frame;
+use list::types::Kind;
+use list::types::Seal;
+ghost use mathlib.Core.Path.{_≡_};
+ghost use mathlib.Core.Bool.{not};
+ghost use Prim.Native.Nat.{_+_, _≤_};
+ghost use lib.Seq.{sets};
+ghost use lib.Dec.{eqb};
+ghost use Rattle.list.specs.Maps.{kindOf};
+ghost use Rattle.list.specs.Entries.{sealOf};
+ghost use Rattle.abi.specs.Flat.{stands, numberOf, wholeOf, flatEntry, flatOf, entryIn, valueOf};
+
+fn seal_in(flag: u32, number: u32) -> Seal
+    ensures { λ s. ⌜ s ≡ sealOf (not (eqb flag 0)) number ⌝ }
+{
+    if flag == 0 {
+        Seal::Missing
+    } else {
+        Seal::Number(number)
+    }
+}
+
+fn kind_in(flag: u32) -> Kind
+    ensures { λ k. ⌜ k ≡ kindOf (not (eqb flag 0)) ⌝ }
+{
+    if flag == 0 { Kind::Pause } else { Kind::Whole }
+}
+
+fn entry_in(fields: &[u32; 450], at: usize) -> Entry
+    requires { ⌜ at + 7 ≤ 450 ⌝ }
+    ensures { λ e. ⌜ e ≡ entryIn (now (fields .entry)) at ⌝ }
+{
+    let seal = seal_in(fields[at + 1], fields[at + 2]);
+    let kind = kind_in(fields[at + 6]);
+    Entry {
+        serial: fields[at],
+        seal: seal,
+        r: (fields[at + 3] % 65536) as u16,
+        d: (fields[at + 4] % 65536) as u16,
+        p: (fields[at + 5] % 65536) as u16,
+        kind: kind,
+    }
+}
+
+// The list value that the numbers say, whatever they are.
+pub(crate) fn list_in(fields: &[u32; 450]) -> DayList
+    ensures { λ l. ⌜ l ≡ valueOf (now (fields .entry)) ⌝ }
+{
+    let mut entries = [list::blank_entry(); 64];
+    let mut i: usize = 0;
+    while i < 64 {
+        entries[i] = entry_in(fields, 2 + 7 * i);
+        i += 1;
+    }
+    DayList {
+        frame: Frame {
+            h: (fields[0] % 65536) as u16,
+        },
+        n: (fields[1] % 256) as u8,
+        entries: entries,
+    }
+}
+
+fn seal_stands(seal: Seal) -> u32
+    ensures { λ x. ⌜ x ≡ stands seal ⌝ }
+{
+    match seal {
+        Seal::Missing => 0,
+        Seal::Number(_) => 1,
+    }
+}
+
+fn seal_number(seal: Seal) -> u32
+    ensures { λ x. ⌜ x ≡ numberOf seal ⌝ }
+{
+    match seal {
+        Seal::Missing => 0,
+        Seal::Number(x) => x,
+    }
+}
+
+fn is_whole(kind: Kind) -> u32
+    ensures { λ x. ⌜ x ≡ wholeOf kind ⌝ }
+{
+    match kind {
+        Kind::Pause => 0,
+        Kind::Whole => 1,
+    }
+}
+
+fn put_entry(e: Entry, fields: &mut [u32; 450], at: usize)
+    requires { ⌜ at + 7 ≤ 450 ⌝ }
+    ensures { λ _. ⌜ now (fields .exit) ≡ sets (now (fields .entry)) at (flatEntry e) ⌝ }
+{
+    let seal = e.seal;
+    let kind = e.kind;
+    fields[at] = e.serial;
+    fields[at + 1] = seal_stands(seal);
+    fields[at + 2] = seal_number(seal);
+    fields[at + 3] = e.r as u32;
+    fields[at + 4] = e.d as u32;
+    fields[at + 5] = e.p as u32;
+    fields[at + 6] = is_whole(kind);
+}
+
+// The numbers that say a list value.
+pub(crate) fn flat_of(list: DayList) -> [u32; 450]
+    ensures { λ r. ⌜ r ≡ flatOf list ⌝ }
+{
+    let frame = list.frame;
+    let mut fields = [0u32; 450];
+    fields[0] = frame.h as u32;
+    fields[1] = list.n as u32;
+    let mut i: usize = 0;
+    while i < 64 {
+        put_entry(list.entries[i], &mut fields, 2 + 7 * i);
+        i += 1;
+    }
+    fields
+}

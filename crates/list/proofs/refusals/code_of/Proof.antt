@@ -1,0 +1,185 @@
+-- `refusals::code_of` meets its contract, case by case.
+-- Assumes nothing.
+use borrow.Author.Needs.{needs}
+use mathlib.Core.Path.{_≡_, refl}
+use mathlib.Core.List.{[], _∷_}
+use Prim.Native.Nat.{ℕ}
+use Rattle.list.specs.Outcomes.{code}
+use Rattle.list.specs.Refusals.{codeOf, numbersOf}
+use Rattle.list.specs.declared.types.Refusal.{Refusal}
+use Rattle.list.specs.declared.types.RefusalCode.{RefusalCode}
+use Rattle.list.proofs.refusals.code_of.Statement.{statement}
+use Rattle.list.proofs.refusals.code_of.Tie as tie
+
+-- a refusal that carries one value
+one : {r : RefusalCode} {x y : Refusal} {k v : ℕ} → r ≡ numbersOf (code k (v ∷ [])) → x ≡ y → codeOf y ≡ code k (v ∷ []) → r ≡ numbersOf (codeOf x)
+one p q s = rw (p, q, s)
+
+enum-known-x : tie.Need-enum-known-x
+enum-known-x c = search needs
+
+with-one-requires : tie.Need-with-one-requires
+with-one-requires c κs = search needs
+
+enum-told : tie.Need-enum-told
+enum-told c = search needs
+
+with-one-requires-2 : tie.Need-with-one-requires-2
+with-one-requires-2 c κs = search needs
+
+enum-known-x-2 : tie.Need-enum-known-x-2
+enum-known-x-2 c = search needs
+
+with-one-requires-3 : tie.Need-with-one-requires-3
+with-one-requires-3 c κs = search needs
+
+enum-known-x-3 : tie.Need-enum-known-x-3
+enum-known-x-3 c = search needs
+
+with-one-requires-4 : tie.Need-with-one-requires-4
+with-one-requires-4 c κs = search needs
+
+enum-known-x-4 : tie.Need-enum-known-x-4
+enum-known-x-4 c = search needs
+
+with-one-requires-5 : tie.Need-with-one-requires-5
+with-one-requires-5 c κs = search needs
+
+enum-known-x-5 : tie.Need-enum-known-x-5
+enum-known-x-5 c = search needs
+
+with-one-requires-6 : tie.Need-with-one-requires-6
+with-one-requires-6 c κs = search needs
+
+enum-known-x-6 : tie.Need-enum-known-x-6
+enum-known-x-6 c = search needs
+
+with-one-requires-7 : tie.Need-with-one-requires-7
+with-one-requires-7 c κs = search needs
+
+enum-known-x-7 : tie.Need-enum-known-x-7
+enum-known-x-7 c = search needs
+
+with-one-requires-8 : tie.Need-with-one-requires-8
+with-one-requires-8 c κs = search needs
+
+enum-known-x-8 : tie.Need-enum-known-x-8
+enum-known-x-8 c = search needs
+
+cast-t17 : tie.Need-cast-t17
+cast-t17 c = search needs
+
+cast-t18 : tie.Need-cast-t18
+cast-t18 c = search needs
+
+cast-t19 : tie.Need-cast-t19
+cast-t19 c = search needs
+
+enum-known-x-9 : tie.Need-enum-known-x-9
+enum-known-x-9 c = search needs
+
+with-one-requires-9 : tie.Need-with-one-requires-9
+with-one-requires-9 c κs = search needs
+
+enum-known-x-10 : tie.Need-enum-known-x-10
+enum-known-x-10 c = search needs
+
+with-one-requires-10 : tie.Need-with-one-requires-10
+with-one-requires-10 c κs = search needs
+
+enum-known-x-11 : tie.Need-enum-known-x-11
+enum-known-x-11 c = search needs
+
+with-one-requires-11 : tie.Need-with-one-requires-11
+with-one-requires-11 c κs = search needs
+
+enum-known-x-12 : tie.Need-enum-known-x-12
+enum-known-x-12 c = search needs
+
+with-one-requires-12 : tie.Need-with-one-requires-12
+with-one-requires-12 c κs = search needs
+
+returns : tie.Need-returns
+returns c = one (c .with-one .ensures) (c .before .before .x .given .1) refl
+
+returns-2 : tie.Need-returns-2
+returns-2 c = one (c .with-one2 .ensures) (c .before .enum-told .given .1) refl
+
+returns-3 : tie.Need-returns-3
+returns-3 c = one (c .with-one3 .ensures) (c .before .before .x2 .given .1) refl
+
+returns-4 : tie.Need-returns-4
+returns-4 c = one (c .with-one4 .ensures) (c .before .before .x3 .given .1) refl
+
+returns-5 : tie.Need-returns-5
+returns-5 c = one (c .with-one5 .ensures) (c .before .before .x4 .given .1) refl
+
+returns-6 : tie.Need-returns-6
+returns-6 c = one (c .with-one6 .ensures) (c .before .before .x5 .given .1) refl
+
+returns-7 : tie.Need-returns-7
+returns-7 c = one (c .with-one7 .ensures) (c .before .before .x6 .given .1) refl
+
+returns-8 : tie.Need-returns-8
+returns-8 c = one (c .with-one8 .ensures) (c .before .before .x7 .given .1) refl
+
+returns-9 : tie.Need-returns-9
+returns-9 c = rw (c .before .x8 .given .1)
+
+returns-10 : tie.Need-returns-10
+returns-10 c = one (c .with-one9 .ensures) (c .before .before .x9 .given .1) refl
+
+returns-11 : tie.Need-returns-11
+returns-11 c = one (c .with-one10 .ensures) (c .before .before .x10 .given .1) refl
+
+returns-12 : tie.Need-returns-12
+returns-12 c = one (c .with-one11 .ensures) (c .before .before .x11 .given .1) refl
+
+returns-13 : tie.Need-returns-13
+returns-13 c = one (c .with-one12 .ensures) (c .before .before .x12 .given .1) refl
+
+pub code-of-spec : {M : Type 1} → statement M
+code-of-spec =
+    tie.close
+    (tie.spec
+    enum-known-x
+    with-one-requires
+    enum-told
+    with-one-requires-2
+    enum-known-x-2
+    with-one-requires-3
+    enum-known-x-3
+    with-one-requires-4
+    enum-known-x-4
+    with-one-requires-5
+    enum-known-x-5
+    with-one-requires-6
+    enum-known-x-6
+    with-one-requires-7
+    enum-known-x-7
+    with-one-requires-8
+    enum-known-x-8
+    cast-t17
+    cast-t18
+    cast-t19
+    enum-known-x-9
+    with-one-requires-9
+    enum-known-x-10
+    with-one-requires-10
+    enum-known-x-11
+    with-one-requires-11
+    enum-known-x-12
+    with-one-requires-12
+    returns
+    returns-2
+    returns-3
+    returns-4
+    returns-5
+    returns-6
+    returns-7
+    returns-8
+    returns-9
+    returns-10
+    returns-11
+    returns-12
+    returns-13)

@@ -1,0 +1,31 @@
+// What stands where nothing counts: at the places from n on, and beside a refusal.
+use crate::types::DayList;
+use crate::types::Entry;
+use crate::types::Frame;
+use crate::types::Kind;
+use crate::types::Seal;
+ghost use mathlib.Core.Path.{_≡_};
+ghost use Rattle.list.specs.DayLists.{blank, emptyList};
+
+pub fn blank_entry() -> Entry
+    ensures { λ e. ⌜ e ≡ blank ⌝ }
+{
+    Entry {
+        serial: 0,
+        seal: Seal::Missing,
+        r: 0,
+        d: 0,
+        p: 0,
+        kind: Kind::Pause,
+    }
+}
+
+pub fn empty_list() -> DayList
+    ensures { λ l. ⌜ l ≡ emptyList ⌝ }
+{
+    DayList {
+        frame: Frame { h: 0 },
+        n: 0,
+        entries: [blank_entry(); 64],
+    }
+}

@@ -1,0 +1,42 @@
+// A refusal as numbers, for printing and for callers in other languages.
+use crate::types::Refusal;
+use crate::types::RefusalCode;
+ghost use mathlib.Core.Path.{_≡_};
+ghost use mathlib.Core.List.{[], _∷_};
+ghost use Rattle.list.specs.Outcomes.{code};
+ghost use Rattle.list.specs.Refusals.{codeOf, numbersOf};
+
+fn with_one(number: u8, value: usize) -> RefusalCode
+    ensures { λ c. ⌜ c ≡ numbersOf (code number (value ∷ [])) ⌝ }
+{
+    RefusalCode {
+        number: number,
+        count: 1,
+        values: [value as u64, 0, 0],
+    }
+}
+
+// Beside the definition `codeOf`, the one place that goes through all refusals.
+pub fn code_of(x: Refusal) -> RefusalCode
+    ensures { λ c. ⌜ c ≡ numbersOf (codeOf x) ⌝ }
+{
+    match x {
+        Refusal::BytesMissing(len) => with_one(1, len),
+        Refusal::BadDayLength => with_one(2, 0),
+        Refusal::TooManyEntries(at) => with_one(3, at),
+        Refusal::BadMapByte(at) => with_one(4, at),
+        Refusal::DefaultWritten(at) => with_one(5, at),
+        Refusal::NoMinutes(at) => with_one(6, at),
+        Refusal::BadWindow(at) => with_one(7, at),
+        Refusal::BytesLeftOver(at) => with_one(8, at),
+        Refusal::Overloaded(a, b, work) => RefusalCode {
+            number: 9,
+            count: 3,
+            values: [a as u64, b as u64, work as u64],
+        },
+        Refusal::NoStart(place) => with_one(10, place),
+        Refusal::PlanBufferShort(h) => with_one(11, h),
+        Refusal::ListBufferShort(needed) => with_one(12, needed),
+        Refusal::UnknownPlace(place) => with_one(13, place),
+    }
+}
