@@ -1,16 +1,16 @@
--- One entry, both ways: an entry without a fault is read back from its one form, and bytes that are taken are the one form of the entry read.
--- Also what a refusal carries, and that an entry without a fault has none at any place.
+-- One entry, both ways: a sound entry is read back from its one form, and bytes that are taken are the one form of the entry read.
+-- Also what a refusal carries.
 -- Assumes nothing.
-use mathlib.Core.Path.{_≡_, refl, sym, ap, subst, _∙_}
-use mathlib.Core.Bool.{Bool, true, false, cond, not, _&&_, _||_, false≢true, not-and-self}
+use mathlib.Core.Path.{_≡_, refl, sym, ap, _∙_}
+use mathlib.Core.Bool.{Bool, true, false, cond, not, _&&_, not-and-self}
 use mathlib.Core.List.{List, [], _∷_, _++_, append-assoc}
 use Prim.Native.Nat.{ℕ, _+_, _^_, _≤_, _<_}
 use native.Mathlib.Nat.{add-zero}
 use native.Mathlib.Omega.{arith}
-use borrow.Author.Tests.{ltb-false, eqb-true, eqb-false, le-ltb, eq-eqb, ne-eqb, not-false}
+use borrow.Author.Tests.{ltb-false, eqb-true, eqb-false, eq-eqb, not-false}
 use lib.Dec.{eqb, ltb}
 use lib.ListN.{length, getD, drop, length-append}
-use Rattle.list.specs.Outcomes.{Code, code, Outcome, answered, refused, andThen}
+use Rattle.list.specs.Outcomes.{code, answered}
 use Rattle.list.specs.Numbers.{u16At, u32At, u16Bytes, u32Bytes}
 use Rattle.list.specs.Maps.{legalMap, fieldsOf, rPlace, dPlace, pPlace, sizeOf, mapRead}
 use Rattle.list.specs.Entries.{defaultR, defaultD, sealOf, entryAt, entryFault, entryOf, fieldsEntry, defaultWritten, minuteBytes, sealBytes, sealBit, mapOf, entryBytes}
@@ -23,61 +23,19 @@ use Rattle.list.specs.declared.map.Fields.{Fields}
 use Rattle.list.specs.declared.map.MapAnswer.the-variants.{Follow}
 use Rattle.list.proofs.FieldTrip.{Bytes, past-field, u16-read, u32-read, u32-small, byte-stands, u16-stands, u32-stands}
 use Rattle.list.proofs.MapBytes.{mapFor, map-form, map-back}
+use Rattle.list.proofs.Inversion.{Says, by-row, by-step, PlaceIn, at-end, at-place, neither}
+use Rattle.list.proofs.Sound.{Sound, fault-says, faultless}
 use Rattle.list.proofs.EntryCases.{entry-is, entry-legal, fields-taken}
-
--- what holds of a row's refusal, and of the rows after it, holds of the table
-pub by-row : {A : Type 0} (Q : Outcome A → Type 0) (t : Bool) (k : Code) (o : Outcome A) → (t ≡ true → Q (refused k)) → (t ≡ false → Q o) → Q (cond t (refused k) o)
-by-row Q true k o p q = p refl
-by-row Q false k o p q = q refl
-
-neither : (a b : Bool) → a || b ≡ false → (a ≡ false) × (b ≡ false)
-neither true b e = absurd (false≢true (sym e))
-neither false b e = (refl, e)
-
--- what rows 6 and 7 leave
-record Sound (f : Frame) (e : Entry) : Type 0 where
-  some-minutes : 1 ≤ e .p
-  in-day : e .d ≤ f .h
-  room : e .r + e .p ≤ e .d
-
--- a refusal other than 1 that carries the place at
-record Inside (at : ℕ) (k : Code) : Type 0 where
-  carried : k .carries ≡ at ∷ []
-  other : k .number ≡ 1 → ⊥
-
-inside : (n at : ℕ) → (n ≡ 1 → ⊥) → Inside at (code n (at ∷ []))
-inside n at h = record { carried = refl; other = h }
-
-module _ (f : Frame) (at : ℕ) (e : Entry) where
-  abbrev Faulted : Outcome (Unit {0}) → Type 0
-  Faulted (answered u) = Sound f e
-  Faulted (refused k) = Inside at k
-
-  fault-cases : Faulted (entryFault f at e)
-  unfolding entryFault
-  fault-cases =
-      by-row Faulted (eqb (e .p) 0) _ _ (λ t. inside 6 at (omega arith))
-      (λ p. by-row Faulted (ltb (f .h) (e .d) || ltb (e .d) (e .r + e .p)) _ _ (λ t. inside 7 at (omega arith))
-      (λ w.
-      let z = neither _ _ w in
-      record { some-minutes = omega (arith, eqb-false (e .p) 0 p); in-day = ltb-false _ _ (z .0); room = ltb-false _ _ (z .1) }))
-
-  sound-of : entryFault f at e ≡ answered tt → Sound f e
-  sound-of h = subst Faulted h fault-cases
-
-  faultless : Sound f e → entryFault f at e ≡ answered tt
-  unfolding entryFault
-  faultless s =
-      let p : e .p ≡ 0 → ⊥ = omega arith in
-      simp (ne-eqb _ _ p, le-ltb _ _ (s .in-day), le-ltb _ _ (s .room))
-
-pub fault-anywhere : (f : Frame) (a b : ℕ) (e : Entry) → entryFault f a e ≡ answered tt → entryFault f b e ≡ answered tt
-fault-anywhere f a b e h = faultless f b e (sound-of f a e h)
 
 -- the seal's number, if it is one, fits its four bytes
 abbrev pub SealFits : Seal → Type 0
 SealFits Missing = Unit {0}
 SealFits (Number x) = x < 2 ^ 32
+
+-- an entry's serial and seal fit their bytes
+pub record Fits (e : Entry) : Type 0 where
+  pub serial : e .serial < 2 ^ 32
+  pub seal : SealFits (e .seal)
 
 abbrev numbered : Seal → Bool
 numbered Missing = false
@@ -140,29 +98,29 @@ module _ (bs : List ℕ) (i : ℕ) (tail : List ℕ) where
   minute-read x x₀ h true q e = eqb-true _ _ q
   minute-read x x₀ h false q e = sym (u16-read bs i x tail h e)
 
-entry-back : (f : Frame) (e : Entry) (rest : List ℕ) → f .h < 65536 → e .serial < 2 ^ 32 → SealFits (e .seal) → Sound f e → e ≡ entryAt f (fieldsFor f e) (laid f e rest)
-entry-back f e rest h serial seal s =
+entry-back : (f : Frame) (e : Entry) (rest : List ℕ) → f .h < 65536 → Fits e → Sound f e → e ≡ entryAt f (fieldsFor f e) (laid f e rest)
+entry-back f e rest h fits s =
     let m = fieldsFor f e in
     let bs = laid f e rest in
     let r-here = past-field bs 5 (sealBytes (e .seal)) _ _ (seal-length (e .seal)) refl in
     let d-here = past-field bs (rPlace m) (minuteBytes (e .r) (defaultR f)) _ _ (minute-length (e .r) (defaultR f)) r-here in
     let p-here = past-field bs (dPlace m) (minuteBytes (e .d) (defaultD f)) _ _ (minute-length (e .d) (defaultD f)) d-here in
     entry-is f m bs _ _ _ _ _ _ _ _ _ _
-    (sym (u32-read bs 1 (e .serial) _ serial refl))
-    (seal-read bs 5 _ (e .seal) seal refl)
+    (sym (u32-read bs 1 (e .serial) _ (fits .serial) refl))
+    (seal-read bs 5 _ (e .seal) (fits .seal) refl)
     (minute-read bs (rPlace m) _ (e .r) (defaultR f) (omega arith) _ refl r-here) refl refl
     (minute-read bs (dPlace m) _ (e .d) (defaultD f) (omega arith) _ refl d-here) refl refl
     (sym (u16-read bs (pPlace m) (e .p) _ (omega arith) p-here)) refl
 
-pub entry-reads-back : (f : Frame) (at : ℕ) (e : Entry) (rest : List ℕ) → f .h < 65536 → e .serial < 2 ^ 32 → SealFits (e .seal) → entryFault f at e ≡ answered tt
-    → entryOf f at (entryBytes f e ++ rest) ≡ answered (e, length (entryBytes f e))
-entry-reads-back f at e rest h serial seal ok =
+-- an entry that fits and is sound is read back from its one form, whatever follows
+pub entry-reads-back : (f : Frame) (at : ℕ) (e : Entry) (rest : List ℕ) → f .h < 65536 → Fits e → Sound f e → entryOf f at (entryBytes f e ++ rest) ≡ answered (e, length (entryBytes f e))
+entry-reads-back f at e rest h fits s =
     let m = fieldsFor f e in
     let bs = laid f e rest in
     let long : sizeOf m ≤ length bs = omega (arith, size-for f e, length-append (entryBytes f e) rest, ap length (laid-out f e rest)) in
     let first : mapRead (getD bs 0 0) ≡ Follow m = rw (← map-for) (map-back m) in
     rw laid-out (sym
-    (fields-taken f at m bs e Accepted (entry-back f e rest h serial seal (sound-of f at e ok)) long (simp not-and-self) (sym ok) _ (sym (size-for f e)) refl
+    (fields-taken f at m bs e Accepted (entry-back f e rest h fits s) long (simp not-and-self) (sym (faultless f at e s)) _ (sym (size-for f e)) refl
     ∙ entry-legal f at bs m (omega arith) first))
 
 -- a minute that is not a written default: its field follows again exactly if it did
@@ -207,33 +165,15 @@ module _ (f : Frame) (m : Fields) (bs : List ℕ) (r-kept : m .r && eqb (entryAt
         ← u32-stands bs b 1 (omega arith),
       )
 
--- what bytes are of which the first s are taken as the entry e
-pub record OneForm (f : Frame) (at : ℕ) (bs : List ℕ) (e : Entry) (s : ℕ) : Type 0 where
-  pub form : bs ≡ entryBytes f e ++ drop s bs
-  pub size : s ≡ length (entryBytes f e)
-  pub within : s ≤ length bs
-  pub sound : entryFault f at e ≡ answered tt
-  pub serial : e .serial < 2 ^ 32
-  pub seal : SealFits (e .seal)
+-- what holds of an entry that is taken from the start of the bytes, with its size
+pub record TakenEntry (f : Frame) (bs : List ℕ) (x : Entry × ℕ) : Type 0 where
+  pub within : x .1 ≤ length bs
+  pub sound : Sound f (x .0)
+  pub form : Bytes bs → bs ≡ entryBytes f (x .0) ++ drop (x .1) bs
+  pub fits : Bytes bs → Fits (x .0)
 
--- what a refusal of bytes from the place at on carries: 1 the input's length, the others at, where a byte stands
-pub record TurnedAt (at : ℕ) (bs : List ℕ) (k : Code) : Type 0 where
-  pub place : ℕ
-  pub carried : k .carries ≡ place ∷ []
-  pub at-end : k .number ≡ 1 → place ≡ at + length bs
-  pub at-entry : (k .number ≡ 1 → ⊥) → (place ≡ at) × (1 ≤ length bs)
-
-module _ (f : Frame) (at : ℕ) (bs : List ℕ) where
-  abbrev Read : Outcome (Entry × ℕ) → Type 0
-  Read (answered x) = Bytes bs → OneForm f at bs (x .0) (x .1)
-  Read (refused k) = TurnedAt at bs k
-
-  ended : TurnedAt at bs (code 1 ((at + length bs) ∷ []))
-  ended = record { place = at + length bs; carried = refl; at-end = λ n. refl; at-entry = λ n. absurd (n refl) }
-
-  entered : (k : Code) → 1 ≤ length bs → Inside at k → TurnedAt at bs k
-  entered k h i = record { place = at; carried = i .carried; at-end = λ n. absurd (i .other n); at-entry = λ n. (refl, h) }
-
+-- bs is what is left, from the place at on, of an input of length len
+module _ (f : Frame) (at : ℕ) (bs : List ℕ) (len : ℕ) (all : at + length bs ≡ len) where
   -- the fields and the entry that bs says
   abbrev m : Fields
   m = fieldsOf (getD bs 0 0)
@@ -241,44 +181,37 @@ module _ (f : Frame) (at : ℕ) (bs : List ℕ) where
   abbrev e : Entry
   e = entryAt f m bs
 
-  module _ (legal : legalMap (getD bs 0 0) ≡ true) (long : sizeOf m ≤ length bs) (w : defaultWritten f m e ≡ false) where
-    taken : entryFault f at e ≡ answered tt → Bytes bs → OneForm f at bs e (sizeOf m)
-    unfolding entryAt
-    taken q b =
-        let z = neither (m .r && eqb (e .r) (defaultR f)) (m .d && eqb (e .d) (defaultD f)) w in
-        let again : fieldsFor f e ≡ m = fields-again f m bs (z .0) (z .1) in
-        let map : mapOf f e ≡ getD bs 0 0 = sym (map-for f e) ∙ ap mapFor again ∙ map-form (getD bs 0 0) (b 0) legal in
-        record {
-          form = entry-stands f m bs (z .0) (z .1) b long map ∙ sym (laid-out f e (drop (sizeOf m) bs));
-          size = ap sizeOf (sym again) ∙ size-for f e;
-          within = long;
-          sound = q;
-          serial = u32-small bs b 1;
-          seal = seal-fits bs b 5 (m .seal);
-        }
+  taken : legalMap (getD bs 0 0) ≡ true → sizeOf m ≤ length bs → defaultWritten f m e ≡ false → Sound f e → TakenEntry f bs (e, sizeOf m)
+  unfolding entryAt
+  taken legal long w s =
+      let z = neither (m .r && eqb (e .r) (defaultR f)) (m .d && eqb (e .d) (defaultD f)) w in
+      let again : fieldsFor f e ≡ m = fields-again f m bs (z .0) (z .1) in
+      record {
+        within = long;
+        sound = s;
+        form = λ b.
+            let map : mapOf f e ≡ getD bs 0 0 = sym (map-for f e) ∙ ap mapFor again ∙ map-form (getD bs 0 0) (b 0) legal in
+            entry-stands f m bs (z .0) (z .1) b long map ∙ sym (laid-out f e (drop (sizeOf m) bs));
+        fits = λ b. record { serial = u32-small bs b 1; seal = seal-fits bs b 5 (m .seal) };
+      }
 
-    judged : (o : Outcome (Unit {0})) → entryFault f at e ≡ o → Faulted f at e o → Read (andThen o (λ _. answered (e, sizeOf m)))
-    judged (answered u) q z = taken q
-    judged (refused k) q z = entered k (omega arith) z
+  here : 1 ≤ length bs → (n : ℕ) → (n ≡ 1 → ⊥) → PlaceIn len (code n (at ∷ []))
+  here h n other = at-place len n at other (omega arith)
 
-  fields-cases : legalMap (getD bs 0 0) ≡ true → 1 ≤ length bs → Read (fieldsEntry f at m bs)
+  fields-say : legalMap (getD bs 0 0) ≡ true → 1 ≤ length bs → Says (TakenEntry f bs) (PlaceIn len) (fieldsEntry f at m bs)
   unfolding fieldsEntry
-  fields-cases legal h =
-      by-row Read (ltb (length bs) (sizeOf m)) _ _ (λ t. ended)
-      (λ l. by-row Read (defaultWritten f m e) _ _ (λ t. entered _ h (inside 5 at (omega arith)))
-      (λ w. judged legal (ltb-false _ _ l) w (entryFault f at e) refl (fault-cases f at e)))
+  fields-say legal h =
+      by-row (TakenEntry f bs) (PlaceIn len) (ltb (length bs) (sizeOf m)) _ _ (λ t. at-end len _ all)
+      (λ l. by-row (TakenEntry f bs) (PlaceIn len) (defaultWritten f m e) _ _ (λ t. here h 5 (omega arith))
+      (λ w. by-step (λ _. Sound f e) (PlaceIn len) (TakenEntry f bs) (entryFault f at e) _ (fault-says f at e (PlaceIn len) (here h 6 (omega arith)) (here h 7 (omega arith)))
+      (λ _ s. taken legal (ltb-false _ _ l) w s)))
 
-  entry-cases : Read (entryOf f at bs)
+  -- what reading one entry says
+  pub entry-says : Says (TakenEntry f bs) (PlaceIn len) (entryOf f at bs)
   unfolding entryOf
-  entry-cases =
-      by-row Read (eqb (length bs) 0) _ _ (λ t. ended)
+  entry-says =
+      by-row (TakenEntry f bs) (PlaceIn len) (eqb (length bs) 0) _ _ (λ t. at-end len _ all)
       (λ n.
       let h : 1 ≤ length bs = omega (arith, eqb-false (length bs) 0 n) in
-      by-row Read (not (legalMap (getD bs 0 0))) _ _ (λ t. entered _ h (inside 4 at (omega arith)))
-      (λ t. fields-cases (not-false _ t) h))
-
-pub entry-one-form : (f : Frame) (at : ℕ) (bs : List ℕ) (e : Entry) (s : ℕ) → Bytes bs → entryOf f at bs ≡ answered (e, s) → OneForm f at bs e s
-entry-one-form f at bs e s b h = subst (Read f at bs) h (entry-cases f at bs) b
-
-pub entry-refused-places : (f : Frame) (at : ℕ) (bs : List ℕ) (k : Code) → entryOf f at bs ≡ refused k → TurnedAt at bs k
-entry-refused-places f at bs k h = subst (Read f at bs) h (entry-cases f at bs)
+      by-row (TakenEntry f bs) (PlaceIn len) (not (legalMap (getD bs 0 0))) _ _ (λ t. here h 4 (omega arith))
+      (λ t. fields-say (not-false _ t) h))

@@ -1,36 +1,44 @@
--- What an outcome says of the steps that led to it.
+-- What an outcome says of the steps that led to it: one fact for the answer and one for the refusal go from step to step.
 -- Assumes nothing.
 use mathlib.Core.Path.{_≡_, refl}
-use mathlib.Core.Bool.{Bool, true, false, _||_, true≢false}
-use mathlib.Core.List.{List, [], _∷_}
-use Prim.Native.Nat.{ℕ}
-use native.Mathlib.Omega.{arith}
-use Rattle.list.specs.Outcomes.{Code, Outcome, answered, refused, Row, firstOf, andThen}
+use mathlib.Core.Bool.{Bool, true, false, cond, _||_, true≢false}
+use mathlib.Core.List.{[], _∷_}
+use Prim.Native.Nat.{ℕ, _<_}
+use Rattle.list.specs.Outcomes.{Code, code, Outcome, answered, refused, andThen}
 
-pub clash : {A X : Type 0} (k : Code) (a : A) → refused k ≡ answered a → X
-clash k a e = let z : _≡_ {A = ℕ} 0 1 = cc in absurd (omega arith)
+-- P of what is answered, R of a refusal
+abbrev pub Says : {A : Type 0} → (A → Type 0) → (Code → Type 0) → Outcome A → Type 0
+Says P R (answered a) = P a
+Says P R (refused k) = R k
 
-pub answer-is : {A : Type 0} {a b : A} → answered a ≡ answered b → a ≡ b
-answer-is e = cc
+module _ {A : Type 0} (P : A → Type 0) (R : Code → Type 0) where
+  -- a row's refusal, or the rows after it
+  pub by-row : (t : Bool) (k : Code) (o : Outcome A) → (t ≡ true → R k) → (t ≡ false → Says P R o) → Says P R (cond t (refused k) o)
+  by-row true k o p q = p refl
+  by-row false k o p q = q refl
 
--- none of the rows holds
-abbrev pub NoneHolds : List Row → Type 0
-NoneHolds [] = Unit {0}
-NoneHolds (w ∷ ws) = (w .holds ≡ false) × NoneHolds ws
+  -- one step, then the rest
+  pub by-step : {B : Type 0} (Q : B → Type 0) (o : Outcome A) (f : A → Outcome B) → Says P R o → ((a : A) → P a → Says Q R (f a)) → Says Q R (andThen o f)
+  by-step Q (answered a) f p q = q a p
+  by-step Q (refused k) f p q = p
 
--- so it is with the rows in front of an answer
-pub passed : {A : Type 0} (ws : List Row) (o : Outcome A) (a : A) → firstOf ws o ≡ answered a → NoneHolds ws × (o ≡ answered a)
-passed [] o a e = (tt, e)
-passed (w ∷ ws) o a e = go (w .holds) refl (passed ws o a)
-  where
-    go : (b : Bool) → w .holds ≡ b → (firstOf ws o ≡ answered a → NoneHolds ws × (o ≡ answered a)) → NoneHolds (w ∷ ws) × (o ≡ answered a)
-    go true q rest = clash (w .refusal) a (simp q at e)
-    go false q rest = let r = rest (simp q at e) in ((q, r .0), r .1)
+-- where refusals do not count
+abbrev pub Anything : Code → Type 0
+Anything k = Unit {0}
 
--- both steps of an answer answered
-pub then-answered : {A B : Type 0} (o : Outcome A) (f : A → Outcome B) (b : B) → andThen o f ≡ answered b → (a : A) × (o ≡ answered a) × (f a ≡ answered b)
-then-answered (answered a) f b e = (a, refl, e)
-then-answered (refused k) f b e = clash k b e
+-- what a refusal of an input of this length carries: 1 the length, the others a place inside
+pub record PlaceIn (len : ℕ) (k : Code) : Type 0 where
+  pub place : ℕ
+  pub carried : k .carries ≡ place ∷ []
+  pub missing : k .number ≡ 1 → place ≡ len
+  pub inside : (k .number ≡ 1 → ⊥) → place < len
+
+-- the length, and a place inside
+pub at-end : (len x : ℕ) → x ≡ len → PlaceIn len (code 1 (x ∷ []))
+at-end len x h = record { place = x; carried = refl; missing = λ q. h; inside = λ q. absurd (q refl) }
+
+pub at-place : (len n x : ℕ) → (n ≡ 1 → ⊥) → x < len → PlaceIn len (code n (x ∷ []))
+at-place len n x other h = record { place = x; carried = refl; missing = λ q. absurd (other q); inside = λ q. h }
 
 -- an "or" that does not hold
 pub neither : (a b : Bool) → (a || b) ≡ false → (a ≡ false) × (b ≡ false)

@@ -6,8 +6,11 @@ pub mod Walk
 pub mod CheckCases
 pub mod ReadCases
 pub mod Inversion
+pub mod Sound
 pub mod Stores
 pub mod FormCases
 pub mod FieldTrip
 pub mod EntryTrip
 pub mod WriteCases
+pub mod ListTrip
+pub mod RoundTrip

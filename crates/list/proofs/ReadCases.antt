@@ -1,20 +1,18 @@
 -- Reading a list, case by case: what code knows before, after and between the entries.
 -- Assumes nothing.
 use mathlib.Core.Path.{_≡_, refl, sym, ap, _∙_}
-use mathlib.Core.Bool.{Bool, true, false, not}
 use mathlib.Core.List.{List, [], _∷_, _++_, append-assoc, append-nil}
-use Prim.Native.Nat.{ℕ, zero, suc, _+_, _-_, _≤_, _<_}
-use native.Mathlib.Nat.{add-zero, sub-zero}
+use Prim.Native.Nat.{ℕ, suc, _+_, _-_, _≤_, _<_}
+use native.Mathlib.Nat.{sub-zero}
 use native.Mathlib.Numerals.{add-one}
 use native.Mathlib.Omega.{arith}
-use borrow.Author.Tests.{lt-ltb, le-ltb, ltb-false}
-use lib.Dec.{eqb, ltb}
-use lib.ListN.{length, getD, take, drop, set, replicate, length-take, length-drop, length-set, length-replicate, take-append-drop}
+use borrow.Author.Tests.{lt-ltb, le-ltb}
+use lib.Dec.{ltb}
+use lib.ListN.{length, take, drop, set, replicate, length-take, length-drop, length-set, take-append-drop}
 use lib.Seq.{take-all, take-suc-set, drop-set-lt, drop-drop}
 use Rattle.list.specs.Outcomes.{Code, code, Outcome, answered, refused, row, firstOf, andThen}
 use Rattle.list.specs.Refusals.{codeOf, verdictOf}
-use Rattle.list.specs.Maps.{fieldsOf, sizeOf}
-use Rattle.list.specs.Entries.{entryAt, entryFault, mapRows, fieldRows, fieldsEntry, entryOf, entryAnswerOf}
+use Rattle.list.specs.Entries.{entryOf, entryAnswerOf}
 use Rattle.list.specs.DayLists.{blank, dayList, emptyList}
 use Rattle.list.specs.Checks.{headerFault}
 use Rattle.list.specs.Reading.{entriesFrom, frameOf, countOf, bodyOf, readOf, AnswersAs}
@@ -27,7 +25,7 @@ use Rattle.list.specs.declared.types.Verdict.the-variants.{Accepted, Ref
 use Rattle.list.specs.declared.types.ReadAnswer.{ReadAnswer}
 use Rattle.list.specs.declared.entry.EntryAnswer.{EntryAnswer}
 use Rattle.list.specs.declared.entry.EntryAnswer.the-variants.{Taken, TurnedBack}
-use Rattle.list.proofs.Inversion.{answer-is, passed, then-answered}
+use Rattle.list.proofs.EntryTrip.{TakenEntry, entry-says}
 
 -- the entries es in front of those that are still to come
 abbrev pub before : List Entry → Outcome (List Entry × ℕ) → Outcome (List Entry × ℕ)
@@ -62,17 +60,6 @@ start f n bs h =
 padded : (f : Frame) (n : ℕ) (es all : List Entry) → length es ≡ n → all ≡ es ++ replicate (64 - n) blank → record { frame = f; n = n; entries = all } ≡ dayList f es
 padded f n es all k w = rw (w, ← k)
 
--- an entry that was taken lies inside what was left
-pub within : (f : Frame) (at : ℕ) (bs : List ℕ) (e : Entry) (size : ℕ) → entryOf f at bs ≡ answered (e, size) → size ≤ length bs
-unfolding entryOf fieldsEntry
-within f at bs e size q =
-    let m = fieldsOf (getD bs 0 0) in
-    let taken = passed (mapRows at bs) (fieldsEntry f at m bs) (e, size) q .1 in
-    let sound = passed (fieldRows f at m bs) (andThen (entryFault f at (entryAt f m bs)) (λ _. answered (entryAt f m bs, sizeOf m))) (e, size) taken in
-    let last = then-answered (entryFault f at (entryAt f m bs)) (λ _. answered (entryAt f m bs, sizeOf m)) (e, size) (sound .1) in
-    let z : sizeOf m ≡ size = ap (λ (p : Entry × ℕ). p .1) (answer-is (last .2)) in
-    omega (arith, ltb-false (length bs) (sizeOf m) (sound .0 .0), z)
-
 -- what is left from place at on, as code lends it
 rest-lent : (bs : List ℕ) (at : ℕ) → take (length bs - at) (drop at bs) ≡ drop at bs
 rest-lent bs at = take-all (length bs - at) (drop at bs) (omega (arith, length-drop at bs))
@@ -87,9 +74,12 @@ taken-here f at bs a e size q t = rw (t, rest-lent bs at) at (sym q)
 turned-here : (f : Frame) (at : ℕ) (bs : List ℕ) (a : EntryAnswer) (x : Refusal) → ReadHere f at bs a → a ≡ TurnedBack x → entryOf f at (drop at bs) ≡ refused (codeOf x)
 turned-here f at bs a x q t = rw (t, rest-lent bs at) at (sym q)
 
+-- an entry that was taken lies inside the input
 pub size-here : (f : Frame) (at : ℕ) (bs : List ℕ) (a : EntryAnswer) (e : Entry) (size : ℕ) → at ≤ length bs → ReadHere f at bs a → a ≡ Taken e size → at + size ≤ length bs
 size-here f at bs a e size h q t =
-    omega (arith, within f at (drop at bs) e size (taken-here f at bs a e size q t), length-drop at bs)
+    let rest = drop at bs in
+    let taken : TakenEntry f rest (e, size) = rw (taken-here f at bs a e size q t) at (entry-says f at rest _ refl) in
+    omega (arith, taken .within, length-drop at bs)
 
 module _ {f : Frame} {n : ℕ} {bs : List ℕ} {entries : List Entry} {at i : ℕ} (s : SoFar f n bs entries at i) where
   turn : i < n → entriesFrom f n 3 (drop 3 bs) ≡ before (take i entries) (andThen (entryOf f at (drop at bs)) (λ one. andThen (entriesFrom f (n - (i + 1)) (at + one .1) (drop (one .1) (drop at bs))) (λ more. answered (one .0 ∷ more .0, more .1))))

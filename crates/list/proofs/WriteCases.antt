@@ -1,19 +1,19 @@
 -- A list's one form, entry by entry: its length, and the steps that store it.
 -- Assumes nothing.
 use mathlib.Core.Path.{_≡_, refl, sym, ap, _∙_}
-use mathlib.Core.List.{List, [], _∷_, _++_, append-assoc}
+use mathlib.Core.List.{List, [], _∷_, _++_}
 use Prim.Native.Nat.{ℕ, _+_, _*_, _≤_, _<_}
 use native.Mathlib.Nat.{zero-add}
 use native.Mathlib.Omega.{arith}
 use borrow.Author.Tests.{lt-ltb, le-ltb}
-use lib.ListN.{length, getD, take, drop, set, length-append, length-set}
-use lib.Seq.{sets, sets-eq, length-sets}
-use Rattle.list.specs.Outcomes.{Outcome, code, answered, refused, andThen}
+use lib.ListN.{length, getD, drop, set, length-append, length-set, length-take}
+use lib.Seq.{sets, sets-eq}
+use Rattle.list.specs.Outcomes.{code, answered, refused}
 use Rattle.list.specs.Refusals.{codeOf, verdictOf}
 use Rattle.list.specs.Numbers.{u16Bytes}
 use Rattle.list.specs.Entries.{entryBytes}
 use Rattle.list.specs.DayLists.{entriesOf}
-use Rattle.list.specs.Checks.{WellFormed, checkOf, headerFault}
+use Rattle.list.specs.Checks.{WellFormed, checkOf}
 use Rattle.list.specs.Writing.{Wrote, bytesOfEntries, bytesOf, writeOf, Writes}
 use Rattle.list.specs.declared.types.Entry.{Entry}
 use Rattle.list.specs.declared.types.Frame.{Frame}
@@ -21,10 +21,9 @@ use Rattle.list.specs.declared.types.DayList.{DayList}
 use Rattle.list.specs.declared.types.Refusal.{Refusal}
 use Rattle.list.specs.declared.types.Refusal.the-variants.{ListBufferShort}
 use Rattle.list.specs.declared.types.Verdict.{Verdict}
-use Rattle.list.specs.declared.types.Verdict.the-variants.{Accepted, Refused}
+use Rattle.list.specs.declared.types.Verdict.the-variants.{Refused}
 use Rattle.list.specs.declared.types.WriteAnswer.the-variants.{Written, NotWritten}
-use Rattle.list.proofs.Inversion.{then-answered}
-use Rattle.list.proofs.CheckCases.{header-of}
+use Rattle.list.proofs.Sound.{sound-list}
 use Rattle.list.proofs.Stores.{wrote-length, wrote-more, room-first, room-after}
 use Rattle.list.proofs.FormCases.{entry-short}
 use Rattle.list.proofs.Walk.{walk-next, walk-done}
@@ -36,7 +35,6 @@ restBytes l i = bytesOfEntries (l .frame) (drop i (entriesOf l))
 -- i entries were counted
 pub record Counted (l : DayList) (size i : ℕ) : Type 0 where
   pub passed : i ≤ l .n
-  pub small : size ≤ 3 + 15 * i
   pub whole : size + length (restBytes l i) ≡ length (bytesOf l)
 
 -- i entries were stored, up to place at, in a buffer that held from after the header
@@ -61,7 +59,6 @@ module _ (l : DayList) (enough : l .n ≤ length (l .entries)) where
       let q : length (restBytes l i) ≡ length (entryBytes (l .frame) e) + length (restBytes l (i + 1)) = rw (rest-next i e₀ h) (length-append (entryBytes (l .frame) e) (restBytes l (i + 1))) in
       record {
         passed = omega arith;
-        small = omega (arith, c .small, entry-short (l .frame) e);
         whole = omega (arith, c .whole, q);
       }
 
@@ -83,13 +80,23 @@ module _ (l : DayList) (enough : l .n ≤ length (l .entries)) where
   pub stored-done : (from out : List ℕ) (at i : ℕ) → StoredSoFar l from out at i → l .n ≤ i → out ≡ sets from 3 (restBytes l 0)
   stored-done from out at i s h = rw (rest-done i h) at (s .rest)
 
+-- each entry takes 15 bytes at most
+entries-short : (f : Frame) (es : List Entry) → length (bytesOfEntries f es) ≤ 15 * length es
+unfolding bytesOfEntries
+entries-short f [] = omega arith
+entries-short f (e ∷ es) = simp length-append (omega (arith, entry-short f e, entries-short f es))
+
 module _ (l : DayList) where
   pub list-length : length (bytesOf l) ≡ 3 + length (restBytes l 0)
   unfolding bytesOf
   list-length = simp length-append (omega arith)
 
+  -- so a list takes 963 at most
+  pub list-short : l .n ≤ 64 → length (bytesOf l) ≤ 963
+  list-short h = omega (arith, list-length, entries-short (l .frame) (entriesOf l), length-take (l .n) (l .entries))
+
   pub counted-start : Counted l 3 0
-  counted-start = record { passed = omega arith; small = omega arith; whole = sym list-length }
+  counted-start = record { passed = omega arith; whole = sym list-length }
 
   -- the header and the entries one after the other
   pub list-stored : {old o : List ℕ} {next : ℕ} → Wrote old 0 (u16Bytes (l .frame .h)) o next → sets (set o 2 (l .n)) 3 (restBytes l 0) ≡ sets old 0 (bytesOf l)
@@ -107,8 +114,12 @@ module _ (l : DayList) where
 
   -- a well-formed list has room for its entries
   pub has-room : WellFormed l → l .n ≤ 64
-  unfolding checkOf
-  has-room w = header-of 0 (l .frame) (l .n) (then-answered (headerFault 0 (l .frame) (l .n)) _ tt w .1) .room
+  has-room w = sound-list l w .header .room
+
+  -- a well-formed list that has room is written
+  pub written-whole : (room : ℕ) → WellFormed l → length (bytesOf l) ≤ room → writeOf l room ≡ answered (length (bytesOf l))
+  unfolding writeOf
+  written-whole room w h = rw w (simp (le-ltb _ _ h))
 
   module _ (old : List ℕ) where
     pub write-refused : (v : Verdict) (x : Refusal) → verdictOf v ≡ checkOf l → v ≡ Refused x → Writes l old (NotWritten x) old
@@ -123,8 +134,6 @@ module _ (l : DayList) where
         record { outcome = rw (q, z); buffer = rw q }
 
     pub write-whole : (size : ℕ) (new : List ℕ) → WellFormed l → size ≡ length (bytesOf l) → size ≤ length old → new ≡ sets old 0 (bytesOf l) → Writes l old (Written size) new
-    unfolding writeOf
     write-whole size new w z h q₀ =
-        let k : length (bytesOf l) ≤ length old = omega (arith, z) in
-        let q : writeOf l (length old) ≡ answered (length (bytesOf l)) = rw w (simp (le-ltb _ _ k)) in
+        let q = written-whole (length old) w (omega (arith, z)) in
         record { outcome = rw (q, z); buffer = rw q (q₀ ∙ sets-eq (bytesOf l) old 0 (omega (arith, z)) ∙ rw zero-add) }

@@ -12,7 +12,8 @@ use Rattle.list.specs.DayLists.{entriesOf}
 use Rattle.list.specs.Checks.{headerFault, checkOf, entriesFault}
 use Rattle.list.specs.declared.types.Verdict.the-variants.{Accepted}
 use Rattle.list.proofs.Walk.{length-mapped}
-use Rattle.list.proofs.CheckCases.{header-of, check-header, check-entries, check-turned, check-next, check-done}
+use Rattle.list.proofs.Sound.{header-of}
+use Rattle.list.proofs.CheckCases.{check-header, check-entries, check-turned, check-next, check-done}
 use Rattle.list.proofs.checks.check.Statement.{statement}
 use Rattle.list.proofs.checks.check.Tie as tie
 

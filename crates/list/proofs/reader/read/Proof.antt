@@ -6,7 +6,7 @@ use Prim.Native.Nat.{ℕ}
 use lib.ListN.{getD}
 use Rattle.list.specs.Outcomes.{answered}
 use Rattle.list.specs.Checks.{headerFault}
-use Rattle.list.proofs.CheckCases.{header-of}
+use Rattle.list.proofs.Sound.{header-of}
 use Rattle.list.proofs.ReadCases.{answers-refused, read-short, read-header, read-body}
 use Rattle.list.proofs.reader.read.Statement.{statement}
 use Rattle.list.proofs.reader.read.Tie as tie

@@ -2,13 +2,13 @@
 -- what is left of n.
 -- Assumes nothing.
 use borrow.Author.Needs.{needs}
-use mathlib.Core.Path.{_≡_, sym, _∙_}
+use mathlib.Core.Path.{_≡_}
 use Prim.Native.Nat.{_≤_, _-_}
 use native.Mathlib.Omega.{arith}
 use lib.ListN.{length}
 use Rattle.list.specs.DayLists.{blank}
 use Rattle.list.proofs.Walk.{length-mapped}
-use Rattle.list.proofs.WriteCases.{Counted, counted-start, counted-next, counted-done}
+use Rattle.list.proofs.WriteCases.{Counted, list-short, counted-start, counted-next, counted-done}
 use Rattle.list.proofs.writer.list_size.Statement.{statement}
 use Rattle.list.proofs.writer.list_size.Tie as tie
 
@@ -39,8 +39,8 @@ add-size c =
     let enough : c .before .before .before .before .before .args .t1 .n ≤ length (c .before .before .before .before .before .args .t1 .entries) = omega (arith, len, c .before .before .before .before .before .pre) in
     omega (
       arith,
-      c .before .before .before .before .before .pre,
-      counted-next (c .before .before .before .before .before .args .t1) enough (c .before .before .before .before .loop .size) (c .entry-size .result) (c .before .before .before .before .loop .i) blank (c .before .before .before .before .loop .inv) (c .before .before .before .loop-test .taken) (c .entry-size .ensures) .small,
+      list-short (c .before .before .before .before .before .args .t1) (c .before .before .before .before .before .pre),
+      counted-next (c .before .before .before .before .before .args .t1) enough (c .before .before .before .before .loop .size) (c .entry-size .result) (c .before .before .before .before .loop .i) blank (c .before .before .before .before .loop .inv) (c .before .before .before .loop-test .taken) (c .entry-size .ensures) .whole,
     )
 
 add-i : tie.Need-add-i Inv-loop μ-loop

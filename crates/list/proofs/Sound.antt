@@ -1,0 +1,108 @@
+-- What the value check accepts: a header and entries that rows 2, 3, 6 and 7 leave, and exactly those.
+-- Assumes nothing.
+use mathlib.Core.Path.{_≡_, refl}
+use mathlib.Core.Bool.{_||_}
+use mathlib.Core.List.{List, [], _∷_}
+use Prim.Native.Nat.{ℕ, _+_, _≤_}
+use native.Mathlib.Omega.{arith}
+use borrow.Author.Tests.{ltb-false, eqb-false, le-ltb, ne-eqb}
+use lib.Dec.{eqb, ltb}
+use Rattle.list.specs.Outcomes.{Code, code, answered}
+use Rattle.list.specs.Entries.{entryFault}
+use Rattle.list.specs.DayLists.{entriesOf}
+use Rattle.list.specs.Checks.{headerFault, entriesFault, checkOf, WellFormed}
+use Rattle.list.specs.declared.types.Entry.{Entry}
+use Rattle.list.specs.declared.types.Frame.{Frame}
+use Rattle.list.specs.declared.types.DayList.{DayList}
+use Rattle.list.proofs.Inversion.{Says, by-row, by-step, Anything, neither}
+
+-- what rows 2 and 3 leave
+pub record Header (f : Frame) (n : ℕ) : Type 0 where
+  pub some-minutes : 1 ≤ f .h
+  pub one-day : f .h ≤ 1440
+  pub room : n ≤ 64
+
+module _ (place : ℕ) (f : Frame) (n : ℕ) where
+  -- what rows 2 and 3 say: of a refusal, whatever holds of both
+  pub header-says : (R : Code → Type 0) → R (code 2 (0 ∷ [])) → R (code 3 (place ∷ [])) → Says (λ _. Header f n) R (headerFault place f n)
+  unfolding headerFault
+  header-says R two three =
+      by-row (λ _. Header f n) R (eqb (f .h) 0 || ltb 1440 (f .h)) _ _ (λ t. two)
+      (λ h. by-row (λ _. Header f n) R (ltb 64 n) _ _ (λ t. three)
+      (λ t.
+      let z = neither (eqb (f .h) 0) (ltb 1440 (f .h)) h in
+      record { some-minutes = omega (arith, eqb-false (f .h) 0 (z .0)); one-day = ltb-false _ _ (z .1); room = ltb-false _ _ t }))
+
+  -- a header is accepted exactly if it is sound
+  pub header-of : headerFault place f n ≡ answered tt → Header f n
+  header-of e = rw e at (header-says Anything tt tt)
+
+  pub header-passes : Header f n → headerFault place f n ≡ answered tt
+  unfolding headerFault
+  header-passes h =
+      let z : f .h ≡ 0 → ⊥ = omega arith in
+      simp (ne-eqb _ _ z, le-ltb _ _ (h .one-day), le-ltb _ _ (h .room))
+
+-- what rows 6 and 7 leave
+pub record Sound (f : Frame) (e : Entry) : Type 0 where
+  pub some-minutes : 1 ≤ e .p
+  pub in-day : e .d ≤ f .h
+  pub room : e .r + e .p ≤ e .d
+
+module _ (f : Frame) (at : ℕ) (e : Entry) where
+  -- what rows 6 and 7 say: of a refusal, whatever holds of both
+  pub fault-says : (R : Code → Type 0) → R (code 6 (at ∷ [])) → R (code 7 (at ∷ [])) → Says (λ _. Sound f e) R (entryFault f at e)
+  unfolding entryFault
+  fault-says R six seven =
+      by-row (λ _. Sound f e) R (eqb (e .p) 0) _ _ (λ t. six)
+      (λ p. by-row (λ _. Sound f e) R (ltb (f .h) (e .d) || ltb (e .d) (e .r + e .p)) _ _ (λ t. seven)
+      (λ w.
+      let z = neither _ _ w in
+      record { some-minutes = omega (arith, eqb-false (e .p) 0 p); in-day = ltb-false _ _ (z .0); room = ltb-false _ _ (z .1) }))
+
+  -- a sound entry has no fault, at any place
+  pub faultless : Sound f e → entryFault f at e ≡ answered tt
+  unfolding entryFault
+  faultless s =
+      let z : e .p ≡ 0 → ⊥ = omega arith in
+      simp (ne-eqb _ _ z, le-ltb _ _ (s .in-day), le-ltb _ _ (s .room))
+
+-- every one of the entries
+abbrev pub Every : (Entry → Type 0) → List Entry → Type 0
+Every P [] = Unit {0}
+Every P (e ∷ es) = P e × Every P es
+
+module _ (f : Frame) where
+  -- what follows from sound entries, an answer of their check says
+  checked-say : (Q : Type 0) (i : ℕ) (es : List Entry) → (Every (Sound f) es → Q) → Says (λ _. Q) Anything (entriesFault f i es)
+  unfolding entriesFault
+  checked-say Q i [] q = q tt
+  checked-say Q i (e ∷ es) q =
+      by-step (λ _. Sound f e) Anything (λ _. Q) (entryFault f i e) _ (fault-says f i e Anything tt tt)
+      (λ _ s. checked-say Q (i + 1) es (λ more. q (s, more)))
+
+  checked-passes : (i : ℕ) (es : List Entry) → Every (Sound f) es → entriesFault f i es ≡ answered tt
+  unfolding entriesFault
+  checked-passes i [] s = refl
+  checked-passes i (e ∷ es) s = rw (faultless f i e (s .0)) (checked-passes (i + 1) es (s .1))
+
+-- a list's header and entries are sound
+pub record SoundList (l : DayList) : Type 0 where
+  pub header : Header (l .frame) (l .n)
+  pub entries : Every (Sound (l .frame)) (entriesOf l)
+
+module _ (l : DayList) where
+  -- what the value check says
+  pub check-says : Says (λ _. SoundList l) Anything (checkOf l)
+  unfolding checkOf
+  check-says =
+      by-step (λ _. Header (l .frame) (l .n)) Anything (λ _. SoundList l) (headerFault 0 (l .frame) (l .n)) _ (header-says 0 (l .frame) (l .n) Anything tt tt)
+      (λ _ h. checked-say (l .frame) (SoundList l) 0 (entriesOf l) (λ s. record { header = h; entries = s }))
+
+  -- a list is well-formed exactly if it is sound
+  pub sound-list : WellFormed l → SoundList l
+  sound-list w = rw w at check-says
+
+  pub well-formed : SoundList l → WellFormed l
+  unfolding checkOf
+  well-formed s = rw (header-passes 0 (l .frame) (l .n) (s .header)) (checked-passes (l .frame) 0 (entriesOf l) (s .entries))
