@@ -7,6 +7,7 @@ use list::types::Seal;
 ghost use mathlib.Core.Path.{_≡_};
 ghost use mathlib.Core.Bool.{not};
 ghost use Prim.Native.Nat.{_+_, _≤_};
+ghost use lib.ListN.{replicate};
 ghost use lib.Seq.{sets};
 ghost use lib.Dec.{eqb};
 ghost use Rattle.list.specs.Maps.{kindOf};
@@ -49,7 +50,8 @@ fn entry_in(fields: &[u32; 450], at: usize) -> Entry
 pub(crate) fn list_in(fields: &[u32; 450]) -> DayList
     ensures { λ l. ⌜ l ≡ valueOf (now (fields .entry)) ⌝ }
 {
-    let mut entries = [list::blank_entry(); 64];
+    let none = list::empty_list();
+    let mut entries = none.entries;
     let mut i: usize = 0;
     while i < 64 {
         entries[i] = entry_in(fields, 2 + 7 * i);
@@ -106,12 +108,18 @@ fn put_entry(e: Entry, fields: &mut [u32; 450], at: usize)
     fields[at + 6] = is_whole(kind);
 }
 
+fn zeros() -> [u32; 450]
+    ensures { λ r. ⌜ r ≡ replicate 450 0 ⌝ }
+{
+    [0; 450]
+}
+
 // The numbers that say a list value.
 pub(crate) fn flat_of(list: DayList) -> [u32; 450]
     ensures { λ r. ⌜ r ≡ flatOf list ⌝ }
 {
     let frame = list.frame;
-    let mut fields = [0u32; 450];
+    let mut fields = zeros();
     fields[0] = frame.h as u32;
     fields[1] = list.n as u32;
     let mut i: usize = 0;

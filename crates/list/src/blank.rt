@@ -5,9 +5,10 @@ use crate::types::Frame;
 use crate::types::Kind;
 use crate::types::Seal;
 ghost use mathlib.Core.Path.{_≡_};
+ghost use lib.ListN.{replicate};
 ghost use Rattle.list.specs.DayLists.{blank, emptyList};
 
-pub fn blank_entry() -> Entry
+fn blank_entry() -> Entry
     ensures { λ e. ⌜ e ≡ blank ⌝ }
 {
     Entry {
@@ -20,12 +21,20 @@ pub fn blank_entry() -> Entry
     }
 }
 
+// A function of its own, so that callers reason about one name and not about 64 entries.
+pub(crate) fn blank_entries() -> [Entry; 64]
+    ensures { λ es. ⌜ es ≡ replicate 64 blank ⌝ }
+{
+    [blank_entry(); 64]
+}
+
 pub fn empty_list() -> DayList
     ensures { λ l. ⌜ l ≡ emptyList ⌝ }
 {
+    let entries = blank_entries();
     DayList {
         frame: Frame { h: 0 },
         n: 0,
-        entries: [blank_entry(); 64],
+        entries: entries,
     }
 }

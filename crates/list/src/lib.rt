@@ -12,7 +12,6 @@ mod refusals;
 pub mod types;
 mod writer;
 
-pub use blank::blank_entry;
 pub use blank::empty_list;
 pub use checks::check;
 pub use reader::read;

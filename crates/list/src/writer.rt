@@ -11,7 +11,6 @@ ghost use mathlib.Core.Path.{_≡_};
 ghost use Prim.Native.Nat.{_≤_};
 ghost use lib.ListN.{length};
 ghost use lib.Seq.{sets};
-ghost use Rattle.list.specs.Checks.{WellFormed};
 ghost use Rattle.list.specs.Writing.{bytesOf, Writes};
 
 // The bytes of a list's one form.
@@ -52,20 +51,14 @@ pub fn write(list: DayList, out: &mut [u8]) -> WriteAnswer
 {
     let verdict = check(list);
     match verdict {
-        Verdict::Accepted => write_checked(list, out),
+        Verdict::Accepted => {
+            let size = list_size(list);
+            if out.len() < size {
+                return WriteAnswer::NotWritten(Refusal::ListBufferShort(size));
+            }
+            put_list(list, out);
+            WriteAnswer::Written(size)
+        }
         Verdict::Refused(x) => WriteAnswer::NotWritten(x),
     }
-}
-
-// Row 12, else the one form of a well-formed list.
-fn write_checked(list: DayList, out: &mut [u8]) -> WriteAnswer
-    requires { ⌜ WellFormed list ⌝ }
-    ensures { λ a. ⌜ Writes list (now (out .entry)) a (now (out .exit)) ⌝ }
-{
-    let size = list_size(list);
-    if out.len() < size {
-        return WriteAnswer::NotWritten(Refusal::ListBufferShort(size));
-    }
-    put_list(list, out);
-    WriteAnswer::Written(size)
 }

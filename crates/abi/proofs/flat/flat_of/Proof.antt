@@ -1,9 +1,9 @@
 -- `flat::flat_of` meets its contract. The loop's invariant is `PutSoFar`. The measure is what is left of 64.
 -- Assumes nothing.
 use borrow.Author.Needs.{needs}
-use mathlib.Core.Path.{_≡_, refl}
+use mathlib.Core.Path.{_≡_}
 use Prim.Native.Nat.{_-_}
-use lib.ListN.{length, replicate}
+use lib.ListN.{length}
 use Rattle.list.proofs.Walk.{length-mapped}
 use Rattle.abi.proofs.FlatCases.{PutSoFar, put-start, put-next, put-done}
 use Rattle.abi.proofs.flat.flat_of.Statement.{statement}
@@ -14,6 +14,9 @@ Inv-loop list fields₀ i₀ fields i = PutSoFar list fields i
 
 abbrev μ-loop : tie.MeasureT-loop
 μ-loop list fields₀ i₀ fields i = 64 - i
+
+zeros-requires : tie.Need-zeros-requires Inv-loop μ-loop
+zeros-requires c κs = search needs
 
 cast-fields : tie.Need-cast-fields Inv-loop μ-loop
 cast-fields c = search needs
@@ -29,8 +32,8 @@ array-write-fields-2 c = search needs
 
 loop-holds : tie.Need-loop-holds Inv-loop μ-loop
 loop-holds c =
-    let k : length (c .before .before .args .t1 .entries) ≡ 64 = search (needs, length-mapped) in
-    put-start (c .before .before .args .t1) (replicate 450 0) refl k
+    let k : length (c .before .before .before .args .t1 .entries) ≡ 64 = search (needs, length-mapped) in
+    put-start (c .before .before .before .args .t1) (c .before .zeros .result) (rw (c .before .zeros .ensures)) k
 
 mul-put-entry : tie.Need-mul-put-entry Inv-loop μ-loop
 mul-put-entry c = search needs
@@ -55,12 +58,12 @@ loop-less c = search needs
 
 loop-again : tie.Need-loop-again Inv-loop μ-loop
 loop-again c =
-    let k : length (c .before .before .before .before .before .before .before .args .t1 .entries) ≡ 64 = search (needs, length-mapped) in
+    let k : length (c .before .before .before .before .before .before .before .before .args .t1 .entries) ≡ 64 = search (needs, length-mapped) in
     put-next (c .before .before .before .before .loop .inv) k _ _ (c .before .before .before .loop-test .taken) (c .put-entry .ensures)
 
 returns : tie.Need-returns Inv-loop μ-loop
 returns c =
-    let k : length (c .before .before .before .before .args .t1 .entries) ≡ 64 = search (needs, length-mapped) in
+    let k : length (c .before .before .before .before .before .args .t1 .entries) ≡ 64 = search (needs, length-mapped) in
     put-done (c .before .loop .inv) k (c .loop-test .left)
 
 pub flat-of-spec : {M : Type 1} → statement M
@@ -69,6 +72,7 @@ flat-of-spec =
     (tie.spec
     Inv-loop
     μ-loop
+    zeros-requires
     cast-fields
     array-write-fields
     cast-fields-2

@@ -2,7 +2,7 @@
 -- Assumes nothing.
 use borrow.Author.Needs.{needs}
 use Prim.Native.Nat.{_-_}
-use Rattle.abi.proofs.FlatCases.{ReadInSoFar, read-in-next, read-in-done}
+use Rattle.abi.proofs.FlatCases.{ReadInSoFar, read-in-start, read-in-next, read-in-done}
 use Rattle.abi.proofs.flat.list_in.Statement.{statement}
 use Rattle.abi.proofs.flat.list_in.Tie as tie
 
@@ -12,11 +12,11 @@ Inv-loop fields entries₀ i₀ entries i = ReadInSoFar fields entries i
 abbrev μ-loop : tie.MeasureT-loop
 μ-loop fields entries₀ i₀ entries i = 64 - i
 
-blank-entry-requires : tie.Need-blank-entry-requires Inv-loop μ-loop
-blank-entry-requires c κs = search needs
+empty-list-requires : tie.Need-empty-list-requires Inv-loop μ-loop
+empty-list-requires c κs = search needs
 
 loop-holds : tie.Need-loop-holds Inv-loop μ-loop
-loop-holds c = search needs
+loop-holds c = read-in-start _ _ (rw (c .before .empty-list .ensures))
 
 mul-entry-in : tie.Need-mul-entry-in Inv-loop μ-loop
 mul-entry-in c = search needs
@@ -63,7 +63,7 @@ list-in-spec =
     (tie.spec
     Inv-loop
     μ-loop
-    blank-entry-requires
+    empty-list-requires
     loop-holds
     mul-entry-in
     add-entry-in

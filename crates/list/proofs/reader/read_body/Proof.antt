@@ -16,11 +16,11 @@ Inv-loop bytes frame n entries₀ at₀ i₀ entries at i = SoFar frame n bytes 
 abbrev μ-loop : tie.MeasureT-loop
 μ-loop bytes frame n entries₀ at₀ i₀ entries at i = n - i
 
-blank-entry-requires : tie.Need-blank-entry-requires Inv-loop μ-loop
-blank-entry-requires c κs = search needs
+blank-entries-requires : tie.Need-blank-entries-requires Inv-loop μ-loop
+blank-entries-requires c κs = search needs
 
 loop-holds : tie.Need-loop-holds Inv-loop μ-loop
-loop-holds c = rw (c .blank-entry .ensures) (start (c .before .before .args .frame) (c .before .before .args .n) (c .before .before .args .bytes .now) (c .before .before .pre .0))
+loop-holds c = rw (c .blank-entries .ensures) (start (c .before .before .args .frame) (c .before .before .args .n) (c .before .before .args .bytes .now) (c .before .before .pre .0))
 
 sub-read-entry : tie.Need-sub-read-entry Inv-loop μ-loop
 sub-read-entry c = search needs
@@ -91,7 +91,7 @@ read-body-spec =
     (tie.spec
     Inv-loop
     μ-loop
-    blank-entry-requires
+    blank-entries-requires
     loop-holds
     sub-read-entry
     part-read-entry-start

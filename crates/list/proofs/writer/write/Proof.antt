@@ -1,11 +1,20 @@
--- `writer::write` meets its contract.
+-- `writer::write` meets its contract: the value check, then the room, then the one form.
 -- Assumes nothing.
 use borrow.Author.Needs.{needs}
-use mathlib.Core.Path.{sym, ap, _∙_}
+use mathlib.Core.Path.{_≡_, sym, ap, _∙_}
+use native.Mathlib.Omega.{arith}
 use Rattle.list.specs.Refusals.{verdictOf}
-use Rattle.list.proofs.WriteCases.{write-refused}
+use Rattle.list.specs.Checks.{WellFormed, checkOf}
+use Rattle.list.specs.declared.types.DayList.{DayList}
+use Rattle.list.specs.declared.types.Verdict.{Verdict}
+use Rattle.list.specs.declared.types.Verdict.the-variants.{Accepted}
+use Rattle.list.proofs.WriteCases.{has-room, write-refused, write-short, write-whole}
 use Rattle.list.proofs.writer.write.Statement.{statement}
 use Rattle.list.proofs.writer.write.Tie as tie
+
+-- the list was accepted
+well : (l : DayList) {v : Verdict} → verdictOf v ≡ checkOf l → v ≡ Accepted → WellFormed l
+well l w a = sym w ∙ ap verdictOf a
 
 check-requires : tie.Need-check-requires
 check-requires c κs = search needs
@@ -13,8 +22,14 @@ check-requires c κs = search needs
 enum-told : tie.Need-enum-told
 enum-told c = search needs
 
-write-checked-requires : tie.Need-write-checked-requires
-write-checked-requires c κs = sym (c .before .before .before .check .ensures) ∙ ap verdictOf (c .before .enum-told .given .1)
+list-size-requires : tie.Need-list-size-requires
+list-size-requires c κs = has-room (c .before .before .before .before .args .list) (well (c .before .before .before .before .args .list) (c .before .before .check .ensures) (c .enum-told .given .1))
+
+returns : tie.Need-returns
+returns c = write-short (c .before .before .before .before .before .before .args .list) (c .before .before .before .before .before .before .args .out .now) _ (well (c .before .before .before .before .before .before .args .list) (c .before .before .before .before .check .ensures) (c .before .before .enum-told .given .1)) (c .before .list-size .ensures) (c .if1 .taken)
+
+put-list-requires : tie.Need-put-list-requires
+put-list-requires c κs = (has-room (c .before .before .before .before .before .before .before .args .list) (well (c .before .before .before .before .before .before .before .args .list) (c .before .before .before .before .before .check .ensures) (c .before .before .before .enum-told .given .1)), omega (arith, c .before .before .list-size .ensures, c .before .if1 .left))
 
 enum-known-verdict : tie.Need-enum-known-verdict
 enum-known-verdict c = search needs
@@ -22,11 +37,11 @@ enum-known-verdict c = search needs
 same-length : tie.Need-same-length
 same-length c = search needs
 
-returns : tie.Need-returns
-returns c = search needs
-
 returns-2 : tie.Need-returns-2
-returns-2 c = write-refused (c .before .before .before .before .before .args .list) (c .before .before .before .before .before .args .out .now) _ _ (c .before .before .before .check .ensures) (c .before .verdict .given .1)
+returns-2 c = write-whole (c .before .before .before .before .before .before .before .before .before .before .args .list) (c .before .before .before .before .before .before .before .before .before .before .args .out .now) _ _ (well (c .before .before .before .before .before .before .before .before .before .before .args .list) (c .before .before .before .before .before .before .before .before .check .ensures) (c .before .before .before .before .before .before .enum-told .given .1)) (c .before .before .before .before .before .list-size .ensures) (c .before .before .before .before .if1 .left) (c .before .before .put-list .ensures)
+
+returns-3 : tie.Need-returns-3
+returns-3 c = write-refused (c .before .before .before .before .before .args .list) (c .before .before .before .before .before .args .out .now) _ _ (c .before .before .before .check .ensures) (c .before .verdict .given .1)
 
 pub write-spec : {M : Type 1} → statement M
 write-spec =
@@ -34,8 +49,10 @@ write-spec =
     (tie.spec
     check-requires
     enum-told
-    write-checked-requires
+    list-size-requires
+    returns
+    put-list-requires
     enum-known-verdict
     same-length
-    returns
-    returns-2)
+    returns-2
+    returns-3)
