@@ -12,8 +12,8 @@ use lib.Dec.{eqb, ltb}
 use lib.ListN.{length, getD, drop, length-append}
 use Rattle.list.specs.Outcomes.{code, answered}
 use Rattle.list.specs.Numbers.{u16At, u32At, u16Bytes, u32Bytes}
-use Rattle.list.specs.Maps.{legalMap, fieldsOf, rPlace, dPlace, pPlace, sizeOf, mapRead}
-use Rattle.list.specs.Entries.{defaultR, defaultD, sealOf, entryAt, entryFault, entryOf, fieldsEntry, defaultWritten, minuteBytes, sealBytes, sealBit, mapOf, entryBytes}
+use Rattle.list.specs.Maps.{legalMap, fieldsOf, mapOf, rPlace, dPlace, pPlace, sizeOf, mapRead}
+use Rattle.list.specs.Entries.{defaultR, defaultD, sealOf, entryAt, entryFault, entryOf, fieldsEntry, defaultWritten, sealed, fieldsIn, sealBytes, minuteBytes, entryBytes}
 use Rattle.list.specs.declared.types.Seal.{Seal}
 use Rattle.list.specs.declared.types.Seal.the-variants.{Missing, Number}
 use Rattle.list.specs.declared.types.Entry.{Entry}
@@ -22,9 +22,10 @@ use Rattle.list.specs.declared.types.Verdict.the-variants.{Accepted}
 use Rattle.list.specs.declared.map.Fields.{Fields}
 use Rattle.list.specs.declared.map.MapAnswer.the-variants.{Follow}
 use Rattle.list.proofs.FieldTrip.{Bytes, past-field, u16-read, u32-read, u32-small, byte-stands, u16-stands, u32-stands}
-use Rattle.list.proofs.MapBytes.{mapFor, map-form, map-back}
+use Rattle.list.proofs.MapBytes.{map-form, map-back}
 use Rattle.list.proofs.Inversion.{Says, by-row, by-step, PlaceIn, at-end, at-place, neither}
 use Rattle.list.proofs.Sound.{Sound, fault-says, faultless}
+use Rattle.list.proofs.FormCases.{seal-length, minute-length, entry-length}
 use Rattle.list.proofs.EntryCases.{entry-is, entry-legal, fields-taken}
 
 -- the seal's number, if it is one, fits its four bytes
@@ -37,74 +38,35 @@ pub record Fits (e : Entry) : Type 0 where
   pub serial : e .serial < 2 ^ 32
   pub seal : SealFits (e .seal)
 
-abbrev numbered : Seal → Bool
-numbered Missing = false
-numbered (Number x) = true
-
--- the fields that an entry's one form has
-abbrev fieldsFor : Frame → Entry → Fields
-fieldsFor f e =
-    record {
-      seal = numbered (e .seal);
-      r = not (eqb (e .r) (defaultR f));
-      d = not (eqb (e .d) (defaultD f));
-      kind = e .kind;
-    }
-
-seal-bit : (s : Seal) → cond (numbered s) 2 0 ≡ sealBit s
-seal-bit Missing = refl
-seal-bit (Number x) = refl
-
-cond-not : (t : Bool) (x : ℕ) → cond (not t) x 0 ≡ cond t 0 x
-cond-not true x = refl
-cond-not false x = refl
-
-map-for : (f : Frame) (e : Entry) → mapFor (fieldsFor f e) ≡ mapOf f e
-map-for f e = simp (seal-bit, cond-not)
-
 -- an entry's one form with bytes after it
 abbrev laid : Frame → Entry → List ℕ → List ℕ
 laid f e rest =
-    mapOf f e
+    let m = fieldsIn f e in
+    mapOf m
     ∷ (u32Bytes (e .serial)
     ++ (sealBytes (e .seal)
-    ++ (minuteBytes (e .r) (defaultR f) ++ (minuteBytes (e .d) (defaultD f) ++ (u16Bytes (e .p) ++ rest)))))
+    ++ (minuteBytes (m .r) (e .r) ++ (minuteBytes (m .d) (e .d) ++ (u16Bytes (e .p) ++ rest)))))
 
 laid-out : (f : Frame) (e : Entry) (rest : List ℕ) → entryBytes f e ++ rest ≡ laid f e rest
 unfolding entryBytes
 laid-out f e rest = simp append-assoc
 
-seal-length : (s : Seal) → length (sealBytes s) ≡ cond (numbered s) 4 0
-seal-length Missing = refl
-seal-length (Number x) = refl
-
-optional-length : (x : ℕ) (t : Bool) → length (cond t [] (u16Bytes x)) ≡ cond (not t) 2 0
-optional-length x true = refl
-optional-length x false = refl
-
-minute-length : (x x₀ : ℕ) → length (minuteBytes x x₀) ≡ cond (not (eqb x x₀)) 2 0
-minute-length x x₀ = optional-length x (eqb x x₀)
-
-size-for : (f : Frame) (e : Entry) → sizeOf (fieldsFor f e) ≡ length (entryBytes f e)
-unfolding entryBytes
-size-for f e = simp (length-append, seal-length, minute-length) (omega arith)
-
 module _ (bs : List ℕ) (i : ℕ) (tail : List ℕ) where
-  seal-read : (s : Seal) → SealFits s → drop i bs ≡ sealBytes s ++ tail → s ≡ sealOf (numbered s) (u32At bs i)
+  seal-read : (s : Seal) → SealFits s → drop i bs ≡ sealBytes s ++ tail → s ≡ sealOf (sealed s) (u32At bs i)
   seal-read Missing h e = refl
   seal-read (Number x) h e = ap Number (sym (u32-read bs i x tail h e))
 
-  minute-read : (x x₀ : ℕ) → x < 65536 → (t : Bool) → eqb x x₀ ≡ t → drop i bs ≡ cond t [] (u16Bytes x) ++ tail → x ≡ cond (not t) (u16At bs i) x₀
+  minute-read : (x x₀ : ℕ) → x < 65536 → (t : Bool) → eqb x x₀ ≡ t → drop i bs ≡ minuteBytes (not t) x ++ tail → x ≡ cond (not t) (u16At bs i) x₀
   minute-read x x₀ h true q e = eqb-true _ _ q
   minute-read x x₀ h false q e = sym (u16-read bs i x tail h e)
 
-entry-back : (f : Frame) (e : Entry) (rest : List ℕ) → f .h < 65536 → Fits e → Sound f e → e ≡ entryAt f (fieldsFor f e) (laid f e rest)
+entry-back : (f : Frame) (e : Entry) (rest : List ℕ) → f .h < 65536 → Fits e → Sound f e → e ≡ entryAt f (fieldsIn f e) (laid f e rest)
 entry-back f e rest h fits s =
-    let m = fieldsFor f e in
+    let m = fieldsIn f e in
     let bs = laid f e rest in
     let r-here = past-field bs 5 (sealBytes (e .seal)) _ _ (seal-length (e .seal)) refl in
-    let d-here = past-field bs (rPlace m) (minuteBytes (e .r) (defaultR f)) _ _ (minute-length (e .r) (defaultR f)) r-here in
-    let p-here = past-field bs (dPlace m) (minuteBytes (e .d) (defaultD f)) _ _ (minute-length (e .d) (defaultD f)) d-here in
+    let d-here = past-field bs (rPlace m) (minuteBytes (m .r) (e .r)) _ _ (minute-length (m .r) (e .r)) r-here in
+    let p-here = past-field bs (dPlace m) (minuteBytes (m .d) (e .d)) _ _ (minute-length (m .d) (e .d)) d-here in
     entry-is f m bs _ _ _ _ _ _ _ _ _ _
     (sym (u32-read bs 1 (e .serial) _ (fits .serial) refl))
     (seal-read bs 5 _ (e .seal) (fits .seal) refl)
@@ -115,12 +77,12 @@ entry-back f e rest h fits s =
 -- an entry that fits and is sound is read back from its one form, whatever follows
 pub entry-reads-back : (f : Frame) (at : ℕ) (e : Entry) (rest : List ℕ) → f .h < 65536 → Fits e → Sound f e → entryOf f at (entryBytes f e ++ rest) ≡ answered (e, length (entryBytes f e))
 entry-reads-back f at e rest h fits s =
-    let m = fieldsFor f e in
+    let m = fieldsIn f e in
     let bs = laid f e rest in
-    let long : sizeOf m ≤ length bs = omega (arith, size-for f e, length-append (entryBytes f e) rest, ap length (laid-out f e rest)) in
-    let first : mapRead (getD bs 0 0) ≡ Follow m = rw (← map-for) (map-back m) in
+    let long : sizeOf m ≤ length bs = omega (arith, entry-length f e, length-append (entryBytes f e) rest, ap length (laid-out f e rest)) in
+    let first : mapRead (getD bs 0 0) ≡ Follow m = map-back m in
     rw laid-out (sym
-    (fields-taken f at m bs e Accepted (entry-back f e rest h fits s) long (simp not-and-self) (sym (faultless f at e s)) _ (sym (size-for f e)) refl
+    (fields-taken f at m bs e Accepted (entry-back f e rest h fits s) long (simp not-and-self) (sym (faultless f at e s)) _ (entry-length f e) refl
     ∙ entry-legal f at bs m (omega arith) first))
 
 -- a minute that is not a written default: its field follows again exactly if it did
@@ -128,13 +90,13 @@ written-again : (w : Bool) (x x₀ : ℕ) → w && eqb (cond w x x₀) x₀ ≡ 
 written-again true x x₀ e = rw e
 written-again false x x₀ e = rw (eq-eqb x₀ x₀ refl)
 
-numbered-again : (w : Bool) (x : ℕ) → numbered (sealOf w x) ≡ w
-numbered-again true x = refl
-numbered-again false x = refl
+sealed-again : (w : Bool) (x : ℕ) → sealed (sealOf w x) ≡ w
+sealed-again true x = refl
+sealed-again false x = refl
 
 module _ (bs : List ℕ) (b : Bytes bs) (i : ℕ) where
   minute-stands : (w : Bool) (x₀ : ℕ) → i + cond w 2 0 ≤ length bs → w && eqb (cond w (u16At bs i) x₀) x₀ ≡ false
-      → drop i bs ≡ minuteBytes (cond w (u16At bs i) x₀) x₀ ++ drop (i + cond w 2 0) bs
+      → drop i bs ≡ minuteBytes (not (eqb (cond w (u16At bs i) x₀) x₀)) (cond w (u16At bs i) x₀) ++ drop (i + cond w 2 0) bs
   minute-stands true x₀ l e = simp e (u16-stands bs b i l)
   minute-stands false x₀ l e = simp (eq-eqb x₀ x₀ refl, add-zero)
 
@@ -147,12 +109,12 @@ module _ (bs : List ℕ) (b : Bytes bs) (i : ℕ) where
   seal-fits false = tt
 
 module _ (f : Frame) (m : Fields) (bs : List ℕ) (r-kept : m .r && eqb (entryAt f m bs .r) (defaultR f) ≡ false) (d-kept : m .d && eqb (entryAt f m bs .d) (defaultD f) ≡ false) where
-  fields-again : fieldsFor f (entryAt f m bs) ≡ m
+  fields-again : fieldsIn f (entryAt f m bs) ≡ m
   unfolding entryAt
   fields-again =
-      rw (numbered-again, written-again (m .r) (u16At bs (rPlace m)) (defaultR f) r-kept, written-again (m .d) (u16At bs (dPlace m)) (defaultD f) d-kept)
+      rw (sealed-again, written-again (m .r) (u16At bs (rPlace m)) (defaultR f) r-kept, written-again (m .d) (u16At bs (dPlace m)) (defaultD f) d-kept)
 
-  entry-stands : Bytes bs → sizeOf m ≤ length bs → mapOf f (entryAt f m bs) ≡ getD bs 0 0 → bs ≡ laid f (entryAt f m bs) (drop (sizeOf m) bs)
+  entry-stands : Bytes bs → sizeOf m ≤ length bs → mapOf (fieldsIn f (entryAt f m bs)) ≡ getD bs 0 0 → bs ≡ laid f (entryAt f m bs) (drop (sizeOf m) bs)
   unfolding entryAt
   entry-stands b l q =
       byte-stands bs 0 (omega arith)
@@ -185,12 +147,12 @@ module _ (f : Frame) (at : ℕ) (bs : List ℕ) (len : ℕ) (all : at + length b
   unfolding entryAt
   taken legal long w s =
       let z = neither (m .r && eqb (e .r) (defaultR f)) (m .d && eqb (e .d) (defaultD f)) w in
-      let again : fieldsFor f e ≡ m = fields-again f m bs (z .0) (z .1) in
+      let again : fieldsIn f e ≡ m = fields-again f m bs (z .0) (z .1) in
       record {
         within = long;
         sound = s;
         form = λ b.
-            let map : mapOf f e ≡ getD bs 0 0 = sym (map-for f e) ∙ ap mapFor again ∙ map-form (getD bs 0 0) (b 0) legal in
+            let map : mapOf (fieldsIn f e) ≡ getD bs 0 0 = ap mapOf again ∙ map-form (getD bs 0 0) (b 0) legal in
             entry-stands f m bs (z .0) (z .1) b long map ∙ sym (laid-out f e (drop (sizeOf m) bs));
         fits = λ b. record { serial = u32-small bs b 1; seal = seal-fits bs b 5 (m .seal) };
       }

@@ -1,69 +1,60 @@
 -- An entry's one form, part by part: its length, and the steps that store it.
 -- Assumes nothing.
-use mathlib.Core.Path.{_≡_, refl, sym}
+use mathlib.Core.Path.{_≡_, refl, sym, ap, _∙_}
 use mathlib.Core.Bool.{Bool, true, false, cond}
 use mathlib.Core.List.{List, [], _∷_, _++_}
 use Prim.Native.Nat.{ℕ, _+_, _≤_}
 use native.Mathlib.Omega.{arith}
 use lib.ListN.{length, set, length-append}
-use lib.Dec.{eqb}
 use Rattle.list.specs.Numbers.{u16Bytes, u32Bytes}
-use Rattle.list.specs.Entries.{defaultR, defaultD, sealBit, kindBit, sealBytes, minuteBytes, timesBytes, mapOf, entryBytes}
+use Rattle.list.specs.Maps.{mapOf, sizeOf}
+use Rattle.list.specs.Entries.{sealed, fieldsIn, sealBytes, minuteBytes, timesBytes, entryBytes}
 use Rattle.list.specs.Writing.{Wrote}
 use Rattle.list.specs.declared.types.Seal.{Seal}
 use Rattle.list.specs.declared.types.Seal.the-variants.{Missing, Number}
-use Rattle.list.specs.declared.types.Kind.{Kind}
-use Rattle.list.specs.declared.types.Kind.the-variants.{Pause, Whole}
 use Rattle.list.specs.declared.types.Entry.{Entry}
 use Rattle.list.specs.declared.types.Frame.{Frame}
+use Rattle.list.specs.declared.map.Fields.{Fields}
+use Rattle.list.proofs.Places.{p-place-small}
 use Rattle.list.proofs.Stores.{wrote-one, wrote-then}
 
-pub seal-bit-small : (s : Seal) → sealBit s ≤ 2
-seal-bit-small Missing = omega arith
-seal-bit-small (Number x) = omega arith
+pub seal-length : (s : Seal) → length (sealBytes s) ≡ cond (sealed s) 4 0
+seal-length Missing = refl
+seal-length (Number x) = refl
 
-pub kind-bit-small : (k : Kind) → kindBit k ≤ 32
-kind-bit-small Pause = omega arith
-kind-bit-small Whole = omega arith
+pub minute-length : (follows : Bool) (x : ℕ) → length (minuteBytes follows x) ≡ cond follows 2 0
+minute-length true x = refl
+minute-length false x = refl
 
-pub bit-small : (b : Bool) (x : ℕ) → cond b 0 x ≤ x
-bit-small true x = omega arith
-bit-small false x = omega arith
-
-pub seal-short : (s : Seal) → length (sealBytes s) ≤ 4
-seal-short Missing = omega arith
-seal-short (Number x) = omega arith
-
-pub minute-short : (x default : ℕ) → length (minuteBytes x default) ≤ 2
-minute-short x default = go (eqb x default)
-  where
-    go : (b : Bool) → length (cond b [] (u16Bytes x)) ≤ 2
-    go true = omega arith
-    go false = omega arith
+-- r, d and p one after the other
+pub times-stored : (m : Fields) (e : Entry) {old o₁ o₂ new : List ℕ} {at a b next : ℕ}
+    → Wrote old at (minuteBytes (m .r) (e .r)) o₁ a → Wrote o₁ a (minuteBytes (m .d) (e .d)) o₂ b → Wrote o₂ b (u16Bytes (e .p)) new next
+    → Wrote old at (timesBytes m e) new next
+times-stored m e w₁ w₂ w₃ = wrote-then w₁ (wrote-then w₂ w₃)
 
 module _ (f : Frame) (e : Entry) where
-  pub entry-length : length (entryBytes f e) ≡ 7 + length (sealBytes (e .seal)) + length (minuteBytes (e .r) (defaultR f)) + length (minuteBytes (e .d) (defaultD f))
+  pub entry-length : length (entryBytes f e) ≡ sizeOf (fieldsIn f e)
   unfolding entryBytes
-  entry-length = simp length-append (omega arith)
+  entry-length = simp (length-append, seal-length, minute-length) (omega arith)
 
-  pub times-length : length (timesBytes f e) ≡ length (minuteBytes (e .r) (defaultR f)) + length (minuteBytes (e .d) (defaultD f)) + 2
-  times-length = simp length-append (omega arith)
-
-  -- at most 15 bytes, at least 7
   pub entry-short : length (entryBytes f e) ≤ 15
-  entry-short = omega (arith, entry-length, seal-short (e .seal), minute-short (e .r) (defaultR f), minute-short (e .d) (defaultD f))
+  entry-short = omega (arith, entry-length, p-place-small (fieldsIn f e))
 
-  -- r, d and p one after the other
-  pub times-stored : {old o₁ o₂ new : List ℕ} {at a b next r₀ d₀ : ℕ}
-      → r₀ ≡ defaultR f → d₀ ≡ defaultD f
-      → Wrote old at (minuteBytes (e .r) r₀) o₁ a → Wrote o₁ a (minuteBytes (e .d) d₀) o₂ b → Wrote o₂ b (u16Bytes (e .p)) new next
-      → Wrote old at (timesBytes f e) new next
-  times-stored q s w₁ w₂ w₃ = rw (← q, ← s) (wrote-then w₁ (wrote-then w₂ w₃))
+  -- the entry's bytes, from the fields m and the map byte k that code found
+  abbrev pub partsOf : Fields → ℕ → List ℕ
+  partsOf m k = (k ∷ []) ++ (u32Bytes (e .serial) ++ (sealBytes (e .seal) ++ timesBytes m e))
+
+  pub entry-parts : (m : Fields) (k : ℕ) → m ≡ fieldsIn f e → k ≡ mapOf m → entryBytes f e ≡ partsOf m k
+  unfolding entryBytes
+  entry-parts m k p q = ap (λ (n : Fields). partsOf n (mapOf n)) (sym p) ∙ ap (λ (x : ℕ). partsOf m x) (sym q)
+
+  pub entry-room : (m : Fields) (k at n : ℕ) → m ≡ fieldsIn f e → k ≡ mapOf m → at + length (entryBytes f e) ≤ n → at + length (partsOf m k) ≤ n
+  entry-room m k at n p q h = rw (entry-parts m k p q) at h
 
   -- the map byte and the fields one after the other
-  pub entry-stored : {old o₁ o₂ new : List ℕ} {at a b next m : ℕ}
-      → m ≡ mapOf f e
-      → Wrote (set old at m) (at + 1) (u32Bytes (e .serial)) o₁ a → Wrote o₁ a (sealBytes (e .seal)) o₂ b → Wrote o₂ b (timesBytes f e) new next
+  pub entry-stored : {old o₁ o₂ new : List ℕ} {at a b next k : ℕ} {m : Fields}
+      → m ≡ fieldsIn f e → k ≡ mapOf m
+      → Wrote (set old at k) (at + 1) (u32Bytes (e .serial)) o₁ a → Wrote o₁ a (sealBytes (e .seal)) o₂ b → Wrote o₂ b (timesBytes m e) new next
       → Wrote old at (entryBytes f e) new next
-  unfolding entryBytes
-  entry-stored {old} {at = at} {m = m} p w₁ w₂ w₃ = rw (← p) (wrote-then (wrote-one old at m) (wrote-then w₁ (wrote-then w₂ w₃)))
+  entry-stored {old} {at = at} {k = k} {m = m} p q w₁ w₂ w₃ =
+      rw (entry-parts m k p q) (wrote-then (wrote-one old at k) (wrote-then w₁ (wrote-then w₂ w₃)))

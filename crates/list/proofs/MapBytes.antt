@@ -7,8 +7,7 @@ use mathlib.Core.Logic.{_⊎_, inl, inr}
 use Prim.Native.Nat.{ℕ, _+_, _<_}
 use borrow.Author.Tests.{ne-eqb, eqb-true}
 use lib.Dec.{eqb}
-use Rattle.list.specs.Maps.{bit, kindOf, legalMap, fieldsOf, mapRead}
-use Rattle.list.specs.Entries.{kindBit}
+use Rattle.list.specs.Maps.{bit, kindOf, legalMap, fieldsOf, mapOf, mapRead}
 use Rattle.list.specs.declared.types.Kind.{Kind}
 use Rattle.list.specs.declared.types.Kind.the-variants.{Pause, Whole}
 use Rattle.list.specs.declared.map.Fields.{Fields}
@@ -57,16 +56,12 @@ pub named : (b k : ℕ) (s r d : Bool) → following s r d k ≡ mapRead k → f
 named b k s r d p q (inl e) = rw e p
 named b k s r d p q (inr e) = rw e q
 
--- the map byte of these fields
-abbrev pub mapFor : Fields → ℕ
-mapFor m = 17 + cond (m .seal) 2 0 + cond (m .r) 4 0 + cond (m .d) 8 0 + kindBit (m .kind)
-
 -- a legal byte is the map byte of its fields; below, the map byte of fields says those fields
-pub map-form : (b : ℕ) → b < 256 → legalMap b ≡ true → mapFor (fieldsOf b) ≡ b
+pub map-form : (b : ℕ) → b < 256 → legalMap b ≡ true → mapOf (fieldsOf b) ≡ b
 map-form b h e =
-    eqb-true _ _ (simp e at (at 256 (λ k. not (legalMap k) || eqb (mapFor (fieldsOf k)) k) refl b h))
+    eqb-true _ _ (simp e at (at 256 (λ k. not (legalMap k) || eqb (mapOf (fieldsOf k)) k) refl b h))
 
-flags-back : (s r d : Bool) (k : Kind) → let m : Fields = record { seal = s; r = r; d = d; kind = k } in mapRead (mapFor m) ≡ Follow m
+flags-back : (s r d : Bool) (k : Kind) → let m : Fields = record { seal = s; r = r; d = d; kind = k } in mapRead (mapOf m) ≡ Follow m
 flags-back true true true Pause = refl
 flags-back true true true Whole = refl
 flags-back true true false Pause = refl
@@ -84,5 +79,5 @@ flags-back false false true Whole = refl
 flags-back false false false Pause = refl
 flags-back false false false Whole = refl
 
-pub map-back : (m : Fields) → mapRead (mapFor m) ≡ Follow m
+pub map-back : (m : Fields) → mapRead (mapOf m) ≡ Follow m
 map-back m = flags-back (m .seal) (m .r) (m .d) (m .kind)

@@ -11,7 +11,8 @@ use lib.Seq.{sets, sets-eq}
 use Rattle.list.specs.Outcomes.{code, answered, refused}
 use Rattle.list.specs.Refusals.{codeOf, verdictOf}
 use Rattle.list.specs.Numbers.{u16Bytes}
-use Rattle.list.specs.Entries.{entryBytes}
+use Rattle.list.specs.Maps.{sizeOf}
+use Rattle.list.specs.Entries.{fieldsIn, entryBytes}
 use Rattle.list.specs.DayLists.{entriesOf}
 use Rattle.list.specs.Checks.{WellFormed, checkOf}
 use Rattle.list.specs.Writing.{Wrote, bytesOfEntries, bytesOf, writeOf, Writes}
@@ -22,10 +23,11 @@ use Rattle.list.specs.declared.types.Refusal.{Refusal}
 use Rattle.list.specs.declared.types.Refusal.the-variants.{ListBufferShort}
 use Rattle.list.specs.declared.types.Verdict.{Verdict}
 use Rattle.list.specs.declared.types.Verdict.the-variants.{Refused}
+use Rattle.list.specs.declared.map.Fields.{Fields}
 use Rattle.list.specs.declared.types.WriteAnswer.the-variants.{Written, NotWritten}
 use Rattle.list.proofs.Sound.{sound-list}
 use Rattle.list.proofs.Stores.{wrote-length, wrote-more, room-first, room-after}
-use Rattle.list.proofs.FormCases.{entry-short}
+use Rattle.list.proofs.FormCases.{entry-length, entry-short}
 use Rattle.list.proofs.Walk.{walk-next, walk-done}
 
 -- the bytes of the entries from place i on
@@ -53,13 +55,14 @@ module _ (l : DayList) (enough : l .n ≤ length (l .entries)) where
   unfolding bytesOfEntries
   rest-done i h = rw (walk-done (l .entries) (l .n) enough i h)
 
-  pub counted-next : (size k i : ℕ) (e₀ : Entry) → Counted l size i → i < l .n → k ≡ length (entryBytes (l .frame) (getD (l .entries) i e₀)) → Counted l (size + k) (i + 1)
-  counted-next size k i e₀ c h z =
+  pub counted-next : (size k i : ℕ) (e₀ : Entry) (m : Fields) → Counted l size i → i < l .n → m ≡ fieldsIn (l .frame) (getD (l .entries) i e₀) → k ≡ sizeOf m → Counted l (size + k) (i + 1)
+  counted-next size k i e₀ m c h p z =
       let e = getD (l .entries) i e₀ in
       let q : length (restBytes l i) ≡ length (entryBytes (l .frame) e) + length (restBytes l (i + 1)) = rw (rest-next i e₀ h) (length-append (entryBytes (l .frame) e) (restBytes l (i + 1))) in
+      let w : k ≡ length (entryBytes (l .frame) e) = z ∙ ap sizeOf p ∙ sym (entry-length (l .frame) e) in
       record {
         passed = omega arith;
-        whole = omega (arith, c .whole, q);
+        whole = omega (arith, c .whole, q, w);
       }
 
   pub counted-done : (size i : ℕ) → Counted l size i → l .n ≤ i → size ≡ length (bytesOf l)

@@ -7,11 +7,9 @@ use lib.Dec.{eqb, ltb}
 use Rattle.list.specs.Outcomes.{Outcome, answered, refused, Row, row, firstOf, andThen}
 use Rattle.list.specs.Refusals.{codeOf}
 use Rattle.list.specs.Numbers.{u16At, u32At, u16Bytes, u32Bytes}
-use Rattle.list.specs.Maps.{legalMap, fieldsOf, rPlace, dPlace, pPlace, sizeOf}
+use Rattle.list.specs.Maps.{legalMap, fieldsOf, mapOf, rPlace, dPlace, pPlace, sizeOf}
 use Rattle.list.specs.declared.types.Seal.{Seal}
 use Rattle.list.specs.declared.types.Seal.the-variants.{Missing, Number}
-use Rattle.list.specs.declared.types.Kind.{Kind}
-use Rattle.list.specs.declared.types.Kind.the-variants.{Pause, Whole}
 use Rattle.list.specs.declared.types.Entry.{Entry}
 use Rattle.list.specs.declared.types.Frame.{Frame}
 use Rattle.list.specs.declared.map.Fields.{Fields}
@@ -80,30 +78,35 @@ abbrev pub entryAnswerOf : EntryAnswer → Outcome (Entry × ℕ)
 entryAnswerOf (Taken e size) = answered (e, size)
 entryAnswerOf (TurnedBack x) = refused (codeOf x)
 
--- a minute is written unless it has its default
-abbrev pub minuteBytes : ℕ → ℕ → List ℕ
-minuteBytes x default = cond (eqb x default) [] (u16Bytes x)
+-- a seal that is a number
+abbrev pub sealed : Seal → Bool
+sealed Missing = false
+sealed (Number x) = true
+
+-- the fields of an entry's one form: those that are neither missing nor at their default
+abbrev pub fieldsIn : Frame → Entry → Fields
+fieldsIn f e =
+    record {
+      seal = sealed (e .seal);
+      r = not (eqb (e .r) (defaultR f));
+      d = not (eqb (e .d) (defaultD f));
+      kind = e .kind;
+    }
 
 abbrev pub sealBytes : Seal → List ℕ
 sealBytes Missing = []
 sealBytes (Number x) = u32Bytes x
 
-abbrev pub sealBit : Seal → ℕ
-sealBit Missing = 0
-sealBit (Number x) = 2
-
-abbrev pub kindBit : Kind → ℕ
-kindBit Pause = 0
-kindBit Whole = 32
-
--- the map byte of the one form: bits 0 and 4, and a bit for each field that follows and for the kind
-abbrev pub mapOf : Frame → Entry → ℕ
-mapOf f e = 17 + sealBit (e .seal) + cond (eqb (e .r) (defaultR f)) 0 4 + cond (eqb (e .d) (defaultD f)) 0 8 + kindBit (e .kind)
+-- a minute's bytes, if its field follows
+abbrev pub minuteBytes : Bool → ℕ → List ℕ
+minuteBytes follows x = cond follows (u16Bytes x) []
 
 -- r, d and p
-abbrev pub timesBytes : Frame → Entry → List ℕ
-timesBytes f e = minuteBytes (e .r) (defaultR f) ++ (minuteBytes (e .d) (defaultD f) ++ u16Bytes (e .p))
+abbrev pub timesBytes : Fields → Entry → List ℕ
+timesBytes m e = minuteBytes (m .r) (e .r) ++ (minuteBytes (m .d) (e .d) ++ u16Bytes (e .p))
 
 -- an entry's one form
 unfoldable pub entryBytes : Frame → Entry → List ℕ
-entryBytes f e = mapOf f e ∷ (u32Bytes (e .serial) ++ (sealBytes (e .seal) ++ timesBytes f e))
+entryBytes f e =
+    mapOf (fieldsIn f e)
+    ∷ (u32Bytes (e .serial) ++ (sealBytes (e .seal) ++ timesBytes (fieldsIn f e) e))

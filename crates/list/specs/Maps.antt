@@ -25,6 +25,15 @@ kindOf false = Pause
 abbrev pub fieldsOf : ℕ → Fields
 fieldsOf b = record { seal = bit 1 b; r = bit 2 b; d = bit 3 b; kind = kindOf (bit 5 b) }
 
+-- the bit of the kind
+abbrev pub kindBit : Kind → ℕ
+kindBit Pause = 0
+kindBit Whole = 32
+
+-- the map byte that says these fields: bits 0 and 4, and a bit for each field that follows and for the kind
+abbrev pub mapOf : Fields → ℕ
+mapOf m = 17 + cond (m .seal) 2 0 + cond (m .r) 4 0 + cond (m .d) 8 0 + kindBit (m .kind)
+
 -- Where a field starts, counted from the map byte: "then come only the fields whose bit stands, in bit order".
 -- The serial is at 1, and the seal, where it stands, at 5.
 abbrev pub rPlace : Fields → ℕ

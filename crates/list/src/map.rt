@@ -3,7 +3,7 @@ use crate::types::Kind;
 ghost use mathlib.Core.Path.{_≡_};
 ghost use mathlib.Core.Bool.{cond};
 ghost use Prim.Native.Nat.{_+_, _<_, _^_};
-ghost use Rattle.list.specs.Maps.{kindOf, bit, mapRead, rPlace, dPlace, pPlace, sizeOf};
+ghost use Rattle.list.specs.Maps.{kindOf, bit, mapRead, mapOf, rPlace, dPlace, pPlace, sizeOf};
 
 // What a map byte says: which of the fields that may be missing follow, and the kind.
 pub struct Fields {
@@ -57,31 +57,43 @@ fn follow(map: u8, seal: bool, r: bool, d: bool) -> MapAnswer
     }
 }
 
-// `at`, past a field of `size` bytes that may be missing.
-fn past(at: usize, follows: bool, size: usize) -> usize
-    requires { ⌜ at + size < 2 ^ 64 ⌝ }
-    ensures { λ r. ⌜ r ≡ at + cond follows size 0 ⌝ }
+// x, with y added where a field follows.
+fn plus_if(x: usize, follows: bool, y: usize) -> usize
+    requires { ⌜ x + y < 2 ^ 64 ⌝ }
+    ensures { λ r. ⌜ r ≡ x + cond follows y 0 ⌝ }
 {
-    if follows { at + size } else { at }
+    if follows { x + y } else { x }
+}
+
+// The map byte that says these fields.
+pub(crate) fn map_of(m: Fields) -> u8
+    ensures { λ b. ⌜ b ≡ mapOf m ⌝ }
+{
+    let kind = m.kind;
+    let bits = plus_if(plus_if(plus_if(17, m.seal, 2), m.r, 4), m.d, 8);
+    match kind {
+        Kind::Pause => bits as u8,
+        Kind::Whole => (bits + 32) as u8,
+    }
 }
 
 // Where r starts in an entry, counted from its map byte; the serial is at 1, the seal at 5.
 pub(crate) fn r_place(m: Fields) -> usize
     ensures { λ i. ⌜ i ≡ rPlace m ⌝ }
 {
-    past(5, m.seal, 4)
+    plus_if(5, m.seal, 4)
 }
 
 pub(crate) fn d_place(m: Fields) -> usize
     ensures { λ i. ⌜ i ≡ dPlace m ⌝ }
 {
-    past(r_place(m), m.r, 2)
+    plus_if(r_place(m), m.r, 2)
 }
 
 pub(crate) fn p_place(m: Fields) -> usize
     ensures { λ i. ⌜ i ≡ pPlace m ⌝ }
 {
-    past(d_place(m), m.d, 2)
+    plus_if(d_place(m), m.d, 2)
 }
 
 // The bytes of an entry with these fields, its map byte too.

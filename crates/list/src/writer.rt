@@ -1,8 +1,9 @@
 // Writing a list's one form.
 use crate::bytes::put_u16;
 use crate::checks::check;
-use crate::form::entry_size;
+use crate::form::fields_in;
 use crate::form::put_entry;
+use crate::map::size_of;
 use crate::types::DayList;
 use crate::types::Refusal;
 use crate::types::Verdict;
@@ -22,7 +23,7 @@ fn list_size(list: DayList) -> usize
     let mut size: usize = 3;
     let mut i: usize = 0;
     while i < n {
-        size += entry_size(list.frame, list.entries[i]);
+        size += size_of(fields_in(list.frame, list.entries[i]));
         i += 1;
     }
     size

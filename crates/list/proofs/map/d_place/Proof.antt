@@ -9,11 +9,11 @@ use Rattle.list.proofs.map.d_place.Tie as tie
 r-place-requires : tie.Need-r-place-requires
 r-place-requires c κs = search needs
 
-past-requires : tie.Need-past-requires
-past-requires c κs = omega (arith, r-place-small (c .before .args .m), c .r-place .ensures)
+plus-if-requires : tie.Need-plus-if-requires
+plus-if-requires c κs = omega (arith, r-place-small (c .before .args .m), c .r-place .ensures)
 
 returns : tie.Need-returns
 returns c = search needs
 
 pub d-place-spec : {M : Type 1} → statement M
-d-place-spec = tie.close (tie.spec r-place-requires past-requires returns)
+d-place-spec = tie.close (tie.spec r-place-requires plus-if-requires returns)

@@ -9,11 +9,11 @@ use Rattle.list.proofs.map.p_place.Tie as tie
 d-place-requires : tie.Need-d-place-requires
 d-place-requires c κs = search needs
 
-past-requires : tie.Need-past-requires
-past-requires c κs = omega (arith, d-place-small (c .before .args .m), c .d-place .ensures)
+plus-if-requires : tie.Need-plus-if-requires
+plus-if-requires c κs = omega (arith, d-place-small (c .before .args .m), c .d-place .ensures)
 
 returns : tie.Need-returns
 returns c = search needs
 
 pub p-place-spec : {M : Type 1} → statement M
-p-place-spec = tie.close (tie.spec d-place-requires past-requires returns)
+p-place-spec = tie.close (tie.spec d-place-requires plus-if-requires returns)

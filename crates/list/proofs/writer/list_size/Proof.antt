@@ -1,5 +1,5 @@
--- `writer::list_size` meets its contract. The loop's invariant is `Counted`: what was counted and what is left make the whole. The measure is
--- what is left of n.
+-- `writer::list_size` meets its contract. The loop's invariant is `Counted`: what was counted and what is left make the whole. The measure
+-- is what is left of n.
 -- Assumes nothing.
 use borrow.Author.Needs.{needs}
 use mathlib.Core.Path.{_≡_}
@@ -24,23 +24,26 @@ cast-n c = search needs
 loop-holds : tie.Need-loop-holds Inv-loop μ-loop
 loop-holds c = counted-start (c .args .t1)
 
-mul-entry-size : tie.Need-mul-entry-size Inv-loop μ-loop
-mul-entry-size c = search needs
+mul-fields-in : tie.Need-mul-fields-in Inv-loop μ-loop
+mul-fields-in c = search needs
 
-element-copy-out-entry-size : tie.Need-element-copy-out-entry-size Inv-loop μ-loop
-element-copy-out-entry-size c = search needs
+element-copy-out-fields-in : tie.Need-element-copy-out-fields-in Inv-loop μ-loop
+element-copy-out-fields-in c = search needs
 
-entry-size-requires : tie.Need-entry-size-requires Inv-loop μ-loop
-entry-size-requires c κs = search needs
+fields-in-requires : tie.Need-fields-in-requires Inv-loop μ-loop
+fields-in-requires c κs = search needs
+
+size-of-requires : tie.Need-size-of-requires Inv-loop μ-loop
+size-of-requires c κs = search needs
 
 add-size : tie.Need-add-size Inv-loop μ-loop
-add-size c =
-    let len : length (c .before .before .before .before .before .args .t1 .entries) ≡ 64 = search (needs, length-mapped) in
-    let enough : c .before .before .before .before .before .args .t1 .n ≤ length (c .before .before .before .before .before .args .t1 .entries) = omega (arith, len, c .before .before .before .before .before .pre) in
+add-size c = 
+    let len : length (c .before .before .before .before .before .before .args .t1 .entries) ≡ 64 = search (needs, length-mapped) in
+    let enough : c .before .before .before .before .before .before .args .t1 .n ≤ length (c .before .before .before .before .before .before .args .t1 .entries) = omega (arith, len, c .before .before .before .before .before .before .pre) in
     omega (
       arith,
-      list-short (c .before .before .before .before .before .args .t1) (c .before .before .before .before .before .pre),
-      counted-next (c .before .before .before .before .before .args .t1) enough (c .before .before .before .before .loop .size) (c .entry-size .result) (c .before .before .before .before .loop .i) blank (c .before .before .before .before .loop .inv) (c .before .before .before .loop-test .taken) (c .entry-size .ensures) .whole,
+      list-short (c .before .before .before .before .before .before .args .t1) (c .before .before .before .before .before .before .pre),
+      counted-next (c .before .before .before .before .before .before .args .t1) enough (c .before .before .before .before .before .loop .size) (c .size-of .result) (c .before .before .before .before .before .loop .i) blank (c .before .fields-in .result) (c .before .before .before .before .before .loop .inv) (c .before .before .before .before .loop-test .taken) (c .before .fields-in .ensures) (c .size-of .ensures) .whole,
     )
 
 add-i : tie.Need-add-i Inv-loop μ-loop
@@ -50,13 +53,13 @@ loop-less : tie.Need-loop-less Inv-loop μ-loop
 loop-less c = search needs
 
 loop-again : tie.Need-loop-again Inv-loop μ-loop
-loop-again c =
-    let len : length (c .before .before .before .before .before .args .t1 .entries) ≡ 64 = search (needs, length-mapped) in
-    let enough : c .before .before .before .before .before .args .t1 .n ≤ length (c .before .before .before .before .before .args .t1 .entries) = omega (arith, len, c .before .before .before .before .before .pre) in
-    counted-next (c .before .before .before .before .before .args .t1) enough (c .before .before .before .before .loop .size) (c .entry-size .result) (c .before .before .before .before .loop .i) _ (c .before .before .before .before .loop .inv) (c .before .before .before .loop-test .taken) (c .entry-size .ensures)
+loop-again c = 
+    let len : length (c .before .before .before .before .before .before .args .t1 .entries) ≡ 64 = search (needs, length-mapped) in
+    let enough : c .before .before .before .before .before .before .args .t1 .n ≤ length (c .before .before .before .before .before .before .args .t1 .entries) = omega (arith, len, c .before .before .before .before .before .before .pre) in
+    counted-next (c .before .before .before .before .before .before .args .t1) enough (c .before .before .before .before .before .loop .size) (c .size-of .result) (c .before .before .before .before .before .loop .i) _ (c .before .fields-in .result) (c .before .before .before .before .before .loop .inv) (c .before .before .before .before .loop-test .taken) (c .before .fields-in .ensures) (c .size-of .ensures)
 
 returns : tie.Need-returns Inv-loop μ-loop
-returns c =
+returns c = 
     let len : length (c .before .before .args .t1 .entries) ≡ 64 = search (needs, length-mapped) in
     let enough : c .before .before .args .t1 .n ≤ length (c .before .before .args .t1 .entries) = omega (arith, len, c .before .before .pre) in
     counted-done (c .before .before .args .t1) enough (c .before .loop .size) (c .before .loop .i) (c .before .loop .inv) (c .loop-test .left)
@@ -69,9 +72,10 @@ list-size-spec =
     μ-loop
     cast-n
     loop-holds
-    mul-entry-size
-    element-copy-out-entry-size
-    entry-size-requires
+    mul-fields-in
+    element-copy-out-fields-in
+    fields-in-requires
+    size-of-requires
     add-size
     add-i
     loop-less

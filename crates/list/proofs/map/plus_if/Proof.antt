@@ -1,10 +1,10 @@
--- `map::past` meets its contract.
+-- `map::plus_if` meets its contract.
 -- Assumes nothing.
 use borrow.Author.Needs.{needs}
 use mathlib.Core.Path.{sym}
 use native.Mathlib.Nat.{add-zero}
-use Rattle.list.proofs.map.past.Statement.{statement}
-use Rattle.list.proofs.map.past.Tie as tie
+use Rattle.list.proofs.map.plus_if.Statement.{statement}
+use Rattle.list.proofs.map.plus_if.Tie as tie
 
 add-result : tie.Need-add-result
 add-result c = search needs
@@ -15,5 +15,5 @@ returns c = simp (c .if1 .taken)
 returns-2 : tie.Need-returns-2
 returns-2 c = simp (c .if1 .left) (sym (add-zero _))
 
-pub past-spec : {M : Type 1} → statement M
-past-spec = tie.close (tie.spec add-result returns returns-2)
+pub plus-if-spec : {M : Type 1} → statement M
+plus-if-spec = tie.close (tie.spec add-result returns returns-2)

@@ -1,0 +1,54 @@
+-- `map::map_of` meets its contract: the bits never add up past a byte.
+-- Assumes nothing.
+use borrow.Author.Needs.{needs}
+use native.Mathlib.Omega.{arith}
+use mathlib.Core.Path.{sym}
+use native.Mathlib.Nat.{add-zero}
+use Rattle.list.proofs.Places.{at-most}
+use Rattle.list.proofs.map.map_of.Statement.{statement}
+use Rattle.list.proofs.map.map_of.Tie as tie
+
+plus-if-requires : tie.Need-plus-if-requires
+plus-if-requires c κs = search needs
+
+plus-if-requires-2 : tie.Need-plus-if-requires-2
+plus-if-requires-2 c κs = omega (arith, at-most (c .before .args .m .seal) 2, at-most (c .before .args .m .r) 4, at-most (c .before .args .m .d) 8, c .plus-if .ensures)
+
+plus-if-requires-3 : tie.Need-plus-if-requires-3
+plus-if-requires-3 c κs = omega (arith, at-most (c .before .before .args .m .seal) 2, at-most (c .before .before .args .m .r) 4, at-most (c .before .before .args .m .d) 8, c .plus-if2 .ensures, c .before .plus-if .ensures)
+
+enum-told : tie.Need-enum-told
+enum-told c = search needs
+
+cast-result : tie.Need-cast-result
+cast-result c = omega (arith, at-most (c .before .before .before .before .before .args .m .seal) 2, at-most (c .before .before .before .before .before .args .m .r) 4, at-most (c .before .before .before .before .before .args .m .d) 8, c .before .before .plus-if3 .ensures, c .before .before .before .plus-if2 .ensures, c .before .before .before .before .plus-if .ensures)
+
+enum-told-2 : tie.Need-enum-told-2
+enum-told-2 c = search needs
+
+add-result : tie.Need-add-result
+add-result c = omega (arith, at-most (c .before .before .before .before .before .args .m .seal) 2, at-most (c .before .before .before .before .before .args .m .r) 4, at-most (c .before .before .before .before .before .args .m .d) 8, c .before .before .plus-if3 .ensures, c .before .before .before .plus-if2 .ensures, c .before .before .before .before .plus-if .ensures)
+
+cast-result-2 : tie.Need-cast-result-2
+cast-result-2 c = omega (arith, at-most (c .before .before .before .before .before .args .m .seal) 2, at-most (c .before .before .before .before .before .args .m .r) 4, at-most (c .before .before .before .before .before .args .m .d) 8, c .before .before .plus-if3 .ensures, c .before .before .before .plus-if2 .ensures, c .before .before .before .before .plus-if .ensures)
+
+returns : tie.Need-returns
+returns c = rw (c .enum-told .given .1, c .before .before .plus-if3 .ensures, c .before .before .before .plus-if2 .ensures, c .before .before .before .before .plus-if .ensures) (sym (add-zero _))
+
+returns-2 : tie.Need-returns-2
+returns-2 c = rw (c .enum-told2 .given .1, c .before .before .plus-if3 .ensures, c .before .before .before .plus-if2 .ensures, c .before .before .before .before .plus-if .ensures)
+
+pub map-of-spec : {M : Type 1} → statement M
+map-of-spec =
+    tie.close
+    (tie.spec
+    plus-if-requires
+    plus-if-requires-2
+    plus-if-requires-3
+    enum-told
+    cast-result
+    enum-told-2
+    add-result
+    cast-result-2
+    returns
+    returns-2)
