@@ -5,7 +5,8 @@ use mathlib.Core.List.{List, [], _∷_}
 use Prim.Native.Nat.{ℕ}
 use lib.ListN.{length}
 use Rattle.list.specs.Outcomes.{answered, refused}
-use Rattle.list.specs.Refusals.{codeOf, three, listAnswerOf, writeAnswerOf}
+use Rattle.list.specs.Refusals.{codeOf, listAnswerOf, writeAnswerOf}
+use Rattle.codes.specs.Numbers.{three}
 use Rattle.list.specs.Reading.{readOf, AnswersAs}
 use Rattle.list.specs.Writing.{writeOf, Writes}
 use Rattle.list.specs.declared.types.DayList.{DayList}

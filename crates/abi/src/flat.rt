@@ -46,12 +46,18 @@ fn entry_in(fields: &[u32; 450], at: usize) -> Entry
     }
 }
 
+// 64 times the same entry, to start from.
+fn alike(e: Entry) -> [Entry; 64]
+    ensures { λ es. ⌜ es ≡ replicate 64 e ⌝ }
+{
+    [e; 64]
+}
+
 // The list value that the numbers say, whatever they are.
 pub(crate) fn list_in(fields: &[u32; 450]) -> DayList
     ensures { λ l. ⌜ l ≡ valueOf (now (fields .entry)) ⌝ }
 {
-    let none = list::empty_list();
-    let mut entries = none.entries;
+    let mut entries = alike(entry_in(fields, 2));
     let mut i: usize = 0;
     while i < 64 {
         entries[i] = entry_in(fields, 2 + 7 * i);

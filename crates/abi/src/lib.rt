@@ -1,6 +1,6 @@
 // The planner's calls for programs in other languages: byte slices and numbers only.
 // Promises: each call returns 0 or the refusal's number of document 01, and leaves in its buffers what specs/Calls.antt says; it asks
-// nothing of its caller. Uses the crate list.
+// nothing of its caller. Uses the crates list and codes.
 mod flat;
 
 use flat::flat_of;
@@ -9,14 +9,15 @@ use list::types::Refusal;
 use list::types::Verdict;
 use list::types::WriteAnswer;
 ghost use mathlib.Core.Path.{_≡_};
-ghost use Rattle.list.specs.Refusals.{codeOf, three};
+ghost use Rattle.list.specs.Refusals.{codeOf};
+ghost use Rattle.codes.specs.Numbers.{three};
 ghost use Rattle.abi.specs.Calls.{ReadCall, WriteCall};
 
 // A refusal's number, and the values that it carries.
 fn give(x: Refusal, carried: &mut [u64; 3]) -> u32
     ensures { λ r. ⌜ (r ≡ codeOf x .number) × (now (carried .exit) ≡ three (codeOf x .carries)) ⌝ }
 {
-    let code = list::code_of(x);
+    let code = codes::code_of(x);
     let values = code.values;
     *carried = values;
     code.number as u32

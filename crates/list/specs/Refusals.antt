@@ -10,8 +10,6 @@ use Rattle.list.specs.declared.types.ReadAnswer.{ReadAnswer}
 use Rattle.list.specs.declared.types.WriteAnswer.{WriteAnswer}
 use Rattle.list.specs.declared.types.WriteAnswer.the-variants.{Written, NotWritten}
 use Prim.Native.Nat.{ℕ}
-use lib.ListN.{length, getD}
-use Rattle.list.specs.declared.types.RefusalCode.{RefusalCode}
 
 abbrev pub codeOf : Refusal → Code
 codeOf (BytesMissing len) = code 1 (len ∷ [])
@@ -27,14 +25,6 @@ codeOf (NoStart place) = code 10 (place ∷ [])
 codeOf (PlanBufferShort h) = code 11 (h ∷ [])
 codeOf (ListBufferShort needed) = code 12 (needed ∷ [])
 codeOf (UnknownPlace place) = code 13 (place ∷ [])
-
--- three values, 0 where there are fewer
-abbrev pub three : List ℕ → List ℕ
-three xs = getD xs 0 0 ∷ getD xs 1 0 ∷ getD xs 2 0 ∷ []
-
--- a refusal as a value of code
-abbrev pub numbersOf : Code → RefusalCode
-numbersOf k = record { number = k .number; count = length (k .carries); values = three (k .carries) }
 
 -- a test's answer
 abbrev pub verdictOf : Verdict → Outcome (Unit {0})

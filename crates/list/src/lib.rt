@@ -8,12 +8,9 @@ mod entry;
 mod form;
 mod map;
 mod reader;
-mod refusals;
 pub mod types;
 mod writer;
 
-pub use blank::empty_list;
 pub use checks::check;
 pub use reader::read;
-pub use refusals::code_of;
 pub use writer::write;

@@ -1,5 +1,4 @@
 // Reading a list from its bytes.
-use crate::blank::blank_entries;
 use crate::blank::empty_list;
 use crate::bytes::u16_at;
 use crate::checks::header_fault;
@@ -34,7 +33,8 @@ fn read_body(bytes: &[u8], frame: Frame, n: u8) -> ReadAnswer
     requires { ⌜ (3 ≤ length (now bytes)) × (n ≤ 64) × (frame ≡ frameOf (now bytes)) × (n ≡ countOf (now bytes)) ⌝ }
     ensures { λ a. ⌜ AnswersAs (bodyOf (now (bytes .entry))) a ⌝ }
 {
-    let mut entries = blank_entries();
+    let none = empty_list();
+    let mut entries = none.entries;
     let mut at: usize = 3;
     let mut i: usize = 0;
     while i < n as usize {

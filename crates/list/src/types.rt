@@ -65,13 +65,6 @@ pub enum Refusal {
     UnknownPlace(usize),
 }
 
-// A refusal as numbers: its number, and the values that it carries, the first `count` of three; the others are 0.
-pub struct RefusalCode {
-    pub number: u8,
-    pub count: usize,
-    pub values: [u64; 3],
-}
-
 // What a test of a list answers.
 pub enum Verdict {
     Accepted,

@@ -12,11 +12,14 @@ Inv-loop fields entries₀ i₀ entries i = ReadInSoFar fields entries i
 abbrev μ-loop : tie.MeasureT-loop
 μ-loop fields entries₀ i₀ entries i = 64 - i
 
-empty-list-requires : tie.Need-empty-list-requires Inv-loop μ-loop
-empty-list-requires c κs = search needs
+entry-in-requires : tie.Need-entry-in-requires Inv-loop μ-loop
+entry-in-requires c κs = search needs
+
+alike-requires : tie.Need-alike-requires Inv-loop μ-loop
+alike-requires c κs = search needs
 
 loop-holds : tie.Need-loop-holds Inv-loop μ-loop
-loop-holds c = read-in-start _ _ (rw (c .before .empty-list .ensures))
+loop-holds c = read-in-start _ _ (rw (c .alike .ensures))
 
 mul-entry-in : tie.Need-mul-entry-in Inv-loop μ-loop
 mul-entry-in c = search needs
@@ -24,8 +27,8 @@ mul-entry-in c = search needs
 add-entry-in : tie.Need-add-entry-in Inv-loop μ-loop
 add-entry-in c = search needs
 
-entry-in-requires : tie.Need-entry-in-requires Inv-loop μ-loop
-entry-in-requires c κs = search needs
+entry-in-requires-2 : tie.Need-entry-in-requires-2 Inv-loop μ-loop
+entry-in-requires-2 c κs = search needs
 
 mul-entries : tie.Need-mul-entries Inv-loop μ-loop
 mul-entries c = search needs
@@ -40,19 +43,19 @@ loop-less : tie.Need-loop-less Inv-loop μ-loop
 loop-less c = search needs
 
 loop-again : tie.Need-loop-again Inv-loop μ-loop
-loop-again c = read-in-next (c .before .before .loop .inv) _ (c .before .loop-test .taken) (c .entry-in .ensures)
+loop-again c = read-in-next (c .before .before .loop .inv) _ (c .before .loop-test .taken) (c .entry-in2 .ensures)
 
-element-copy-out-t14 : tie.Need-element-copy-out-t14 Inv-loop μ-loop
-element-copy-out-t14 c = search needs
+element-copy-out-t15 : tie.Need-element-copy-out-t15 Inv-loop μ-loop
+element-copy-out-t15 c = search needs
 
-cast-t16 : tie.Need-cast-t16 Inv-loop μ-loop
-cast-t16 c = search needs
+cast-t17 : tie.Need-cast-t17 Inv-loop μ-loop
+cast-t17 c = search needs
 
-element-copy-out-t20 : tie.Need-element-copy-out-t20 Inv-loop μ-loop
-element-copy-out-t20 c = search needs
+element-copy-out-t21 : tie.Need-element-copy-out-t21 Inv-loop μ-loop
+element-copy-out-t21 c = search needs
 
-cast-t22 : tie.Need-cast-t22 Inv-loop μ-loop
-cast-t22 c = search needs
+cast-t23 : tie.Need-cast-t23 Inv-loop μ-loop
+cast-t23 c = search needs
 
 returns : tie.Need-returns Inv-loop μ-loop
 returns c = rw (read-in-done (c .before .before .before .loop .inv) (c .before .before .loop-test .left))
@@ -63,18 +66,19 @@ list-in-spec =
     (tie.spec
     Inv-loop
     μ-loop
-    empty-list-requires
+    entry-in-requires
+    alike-requires
     loop-holds
     mul-entry-in
     add-entry-in
-    entry-in-requires
+    entry-in-requires-2
     mul-entries
     array-set-from-entries
     add-i
     loop-less
     loop-again
-    element-copy-out-t14
-    cast-t16
-    element-copy-out-t20
-    cast-t22
+    element-copy-out-t15
+    cast-t17
+    element-copy-out-t21
+    cast-t23
     returns)

@@ -33,7 +33,7 @@ put-times-requires : tie.Need-put-times-requires
 put-times-requires c κs = room-after (c .before .before .before .put-seal .ensures) (timesBytes (c .before .before .before .before .before .before .before .before .before .before .fields-in .result) (c .before .before .before .before .before .before .before .before .before .before .before .before .args .e)) (room-after (c .before .before .before .before .before .before .before .put-u32 .ensures) ((sealBytes (c .before .before .before .before .before .before .before .before .before .before .before .before .args .e .seal)) ++ (timesBytes (c .before .before .before .before .before .before .before .before .before .before .fields-in .result) (c .before .before .before .before .before .before .before .before .before .before .before .before .args .e))) (room-after (wrote-one (c .before .before .before .before .before .before .before .before .before .before .before .before .args .out .now) (c .before .before .before .before .before .before .before .before .before .before .before .before .args .at) (c .before .before .before .before .before .before .before .before .before .map-of .result)) ((u32Bytes (c .before .before .before .before .before .before .before .before .before .before .before .before .args .e .serial)) ++ ((sealBytes (c .before .before .before .before .before .before .before .before .before .before .before .before .args .e .seal)) ++ (timesBytes (c .before .before .before .before .before .before .before .before .before .before .fields-in .result) (c .before .before .before .before .before .before .before .before .before .before .before .before .args .e)))) (entry-room (c .before .before .before .before .before .before .before .before .before .before .before .before .args .frame) (c .before .before .before .before .before .before .before .before .before .before .before .before .args .e) (c .before .before .before .before .before .before .before .before .before .before .fields-in .result) (c .before .before .before .before .before .before .before .before .before .map-of .result) _ _ (c .before .before .before .before .before .before .before .before .before .before .fields-in .ensures) (c .before .before .before .before .before .before .before .before .before .map-of .ensures) (c .before .before .before .before .before .before .before .before .before .before .before .before .pre))))
 
 same-length : tie.Need-same-length
-same-length c = 
+same-length c =
     let w : Wrote (c .before .before .before .before .before .before .before .before .before .before .before .before .before .before .before .args .out .now) (c .before .before .before .before .before .before .before .before .before .before .before .before .before .before .before .args .at) (entryBytes (c .before .before .before .before .before .before .before .before .before .before .before .before .before .before .before .args .frame) (c .before .before .before .before .before .before .before .before .before .before .before .before .before .before .before .args .e)) (c .before .before .put-times .last .0) (c .before .before .put-times .result) = entry-stored (c .before .before .before .before .before .before .before .before .before .before .before .before .before .before .before .args .frame) (c .before .before .before .before .before .before .before .before .before .before .before .before .before .before .before .args .e) (c .before .before .before .before .before .before .before .before .before .before .before .before .before .fields-in .ensures) (c .before .before .before .before .before .before .before .before .before .before .before .before .map-of .ensures) (c .before .before .before .before .before .before .before .before .before .before .put-u32 .ensures) (c .before .before .before .before .before .before .put-seal .ensures) (c .before .before .put-times .ensures) in
     wrote-length w
 

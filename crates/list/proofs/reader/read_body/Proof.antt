@@ -16,11 +16,12 @@ Inv-loop bytes frame n entries₀ at₀ i₀ entries at i = SoFar frame n bytes 
 abbrev μ-loop : tie.MeasureT-loop
 μ-loop bytes frame n entries₀ at₀ i₀ entries at i = n - i
 
-blank-entries-requires : tie.Need-blank-entries-requires Inv-loop μ-loop
-blank-entries-requires c κs = search needs
+empty-list-requires : tie.Need-empty-list-requires Inv-loop μ-loop
+empty-list-requires c κs = search needs
 
 loop-holds : tie.Need-loop-holds Inv-loop μ-loop
-loop-holds c = rw (c .blank-entries .ensures) (start (c .before .before .args .frame) (c .before .before .args .n) (c .before .before .args .bytes .now) (c .before .before .pre .0))
+loop-holds c =
+    rw (c .before .empty-list .ensures) (start (c .before .before .before .args .frame) (c .before .before .before .args .n) (c .before .before .before .args .bytes .now) (c .before .before .before .pre .0))
 
 sub-read-entry : tie.Need-sub-read-entry Inv-loop μ-loop
 sub-read-entry c = search needs
@@ -47,8 +48,8 @@ add-at : tie.Need-add-at Inv-loop μ-loop
 add-at c =
     omega (
       arith,
-      size-here (c .before .before .before .before .before .before .before .before .before .args .frame) (c .before .before .before .before .before .before .loop .at) (c .before .before .before .before .before .before .before .before .before .args .bytes .now) (c .before .before .before .read-entry .result) (c .before .one .given .0 .0) (c .before .one .given .0 .1 .0) (c .before .before .before .before .before .before .loop .inv .inside) (c .before .before .before .read-entry .ensures) (c .before .one .given .1),
-      c .before .before .before .before .before .before .before .before .before .good,
+      size-here (c .before .before .before .before .before .before .before .before .before .before .args .frame) (c .before .before .before .before .before .before .loop .at) (c .before .before .before .before .before .before .before .before .before .before .args .bytes .now) (c .before .before .before .read-entry .result) (c .before .one .given .0 .0) (c .before .one .given .0 .1 .0) (c .before .before .before .before .before .before .loop .inv .inside) (c .before .before .before .read-entry .ensures) (c .before .one .given .1),
+      c .before .before .before .before .before .before .before .before .before .before .good,
     )
 
 enum-known-one-2 : tie.Need-enum-known-one-2 Inv-loop μ-loop
@@ -60,7 +61,7 @@ turned-back-requires c κs = search needs
 returns : tie.Need-returns Inv-loop μ-loop
 returns c =
     let o = turned (c .before .before .before .before .before .before .before .loop .inv) (c .before .before .before .before .read-entry .result) _ (c .before .before .before .before .before .before .loop-test .taken) (c .before .before .before .before .read-entry .ensures) (c .before .before .one2 .given .1) in
-    answers-refused _ _ _ (c .turned-back .ensures) (body-turned (c .before .before .before .before .before .before .before .before .before .before .args .bytes .now) _ _ (c .before .before .before .before .before .before .before .before .before .before .pre .2) (c .before .before .before .before .before .before .before .before .before .before .pre .3) _ o)
+    answers-refused _ _ _ (c .turned-back .ensures) (body-turned (c .before .before .before .before .before .before .before .before .before .before .before .args .bytes .now) _ _ (c .before .before .before .before .before .before .before .before .before .before .before .pre .2) (c .before .before .before .before .before .before .before .before .before .before .before .pre .3) _ o)
 
 add-i : tie.Need-add-i Inv-loop μ-loop
 add-i c = search needs
@@ -69,7 +70,7 @@ loop-less : tie.Need-loop-less Inv-loop μ-loop
 loop-less c = search needs
 
 loop-again : tie.Need-loop-again Inv-loop μ-loop
-loop-again c = next (c .before .before .before .before .before .before .loop .inv) (c .before .before .before .read-entry .result) _ _ (c .before .before .before .before .before .before .before .before .before .pre .1) (c .before .before .before .before .before .loop-test .taken) (c .before .before .before .read-entry .ensures) (c .before .one .given .1)
+loop-again c = next (c .before .before .before .before .before .before .loop .inv) (c .before .before .before .read-entry .result) _ _ (c .before .before .before .before .before .before .before .before .before .before .pre .1) (c .before .before .before .before .before .loop-test .taken) (c .before .before .before .read-entry .ensures) (c .before .one .given .1)
 
 turned-back-requires-2 : tie.Need-turned-back-requires-2 Inv-loop μ-loop
 turned-back-requires-2 c κs = search needs
@@ -77,13 +78,13 @@ turned-back-requires-2 c κs = search needs
 returns-2 : tie.Need-returns-2 Inv-loop μ-loop
 returns-2 c =
     let o = done (c .before .before .before .loop .inv) (c .before .before .loop-test .left) in
-    answers-refused _ _ _ (c .turned-back2 .ensures) (body-left (c .before .before .before .before .before .before .args .bytes .now) _ _ (c .before .before .before .before .before .before .pre .2) (c .before .before .before .before .before .before .pre .3) _ _ o (c .before .if1 .taken))
+    answers-refused _ _ _ (c .turned-back2 .ensures) (body-left (c .before .before .before .before .before .before .before .args .bytes .now) _ _ (c .before .before .before .before .before .before .before .pre .2) (c .before .before .before .before .before .before .before .pre .3) _ _ o (c .before .if1 .taken))
 
 returns-3 : tie.Need-returns-3 Inv-loop μ-loop
 returns-3 c =
     let s = c .before .before .loop .inv in
     let o = done s (c .before .loop-test .left) in
-    answers-list _ _ (body-done (c .before .before .before .before .before .args .bytes .now) _ _ (c .before .before .before .before .before .pre .2) (c .before .before .before .before .before .pre .3) _ _ o (c .if1 .left) ∙ ap answered (sym (list-is s (c .before .before .before .before .before .pre .1) (c .before .loop-test .left))))
+    answers-list _ _ (body-done (c .before .before .before .before .before .before .args .bytes .now) _ _ (c .before .before .before .before .before .before .pre .2) (c .before .before .before .before .before .before .pre .3) _ _ o (c .if1 .left) ∙ ap answered (sym (list-is s (c .before .before .before .before .before .before .pre .1) (c .before .loop-test .left))))
 
 pub read-body-spec : {M : Type 1} → statement M
 read-body-spec =
@@ -91,7 +92,7 @@ read-body-spec =
     (tie.spec
     Inv-loop
     μ-loop
-    blank-entries-requires
+    empty-list-requires
     loop-holds
     sub-read-entry
     part-read-entry-start

@@ -37,7 +37,7 @@ size-of-requires : tie.Need-size-of-requires Inv-loop μ-loop
 size-of-requires c κs = search needs
 
 add-size : tie.Need-add-size Inv-loop μ-loop
-add-size c = 
+add-size c =
     let len : length (c .before .before .before .before .before .before .args .t1 .entries) ≡ 64 = search (needs, length-mapped) in
     let enough : c .before .before .before .before .before .before .args .t1 .n ≤ length (c .before .before .before .before .before .before .args .t1 .entries) = omega (arith, len, c .before .before .before .before .before .before .pre) in
     omega (
@@ -53,13 +53,13 @@ loop-less : tie.Need-loop-less Inv-loop μ-loop
 loop-less c = search needs
 
 loop-again : tie.Need-loop-again Inv-loop μ-loop
-loop-again c = 
+loop-again c =
     let len : length (c .before .before .before .before .before .before .args .t1 .entries) ≡ 64 = search (needs, length-mapped) in
     let enough : c .before .before .before .before .before .before .args .t1 .n ≤ length (c .before .before .before .before .before .before .args .t1 .entries) = omega (arith, len, c .before .before .before .before .before .before .pre) in
     counted-next (c .before .before .before .before .before .before .args .t1) enough (c .before .before .before .before .before .loop .size) (c .size-of .result) (c .before .before .before .before .before .loop .i) _ (c .before .fields-in .result) (c .before .before .before .before .before .loop .inv) (c .before .before .before .before .loop-test .taken) (c .before .fields-in .ensures) (c .size-of .ensures)
 
 returns : tie.Need-returns Inv-loop μ-loop
-returns c = 
+returns c =
     let len : length (c .before .before .args .t1 .entries) ≡ 64 = search (needs, length-mapped) in
     let enough : c .before .before .args .t1 .n ≤ length (c .before .before .args .t1 .entries) = omega (arith, len, c .before .before .pre) in
     counted-done (c .before .before .args .t1) enough (c .before .loop .size) (c .before .loop .i) (c .before .loop .inv) (c .loop-test .left)

@@ -1,15 +1,16 @@
--- `refusals::code_of` meets its contract, case by case.
+-- `code_of` meets its contract, case by case.
 -- Assumes nothing.
 use borrow.Author.Needs.{needs}
 use mathlib.Core.Path.{_≡_, refl}
 use mathlib.Core.List.{[], _∷_}
 use Prim.Native.Nat.{ℕ}
 use Rattle.list.specs.Outcomes.{code}
-use Rattle.list.specs.Refusals.{codeOf, numbersOf}
+use Rattle.list.specs.Refusals.{codeOf}
+use Rattle.codes.specs.Numbers.{numbersOf}
 use Rattle.list.specs.declared.types.Refusal.{Refusal}
-use Rattle.list.specs.declared.types.RefusalCode.{RefusalCode}
-use Rattle.list.proofs.refusals.code_of.Statement.{statement}
-use Rattle.list.proofs.refusals.code_of.Tie as tie
+use Rattle.codes.specs.declared.RefusalCode.{RefusalCode}
+use Rattle.codes.proofs.code_of.Statement.{statement}
+use Rattle.codes.proofs.code_of.Tie as tie
 
 -- a refusal that carries one value
 one : {r : RefusalCode} {x y : Refusal} {k v : ℕ} → r ≡ numbersOf (code k (v ∷ [])) → x ≡ y → codeOf y ≡ code k (v ∷ []) → r ≡ numbersOf (codeOf x)

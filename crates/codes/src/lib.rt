@@ -1,10 +1,18 @@
-// A refusal as numbers, for printing and for callers in other languages.
-use crate::types::Refusal;
-use crate::types::RefusalCode;
+// Refusals as numbers, for printing and for callers in other languages.
+// Promises: `code_of` gives each refusal its number of document 01 and the values that it carries. Uses the crate list.
+use list::types::Refusal;
 ghost use mathlib.Core.Path.{_≡_};
 ghost use mathlib.Core.List.{[], _∷_};
 ghost use Rattle.list.specs.Outcomes.{code};
-ghost use Rattle.list.specs.Refusals.{codeOf, numbersOf};
+ghost use Rattle.list.specs.Refusals.{codeOf};
+ghost use Rattle.codes.specs.Numbers.{numbersOf};
+
+// A refusal as numbers: its number, and the values that it carries, the first `count` of three; the others are 0.
+pub struct RefusalCode {
+    pub number: u8,
+    pub count: usize,
+    pub values: [u64; 3],
+}
 
 fn with_one(number: u8, value: usize) -> RefusalCode
     ensures { λ c. ⌜ c ≡ numbersOf (code number (value ∷ [])) ⌝ }

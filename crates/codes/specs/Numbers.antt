@@ -1,0 +1,14 @@
+-- A refusal as a value of code.
+use Prim.Native.Nat.{ℕ}
+use mathlib.Core.List.{List, [], _∷_}
+use lib.ListN.{length, getD}
+use Rattle.list.specs.Outcomes.{Code}
+use Rattle.codes.specs.declared.RefusalCode.{RefusalCode}
+
+-- three values, 0 where there are fewer
+abbrev pub three : List ℕ → List ℕ
+three xs = getD xs 0 0 ∷ getD xs 1 0 ∷ getD xs 2 0 ∷ []
+
+-- its number, how many values it carries, and those values
+abbrev pub numbersOf : Code → RefusalCode
+numbersOf k = record { number = k .number; count = length (k .carries); values = three (k .carries) }
