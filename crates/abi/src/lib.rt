@@ -17,7 +17,7 @@ ghost use Rattle.abi.specs.Calls.{ReadCall, WriteCall};
 fn give(x: Refusal, carried: &mut [u64; 3]) -> u32
     ensures { λ r. ⌜ (r ≡ codeOf x .number) × (now (carried .exit) ≡ three (codeOf x .carries)) ⌝ }
 {
-    let code = codes::code_of(x);
+    let code = codes::numbers_of(x);
     let values = code.values;
     *carried = values;
     code.number as u32

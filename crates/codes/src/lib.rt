@@ -1,5 +1,5 @@
 // Refusals as numbers, for printing and for callers in other languages.
-// Promises: `code_of` gives each refusal its number of document 01 and the values that it carries. Uses the crate list.
+// Promises: `numbers_of` gives each refusal its number of document 01 and the values that it carries. Uses the crate list.
 use list::types::Refusal;
 ghost use mathlib.Core.Path.{_≡_};
 ghost use mathlib.Core.List.{[], _∷_};
@@ -25,7 +25,7 @@ fn with_one(number: u8, value: usize) -> RefusalCode
 }
 
 // Beside the definition `codeOf`, the one place that goes through all refusals.
-pub fn code_of(x: Refusal) -> RefusalCode
+pub fn numbers_of(x: Refusal) -> RefusalCode
     ensures { λ c. ⌜ c ≡ numbersOf (codeOf x) ⌝ }
 {
     match x {

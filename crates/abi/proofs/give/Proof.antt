@@ -7,14 +7,14 @@ use mathlib.Core.Path.{refl}
 use Rattle.abi.proofs.give.Statement.{statement}
 use Rattle.abi.proofs.give.Tie as tie
 
-code-of-requires : tie.Need-code-of-requires
-code-of-requires c κs = search needs
+numbers-of-requires : tie.Need-numbers-of-requires
+numbers-of-requires c κs = search needs
 
 cast-result : tie.Need-cast-result
 cast-result c = search needs
 
 returns : tie.Need-returns
-returns c = rw (c .before .before .code-of .ensures) (refl, refl)
+returns c = rw (c .before .before .numbers-of .ensures) (refl, refl)
 
 pub give-spec : {M : Type 1} → statement M
-give-spec = tie.close (tie.spec code-of-requires cast-result returns)
+give-spec = tie.close (tie.spec numbers-of-requires cast-result returns)

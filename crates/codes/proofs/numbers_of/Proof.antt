@@ -1,4 +1,4 @@
--- `code_of` meets its contract, case by case.
+-- `numbers_of` meets its contract, case by case.
 -- Assumes nothing.
 use borrow.Author.Needs.{needs}
 use mathlib.Core.Path.{_≡_, refl}
@@ -9,8 +9,8 @@ use Rattle.list.specs.Refusals.{codeOf}
 use Rattle.codes.specs.Numbers.{numbersOf}
 use Rattle.list.specs.declared.types.Refusal.{Refusal}
 use Rattle.codes.specs.declared.RefusalCode.{RefusalCode}
-use Rattle.codes.proofs.code_of.Statement.{statement}
-use Rattle.codes.proofs.code_of.Tie as tie
+use Rattle.codes.proofs.numbers_of.Statement.{statement}
+use Rattle.codes.proofs.numbers_of.Tie as tie
 
 -- a refusal that carries one value
 one : {r : RefusalCode} {x y : Refusal} {k v : ℕ} → r ≡ numbersOf (code k (v ∷ [])) → x ≡ y → codeOf y ≡ code k (v ∷ []) → r ≡ numbersOf (codeOf x)
@@ -139,8 +139,8 @@ returns-12 c = one (c .with-one11 .ensures) (c .before .before .x11 .given .1) r
 returns-13 : tie.Need-returns-13
 returns-13 c = one (c .with-one12 .ensures) (c .before .before .x12 .given .1) refl
 
-pub code-of-spec : {M : Type 1} → statement M
-code-of-spec =
+pub numbers-of-spec : {M : Type 1} → statement M
+numbers-of-spec =
     tie.close
     (tie.spec
     enum-known-x
