@@ -30,8 +30,8 @@ module _ (l : DayList) where
     unfolding entriesFault
     turn = rw (walk-next (l .entries) (l .n) enough i e₀ h, w)
 
-    pub check-turned : (x : Refusal) → v ≡ Refused x → verdictOf v ≡ entriesFault (l .frame) i (drop i (entriesOf l))
-    check-turned x a = rw (turn, a)
+    pub check-refused : (x : Refusal) → v ≡ Refused x → verdictOf v ≡ entriesFault (l .frame) i (drop i (entriesOf l))
+    check-refused x a = rw (turn, a)
 
     pub check-next : v ≡ Accepted → entriesFault (l .frame) i (drop i (entriesOf l)) ≡ entriesFault (l .frame) (i + 1) (drop (i + 1) (entriesOf l))
     check-next a = rw (turn, a)

@@ -11,7 +11,7 @@ use borrow.Author.Tests.{lt-ltb, le-ltb, eq-eqb, ne-eqb}
 use Rattle.list.specs.Outcomes.{code, Outcome, answered, refused, andThen}
 use Rattle.list.specs.Refusals.{codeOf, verdictOf}
 use Rattle.list.specs.Numbers.{u16At, u32At}
-use Rattle.list.specs.Maps.{rPlace, dPlace, pPlace, sizeOf, mapRead, legalMap, fieldsOf}
+use Rattle.list.specs.Maps.{rPlace, dPlace, pPlace, sizeOf, mapFields, mapAnswerOf}
 use Rattle.list.specs.Entries.{defaultR, defaultD, sealOf, entryAt, entryFault, entryOf, fieldsEntry, defaultWritten}
 use Rattle.list.specs.declared.types.Seal.{Seal}
 use Rattle.list.specs.declared.types.Entry.{Entry}
@@ -20,6 +20,7 @@ use Rattle.list.specs.declared.types.Refusal.{Refusal}
 use Rattle.list.specs.declared.types.Verdict.{Verdict}
 use Rattle.list.specs.declared.types.Verdict.the-variants.{Accepted, Refused}
 use Rattle.list.specs.declared.map.Fields.{Fields}
+use Rattle.list.specs.declared.map.MapAnswer.{MapAnswer}
 use Rattle.list.specs.declared.map.MapAnswer.the-variants.{Breaks, Follow}
 
 -- `entryAt`, field by field, each at the place and with the default that code found
@@ -63,28 +64,22 @@ module _ (f : Frame) (at : ℕ) (m : Fields) (bs : List ℕ) where
     pub fields-taken : (size : ℕ) → size ≡ sizeOf m → v ≡ Accepted → answered (e, size) ≡ fieldsEntry f at m bs
     fields-taken size z a = rw (verdict, a, z)
 
-    pub fields-turned : (x : Refusal) → v ≡ Refused x → refused (codeOf x) ≡ fieldsEntry f at m bs
-    fields-turned x a = rw (verdict, a)
+    pub fields-refused : (x : Refusal) → v ≡ Refused x → refused (codeOf x) ≡ fieldsEntry f at m bs
+    fields-refused x a = rw (verdict, a)
 
 module _ (f : Frame) (at : ℕ) (bs : List ℕ) where
   pub entry-none : length bs ≡ 0 → refused (code 1 ((at + length bs) ∷ [])) ≡ entryOf f at bs
   unfolding entryOf
   entry-none h = simp (eq-eqb _ _ h)
 
-  pub entry-broken : (length bs ≡ 0 → ⊥) → mapRead (getD bs 0 0) ≡ Breaks → refused (code 4 (at ∷ [])) ≡ entryOf f at bs
-  unfolding entryOf
-  entry-broken h q = go (legalMap (getD bs 0 0)) refl
-    where
-      go : (t : Bool) → legalMap (getD bs 0 0) ≡ t → refused (code 4 (at ∷ [])) ≡ entryOf f at bs
-      go true e = let z : _≡_ {A = ℕ} 0 1 = cc (simp e at q) in absurd (omega arith)
-      go false e = simp (ne-eqb _ _ h, e)
+  -- the answer to the map byte decides
+  module _ (h : length bs ≡ 0 → ⊥) (a : MapAnswer) (q : (k : ℕ) → mapAnswerOf k a ≡ mapFields k (getD bs 0 0)) where
+    mapped : entryOf f at bs ≡ andThen (mapAnswerOf at a) (λ m. fieldsEntry f at m bs)
+    unfolding entryOf
+    mapped = rw (q at) (simp (ne-eqb _ _ h))
 
-  pub entry-legal : (m : Fields) → (length bs ≡ 0 → ⊥) → mapRead (getD bs 0 0) ≡ Follow m → fieldsEntry f at m bs ≡ entryOf f at bs
-  unfolding entryOf
-  entry-legal m h q = go (legalMap (getD bs 0 0)) refl
-    where
-      go : (t : Bool) → legalMap (getD bs 0 0) ≡ t → fieldsEntry f at m bs ≡ entryOf f at bs
-      go true e =
-          let z : fieldsOf (getD bs 0 0) ≡ m = cc (simp e at q) in
-          simp (ne-eqb _ _ h, e) (ap (λ (k : Fields). fieldsEntry f at k bs) (sym z))
-      go false e = let z : _≡_ {A = ℕ} 0 1 = cc (simp e at q) in absurd (omega arith)
+    pub entry-broken : a ≡ Breaks → refused (code 4 (at ∷ [])) ≡ entryOf f at bs
+    entry-broken e = rw (mapped, e)
+
+    pub entry-legal : (m : Fields) → a ≡ Follow m → fieldsEntry f at m bs ≡ entryOf f at bs
+    entry-legal m e = rw (mapped, e)

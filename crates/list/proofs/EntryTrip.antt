@@ -12,8 +12,11 @@ use lib.Dec.{eqb, ltb}
 use lib.ListN.{length, getD, drop, length-append}
 use Rattle.list.specs.Outcomes.{code, answered}
 use Rattle.list.specs.Numbers.{u16At, u32At, u16Bytes, u32Bytes}
-use Rattle.list.specs.Maps.{legalMap, fieldsOf, mapOf, rPlace, dPlace, pPlace, sizeOf, mapRead}
-use Rattle.list.specs.Entries.{defaultR, defaultD, sealOf, entryAt, entryFault, entryOf, fieldsEntry, defaultWritten, sealed, fieldsIn, sealBytes, minuteBytes, entryBytes}
+use Rattle.list.specs.Maps.{legalMap, fieldsOf, mapOf, rPlace, dPlace, pPlace, sizeOf, mapFields}
+use Rattle.list.specs.Entries.{defaultR, defaultD, sealOf, entryAt, entryFault, entryOf, fieldsEntry, defaultWritten}
+use Rattle.list.specs.Forms.{sealed, fieldsIn, sealBytes, minuteBytes, entryBytes}
+use Rattle.list.specs.Reading.{PlaceIn}
+use Rattle.list.specs.Machine.{Bytes, SealFits}
 use Rattle.list.specs.declared.types.Seal.{Seal}
 use Rattle.list.specs.declared.types.Seal.the-variants.{Missing, Number}
 use Rattle.list.specs.declared.types.Entry.{Entry}
@@ -21,17 +24,12 @@ use Rattle.list.specs.declared.types.Frame.{Frame}
 use Rattle.list.specs.declared.types.Verdict.the-variants.{Accepted}
 use Rattle.list.specs.declared.map.Fields.{Fields}
 use Rattle.list.specs.declared.map.MapAnswer.the-variants.{Follow}
-use Rattle.list.proofs.FieldTrip.{Bytes, past-field, u16-read, u32-read, u32-small, byte-stands, u16-stands, u32-stands}
+use Rattle.list.proofs.FieldTrip.{past-field, u16-read, u32-read, u32-small, byte-stands, u16-stands, u32-stands}
 use Rattle.list.proofs.MapBytes.{map-form, map-back}
-use Rattle.list.proofs.Inversion.{Says, by-row, by-step, PlaceIn, at-end, at-place, neither}
+use Rattle.list.proofs.Inversion.{Says, by-row, by-step, at-end, at-place, neither}
 use Rattle.list.proofs.Sound.{Sound, fault-says, faultless}
 use Rattle.list.proofs.FormCases.{seal-length, minute-length, entry-length}
 use Rattle.list.proofs.EntryCases.{entry-is, entry-legal, fields-taken}
-
--- the seal's number, if it is one, fits its four bytes
-abbrev pub SealFits : Seal → Type 0
-SealFits Missing = Unit {0}
-SealFits (Number x) = x < 2 ^ 32
 
 -- an entry's serial and seal fit their bytes
 pub record Fits (e : Entry) : Type 0 where
@@ -80,10 +78,9 @@ entry-reads-back f at e rest h fits s =
     let m = fieldsIn f e in
     let bs = laid f e rest in
     let long : sizeOf m ≤ length bs = omega (arith, entry-length f e, length-append (entryBytes f e) rest, ap length (laid-out f e rest)) in
-    let first : mapRead (getD bs 0 0) ≡ Follow m = map-back m in
     rw laid-out (sym
     (fields-taken f at m bs e Accepted (entry-back f e rest h fits s) long (simp not-and-self) (sym (faultless f at e s)) _ (entry-length f e) refl
-    ∙ entry-legal f at bs m (omega arith) first))
+    ∙ entry-legal f at bs (omega arith) (Follow m) (map-back m) m refl))
 
 -- a minute that is not a written default: its field follows again exactly if it did
 written-again : (w : Bool) (x x₀ : ℕ) → w && eqb (cond w x x₀) x₀ ≡ false → not (eqb (cond w x x₀) x₀) ≡ w
@@ -175,5 +172,7 @@ module _ (f : Frame) (at : ℕ) (bs : List ℕ) (len : ℕ) (all : at + length b
       by-row (TakenEntry f bs) (PlaceIn len) (eqb (length bs) 0) _ _ (λ t. at-end len _ all)
       (λ n.
       let h : 1 ≤ length bs = omega (arith, eqb-false (length bs) 0 n) in
-      by-row (TakenEntry f bs) (PlaceIn len) (not (legalMap (getD bs 0 0))) _ _ (λ t. here h 4 (omega arith))
+      by-step (λ n. Says (TakenEntry f bs) (PlaceIn len) (fieldsEntry f at n bs)) (PlaceIn len) (TakenEntry f bs) (mapFields at (getD bs 0 0)) _
+      (by-row (λ n. Says (TakenEntry f bs) (PlaceIn len) (fieldsEntry f at n bs)) (PlaceIn len) (not (legalMap (getD bs 0 0))) _ _ (λ t. here h 4 (omega arith))
       (λ t. fields-say (not-false _ t) h))
+      (λ n s. s))

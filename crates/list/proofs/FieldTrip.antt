@@ -8,11 +8,8 @@ use native.Mathlib.Numerals.{add-one}
 use native.Mathlib.Omega.{arith}
 use lib.ListN.{length, getD, drop}
 use lib.Seq.{drop-cons, drop-drop, drop-at, getD-drop}
+use Rattle.list.specs.Machine.{Bytes}
 use Rattle.list.specs.Numbers.{u16At, u32At, u16Bytes, u32Bytes}
-
--- every element is a byte
-abbrev pub Bytes : List ℕ → Type 0
-Bytes bs = (i : ℕ) → getD bs i 0 < 256
 
 pub bytes-drop : (bs : List ℕ) (k : ℕ) → Bytes bs → Bytes (drop k bs)
 bytes-drop bs k h i = rw getD-drop (h (k + i))

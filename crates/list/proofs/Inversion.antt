@@ -4,6 +4,7 @@ use mathlib.Core.Path.{_≡_, refl}
 use mathlib.Core.Bool.{Bool, true, false, cond, _||_, true≢false}
 use mathlib.Core.List.{[], _∷_}
 use Prim.Native.Nat.{ℕ, _<_}
+use Rattle.list.specs.Reading.{PlaceIn}
 use Rattle.list.specs.Outcomes.{Code, code, Outcome, answered, refused, andThen}
 
 -- P of what is answered, R of a refusal
@@ -25,13 +26,6 @@ module _ {A : Type 0} (P : A → Type 0) (R : Code → Type 0) where
 -- where refusals do not count
 abbrev pub Anything : Code → Type 0
 Anything k = Unit {0}
-
--- what a refusal of an input of this length carries: 1 the length, the others a place inside
-pub record PlaceIn (len : ℕ) (k : Code) : Type 0 where
-  pub place : ℕ
-  pub carried : k .carries ≡ place ∷ []
-  pub missing : k .number ≡ 1 → place ≡ len
-  pub inside : (k .number ≡ 1 → ⊥) → place < len
 
 -- the length, and a place inside
 pub at-end : (len x : ℕ) → x ≡ len → PlaceIn len (code 1 (x ∷ []))

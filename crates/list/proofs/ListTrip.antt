@@ -8,16 +8,18 @@ use native.Mathlib.Nat.{add-zero, add-assoc}
 use native.Mathlib.Omega.{arith}
 use lib.ListN.{length, getD, take, drop, replicate, length-append, length-drop}
 use lib.Seq.{drop-append-seam}
+use Rattle.list.specs.Machine.{Bytes}
 use Rattle.list.specs.Outcomes.{answered}
-use Rattle.list.specs.Entries.{entryBytes, entryOf}
+use Rattle.list.specs.Entries.{entryOf}
+use Rattle.list.specs.Forms.{entryBytes}
 use Rattle.list.specs.DayLists.{blank}
-use Rattle.list.specs.Reading.{entriesFrom}
+use Rattle.list.specs.Reading.{entriesFrom, PlaceIn}
 use Rattle.list.specs.Writing.{bytesOfEntries}
 use Rattle.list.specs.declared.types.Entry.{Entry}
 use Rattle.list.specs.declared.types.Frame.{Frame}
-use Rattle.list.proofs.Inversion.{Says, by-step, PlaceIn}
+use Rattle.list.proofs.Inversion.{Says, by-step}
 use Rattle.list.proofs.Sound.{Sound, Every}
-use Rattle.list.proofs.FieldTrip.{Bytes, bytes-drop}
+use Rattle.list.proofs.FieldTrip.{bytes-drop}
 use Rattle.list.proofs.EntryTrip.{Fits, TakenEntry, entry-says, entry-reads-back}
 
 -- from a fact of every place to one of the first n entries

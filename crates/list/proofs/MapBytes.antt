@@ -7,7 +7,7 @@ use mathlib.Core.Logic.{_⊎_, inl, inr}
 use Prim.Native.Nat.{ℕ, _+_, _<_}
 use borrow.Author.Tests.{ne-eqb, eqb-true}
 use lib.Dec.{eqb}
-use Rattle.list.specs.Maps.{bit, kindOf, legalMap, fieldsOf, mapOf, mapRead}
+use Rattle.list.specs.Maps.{bit, kindOf, legalMap, fieldsOf, mapOf, mapFields, mapAnswerOf}
 use Rattle.list.specs.declared.types.Kind.{Kind}
 use Rattle.list.specs.declared.types.Kind.the-variants.{Pause, Whole}
 use Rattle.list.specs.declared.map.Fields.{Fields}
@@ -44,40 +44,43 @@ legal : (b : ℕ) → b < 256 → legalMap b ≡ among pauseMaps b
 unfolding among
 legal b h = same _ _ (at 256 (λ k. Bool·beq (legalMap k) (among pauseMaps k)) refl b h)
 
-pub breaks : (b : ℕ) → b < 256 → Excluded pauseMaps b → mapRead b ≡ Breaks
-breaks b h x = simp (legal b h ∙ not-among pauseMaps b x)
+pub breaks : (b : ℕ) → b < 256 → Excluded pauseMaps b → (at : ℕ) → mapAnswerOf at Breaks ≡ mapFields at b
+breaks b h x at = simp (legal b h ∙ not-among pauseMaps b x)
 
 -- what a map byte with these fields says
 abbrev pub following : Bool → Bool → Bool → ℕ → MapAnswer
 following s r d b = Follow (record { seal = s; r = r; d = d; kind = kindOf (bit 5 b) })
 
 -- of a byte that is k or k + 32, if those two have the fields
-pub named : (b k : ℕ) (s r d : Bool) → following s r d k ≡ mapRead k → following s r d (k + 32) ≡ mapRead (k + 32) → (b ≡ k) ⊎ (b ≡ k + 32) → following s r d b ≡ mapRead b
-named b k s r d p q (inl e) = rw e p
-named b k s r d p q (inr e) = rw e q
+pub named : (b k : ℕ) (s r d : Bool)
+    → ((at : ℕ) → mapAnswerOf at (following s r d k) ≡ mapFields at k)
+    → ((at : ℕ) → mapAnswerOf at (following s r d (k + 32)) ≡ mapFields at (k + 32))
+    → (b ≡ k) ⊎ (b ≡ k + 32) → (at : ℕ) → mapAnswerOf at (following s r d b) ≡ mapFields at b
+named b k s r d p q (inl e) at = rw e (p at)
+named b k s r d p q (inr e) at = rw e (q at)
 
 -- a legal byte is the map byte of its fields; below, the map byte of fields says those fields
 pub map-form : (b : ℕ) → b < 256 → legalMap b ≡ true → mapOf (fieldsOf b) ≡ b
 map-form b h e =
     eqb-true _ _ (simp e at (at 256 (λ k. not (legalMap k) || eqb (mapOf (fieldsOf k)) k) refl b h))
 
-flags-back : (s r d : Bool) (k : Kind) → let m : Fields = record { seal = s; r = r; d = d; kind = k } in mapRead (mapOf m) ≡ Follow m
-flags-back true true true Pause = refl
-flags-back true true true Whole = refl
-flags-back true true false Pause = refl
-flags-back true true false Whole = refl
-flags-back true false true Pause = refl
-flags-back true false true Whole = refl
-flags-back true false false Pause = refl
-flags-back true false false Whole = refl
-flags-back false true true Pause = refl
-flags-back false true true Whole = refl
-flags-back false true false Pause = refl
-flags-back false true false Whole = refl
-flags-back false false true Pause = refl
-flags-back false false true Whole = refl
-flags-back false false false Pause = refl
-flags-back false false false Whole = refl
+flags-back : (s r d : Bool) (k : Kind) (at : ℕ) → let m : Fields = record { seal = s; r = r; d = d; kind = k } in mapAnswerOf at (Follow m) ≡ mapFields at (mapOf m)
+flags-back true true true Pause at = refl
+flags-back true true true Whole at = refl
+flags-back true true false Pause at = refl
+flags-back true true false Whole at = refl
+flags-back true false true Pause at = refl
+flags-back true false true Whole at = refl
+flags-back true false false Pause at = refl
+flags-back true false false Whole at = refl
+flags-back false true true Pause at = refl
+flags-back false true true Whole at = refl
+flags-back false true false Pause at = refl
+flags-back false true false Whole at = refl
+flags-back false false true Pause at = refl
+flags-back false false true Whole at = refl
+flags-back false false false Pause at = refl
+flags-back false false false Whole at = refl
 
-pub map-back : (m : Fields) → mapRead (mapOf m) ≡ Follow m
+pub map-back : (m : Fields) (at : ℕ) → mapAnswerOf at (Follow m) ≡ mapFields at (mapOf m)
 map-back m = flags-back (m .seal) (m .r) (m .d) (m .kind)

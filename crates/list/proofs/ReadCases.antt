@@ -24,7 +24,7 @@ use Rattle.list.specs.declared.types.Verdict.{Verdict}
 use Rattle.list.specs.declared.types.Verdict.the-variants.{Accepted, Refused}
 use Rattle.list.specs.declared.types.ReadAnswer.{ReadAnswer}
 use Rattle.list.specs.declared.entry.EntryAnswer.{EntryAnswer}
-use Rattle.list.specs.declared.entry.EntryAnswer.the-variants.{Taken, TurnedBack}
+use Rattle.list.specs.declared.entry.EntryAnswer.the-variants.{Taken, NotTaken}
 use Rattle.list.proofs.EntryTrip.{TakenEntry, entry-says}
 
 -- the entries es in front of those that are still to come
@@ -71,8 +71,8 @@ ReadHere f at bs a = entryAnswerOf a ≡ entryOf f at (take (length bs - at) (dr
 pub taken-here : (f : Frame) (at : ℕ) (bs : List ℕ) (a : EntryAnswer) (e : Entry) (size : ℕ) → ReadHere f at bs a → a ≡ Taken e size → entryOf f at (drop at bs) ≡ answered (e, size)
 taken-here f at bs a e size q t = rw (t, rest-lent bs at) at (sym q)
 
-turned-here : (f : Frame) (at : ℕ) (bs : List ℕ) (a : EntryAnswer) (x : Refusal) → ReadHere f at bs a → a ≡ TurnedBack x → entryOf f at (drop at bs) ≡ refused (codeOf x)
-turned-here f at bs a x q t = rw (t, rest-lent bs at) at (sym q)
+refused-here : (f : Frame) (at : ℕ) (bs : List ℕ) (a : EntryAnswer) (x : Refusal) → ReadHere f at bs a → a ≡ NotTaken x → entryOf f at (drop at bs) ≡ refused (codeOf x)
+refused-here f at bs a x q t = rw (t, rest-lent bs at) at (sym q)
 
 -- an entry that was taken lies inside the input
 pub size-here : (f : Frame) (at : ℕ) (bs : List ℕ) (a : EntryAnswer) (e : Entry) (size : ℕ) → at ≤ length bs → ReadHere f at bs a → a ≡ Taken e size → at + size ≤ length bs
@@ -86,8 +86,8 @@ module _ {f : Frame} {n : ℕ} {bs : List ℕ} {entries : List Entry} {at i : �
   unfolding entriesFrom
   turn h = let q : n - i ≡ suc (n - (i + 1)) = omega arith in s .rest ∙ rw q
 
-  pub turned : (a : EntryAnswer) (x : Refusal) → i < n → ReadHere f at bs a → a ≡ TurnedBack x → entriesFrom f n 3 (drop 3 bs) ≡ refused (codeOf x)
-  turned a x h q t = rw (turn h, turned-here f at bs a x q t)
+  pub entry-refused : (a : EntryAnswer) (x : Refusal) → i < n → ReadHere f at bs a → a ≡ NotTaken x → entriesFrom f n 3 (drop 3 bs) ≡ refused (codeOf x)
+  entry-refused a x h q t = rw (turn h, refused-here f at bs a x q t)
 
   pub next : (a : EntryAnswer) (e : Entry) (size : ℕ) → n ≤ 64 → i < n → ReadHere f at bs a → a ≡ Taken e size → SoFar f n bs (set entries i e) (at + size) (i + 1)
   next a e size room h q t =
@@ -127,8 +127,8 @@ module _ (bs : List ℕ) (f : Frame) (n : ℕ) (p : f ≡ frameOf bs) (q : n ≡
   unfolding bodyOf
   body = rw (p, q)
 
-  pub body-turned : (k : Code) → entriesFrom f n 3 (drop 3 bs) ≡ refused k → bodyOf bs ≡ refused k
-  body-turned k e = rw (body, e)
+  pub body-refused : (k : Code) → entriesFrom f n 3 (drop 3 bs) ≡ refused k → bodyOf bs ≡ refused k
+  body-refused k e = rw (body, e)
 
   pub body-left : (es : List Entry) (end : ℕ) → entriesFrom f n 3 (drop 3 bs) ≡ answered (es, end) → end < length bs → bodyOf bs ≡ refused (code 8 (end ∷ []))
   body-left es end e h = rw (body, e) (simp (lt-ltb _ _ h))

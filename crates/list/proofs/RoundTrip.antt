@@ -9,11 +9,13 @@ use borrow.Author.Tests.{ltb-true, ltb-false}
 use lib.Dec.{ltb}
 use lib.ListN.{length, getD, take, drop, replicate, length-append, length-take, length-drop, length-replicate, drop-of-length-le}
 use lib.Seq.{take-append-seam, take-at}
+use Rattle.list.specs.Machine.{Bytes, SealFits, Typed}
 use Rattle.list.specs.Outcomes.{Code, Outcome, answered, refused}
-use Rattle.list.specs.Entries.{entryFault, entryBytes}
+use Rattle.list.specs.Entries.{entryFault}
+use Rattle.list.specs.Forms.{entryBytes}
 use Rattle.list.specs.DayLists.{entriesOf, blank, dayList, SameList}
 use Rattle.list.specs.Checks.{WellFormed, checkOf, headerFault, entriesFault}
-use Rattle.list.specs.Reading.{entriesFrom, frameOf, countOf, bodyOf, readOf}
+use Rattle.list.specs.Reading.{entriesFrom, frameOf, countOf, bodyOf, readOf, PlaceIn}
 use Rattle.list.specs.Writing.{bytesOfEntries, bytesOf, writeOf, bufferAfter}
 use Rattle.list.specs.declared.types.Seal.the-variants.{Number}
 use Rattle.list.specs.declared.types.Kind.the-variants.{Pause}
@@ -21,19 +23,13 @@ use Rattle.list.specs.declared.types.Entry.{Entry}
 use Rattle.list.specs.declared.types.Frame.{Frame}
 use Rattle.list.specs.declared.types.DayList.{DayList}
 use Rattle.list.specs.declared.types.Verdict.the-variants.{Accepted}
-use Rattle.list.proofs.Inversion.{Says, by-row, by-step, Anything, PlaceIn, at-end, at-place}
+use Rattle.list.proofs.Inversion.{Says, by-row, by-step, Anything, at-end, at-place}
 use Rattle.list.proofs.Sound.{Header, header-says, header-passes, SoundList, check-says, sound-list, well-formed}
-use Rattle.list.proofs.FieldTrip.{Bytes, bytes-drop, u16-back, u16-stands, byte-stands}
-use Rattle.list.proofs.EntryTrip.{SealFits, Fits}
+use Rattle.list.proofs.FieldTrip.{bytes-drop, u16-back, u16-stands, byte-stands}
+use Rattle.list.proofs.EntryTrip.{Fits}
 use Rattle.list.proofs.ReadCases.{read-body, body-done}
 use Rattle.list.proofs.WriteCases.{list-short, has-room, written-whole}
 use Rattle.list.proofs.ListTrip.{TakenEntries, entries-say, entries-read-back, every-take, every-at}
-
--- what the machine's types say of every list value
-pub record Typed (l : DayList) : Type 0 where
-  pub long : length (l .entries) ≡ 64
-  pub serial : (i : ℕ) → getD (l .entries) i blank .serial < 2 ^ 32
-  pub seal : (i : ℕ) → SealFits (getD (l .entries) i blank .seal)
 
 module _ (l : DayList) (t : Typed l) (w : WellFormed l) where
   sound : SoundList l

@@ -12,7 +12,7 @@ use Rattle.list.specs.Outcomes.{code, answered, refused}
 use Rattle.list.specs.Refusals.{codeOf, verdictOf}
 use Rattle.list.specs.Numbers.{u16Bytes}
 use Rattle.list.specs.Maps.{sizeOf}
-use Rattle.list.specs.Entries.{fieldsIn, entryBytes}
+use Rattle.list.specs.Forms.{fieldsIn, entryBytes}
 use Rattle.list.specs.DayLists.{entriesOf}
 use Rattle.list.specs.Checks.{WellFormed, checkOf}
 use Rattle.list.specs.Writing.{Wrote, bytesOfEntries, bytesOf, writeOf, Writes}

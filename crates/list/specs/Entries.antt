@@ -1,20 +1,20 @@
--- One entry: what its bytes say, when it is turned back, and its one form.
+-- One entry: what its bytes say, and when it is turned back.
 use Prim.Native.Nat.{ℕ, _+_}
-use mathlib.Core.Bool.{Bool, true, false, cond, not, _&&_, _||_}
-use mathlib.Core.List.{List, [], _∷_, _++_}
+use mathlib.Core.Bool.{Bool, true, false, cond, _&&_, _||_}
+use mathlib.Core.List.{List, [], _∷_}
 use lib.ListN.{length, getD}
 use lib.Dec.{eqb, ltb}
 use Rattle.list.specs.Outcomes.{Outcome, answered, refused, Row, row, firstOf, andThen}
 use Rattle.list.specs.Refusals.{codeOf}
-use Rattle.list.specs.Numbers.{u16At, u32At, u16Bytes, u32Bytes}
-use Rattle.list.specs.Maps.{legalMap, fieldsOf, mapOf, rPlace, dPlace, pPlace, sizeOf}
+use Rattle.list.specs.Numbers.{u16At, u32At}
+use Rattle.list.specs.Maps.{mapFields, rPlace, dPlace, pPlace, sizeOf}
 use Rattle.list.specs.declared.types.Seal.{Seal}
 use Rattle.list.specs.declared.types.Seal.the-variants.{Missing, Number}
 use Rattle.list.specs.declared.types.Entry.{Entry}
 use Rattle.list.specs.declared.types.Frame.{Frame}
 use Rattle.list.specs.declared.map.Fields.{Fields}
 use Rattle.list.specs.declared.entry.EntryAnswer.{EntryAnswer}
-use Rattle.list.specs.declared.entry.EntryAnswer.the-variants.{Taken, TurnedBack}
+use Rattle.list.specs.declared.entry.EntryAnswer.the-variants.{Taken, NotTaken}
 
 -- "earliest minute r ..: missing means 0"
 abbrev pub defaultR : Frame → ℕ
@@ -65,48 +65,14 @@ fieldsEntry f at m bs =
     firstOf (fieldRows f at m bs)
     (andThen (entryFault f at (entryAt f m bs)) (λ _. answered (entryAt f m bs, sizeOf m)))
 
--- row 4, before which "a missing map byte is 1"
-abbrev pub mapRows : ℕ → List ℕ → List Row
-mapRows at bs = row 1 (eqb (length bs) 0) (at + length bs) ∷ row 4 (not (legalMap (getD bs 0 0))) at ∷ []
-
--- the entry at the start of bs with the bytes that it took, or the first of its rows that holds
+-- The entry at the start of bs with the bytes that it took, or the first of its rows that holds: "a missing map byte is 1", then
+-- row 4, then the others.
 unfoldable pub entryOf : Frame → ℕ → List ℕ → Outcome (Entry × ℕ)
-entryOf f at bs = firstOf (mapRows at bs) (fieldsEntry f at (fieldsOf (getD bs 0 0)) bs)
+entryOf f at bs =
+    firstOf (row 1 (eqb (length bs) 0) (at + length bs) ∷ [])
+    (andThen (mapFields at (getD bs 0 0)) (λ m. fieldsEntry f at m bs))
 
 -- the answer of reading one entry
 abbrev pub entryAnswerOf : EntryAnswer → Outcome (Entry × ℕ)
 entryAnswerOf (Taken e size) = answered (e, size)
-entryAnswerOf (TurnedBack x) = refused (codeOf x)
-
--- a seal that is a number
-abbrev pub sealed : Seal → Bool
-sealed Missing = false
-sealed (Number x) = true
-
--- the fields of an entry's one form: those that are neither missing nor at their default
-abbrev pub fieldsIn : Frame → Entry → Fields
-fieldsIn f e =
-    record {
-      seal = sealed (e .seal);
-      r = not (eqb (e .r) (defaultR f));
-      d = not (eqb (e .d) (defaultD f));
-      kind = e .kind;
-    }
-
-abbrev pub sealBytes : Seal → List ℕ
-sealBytes Missing = []
-sealBytes (Number x) = u32Bytes x
-
--- a minute's bytes, if its field follows
-abbrev pub minuteBytes : Bool → ℕ → List ℕ
-minuteBytes follows x = cond follows (u16Bytes x) []
-
--- r, d and p
-abbrev pub timesBytes : Fields → Entry → List ℕ
-timesBytes m e = minuteBytes (m .r) (e .r) ++ (minuteBytes (m .d) (e .d) ++ u16Bytes (e .p))
-
--- an entry's one form
-unfoldable pub entryBytes : Frame → Entry → List ℕ
-entryBytes f e =
-    mapOf (fieldsIn f e)
-    ∷ (u32Bytes (e .serial) ++ (sealBytes (e .seal) ++ timesBytes (fieldsIn f e) e))
+entryAnswerOf (NotTaken x) = refused (codeOf x)

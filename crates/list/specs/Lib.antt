@@ -6,4 +6,6 @@ pub mod Entries
 pub mod DayLists
 pub mod Checks
 pub mod Reading
+pub mod Forms
 pub mod Writing
+pub mod Machine

@@ -1,7 +1,9 @@
 -- The map byte: "The map byte alone decides which fields follow and how long they are."
 use Prim.Native.Nat.{ℕ, _+_, _/_, _%_, _^_}
 use mathlib.Core.Bool.{Bool, true, false, cond, not, _&&_}
+use mathlib.Core.List.{[], _∷_}
 use lib.Dec.{eqb}
+use Rattle.list.specs.Outcomes.{code, Outcome, answered, refused, row, firstOf}
 use Rattle.list.specs.declared.types.Kind.{Kind}
 use Rattle.list.specs.declared.types.Kind.the-variants.{Pause, Whole}
 use Rattle.list.specs.declared.map.Fields.{Fields}
@@ -25,6 +27,30 @@ kindOf false = Pause
 abbrev pub fieldsOf : ℕ → Fields
 fieldsOf b = record { seal = bit 1 b; r = bit 2 b; d = bit 3 b; kind = kindOf (bit 5 b) }
 
+-- row 4, which carries the map byte's place, or the fields that follow
+abbrev pub mapFields : ℕ → ℕ → Outcome Fields
+mapFields at b = firstOf (row 4 (not (legalMap b)) at ∷ []) (answered (fieldsOf b))
+
+-- the answer to a map byte at a place
+abbrev pub mapAnswerOf : ℕ → MapAnswer → Outcome Fields
+mapAnswerOf at Breaks = refused (code 4 (at ∷ []))
+mapAnswerOf at (Follow m) = answered m
+
+-- Where a field starts, counted from the map byte: "then come only the fields whose bit stands, in bit order".
+-- The serial is at 1, and the seal, where it stands, at 5.
+abbrev pub rPlace : Fields → ℕ
+rPlace m = 5 + cond (m .seal) 4 0
+
+abbrev pub dPlace : Fields → ℕ
+dPlace m = rPlace m + cond (m .r) 2 0
+
+abbrev pub pPlace : Fields → ℕ
+pPlace m = dPlace m + cond (m .d) 2 0
+
+-- the bytes of an entry, its map byte too
+abbrev pub sizeOf : Fields → ℕ
+sizeOf m = pPlace m + 2
+
 -- the bit of the kind
 abbrev pub kindBit : Kind → ℕ
 kindBit Pause = 0
@@ -33,22 +59,3 @@ kindBit Whole = 32
 -- the map byte that says these fields: bits 0 and 4, and a bit for each field that follows and for the kind
 abbrev pub mapOf : Fields → ℕ
 mapOf m = 17 + cond (m .seal) 2 0 + cond (m .r) 4 0 + cond (m .d) 8 0 + kindBit (m .kind)
-
--- Where a field starts, counted from the map byte: "then come only the fields whose bit stands, in bit order".
--- The serial is at 1, and the seal, where it stands, at 5.
-abbrev pub rPlace : Fields → ℕ
-rPlace f = 5 + cond (f .seal) 4 0
-
-abbrev pub dPlace : Fields → ℕ
-dPlace f = rPlace f + cond (f .r) 2 0
-
-abbrev pub pPlace : Fields → ℕ
-pPlace f = dPlace f + cond (f .d) 2 0
-
--- the bytes of an entry, its map byte too
-abbrev pub sizeOf : Fields → ℕ
-sizeOf f = pPlace f + 2
-
--- the fields that follow a map byte, or that it breaks its rules
-abbrev pub mapRead : ℕ → MapAnswer
-mapRead b = cond (legalMap b) (Follow (fieldsOf b)) Breaks

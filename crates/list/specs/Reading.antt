@@ -1,10 +1,10 @@
 -- Reading: from bytes to a list value.
-use Prim.Native.Nat.{ℕ, zero, suc, _+_}
+use Prim.Native.Nat.{ℕ, zero, suc, _+_, _<_}
 use mathlib.Core.Path.{_≡_}
 use mathlib.Core.List.{List, [], _∷_}
 use lib.ListN.{length, getD, drop}
 use lib.Dec.{ltb}
-use Rattle.list.specs.Outcomes.{Outcome, answered, refused, row, firstOf, andThen}
+use Rattle.list.specs.Outcomes.{Code, Outcome, answered, refused, row, firstOf, andThen}
 use Rattle.list.specs.Refusals.{readAnswerOf}
 use Rattle.list.specs.Numbers.{u16At}
 use Rattle.list.specs.Entries.{entryOf}
@@ -50,3 +50,10 @@ listOr (refused k) = emptyList
 pub record AnswersAs (o : Outcome DayList) (a : ReadAnswer) : Type 0 where
   pub outcome : readAnswerOf a ≡ o
   pub beside : a .list ≡ listOr o
+
+-- What a refusal of an input of this length carries: 1 the length, any other number a place inside the input.
+pub record PlaceIn (len : ℕ) (k : Code) : Type 0 where
+  pub place : ℕ
+  pub carried : k .carries ≡ place ∷ []
+  pub missing : k .number ≡ 1 → place ≡ len
+  pub inside : (k .number ≡ 1 → ⊥) → place < len

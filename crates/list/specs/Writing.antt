@@ -8,7 +8,7 @@ use lib.Dec.{ltb}
 use Rattle.list.specs.Outcomes.{Outcome, answered, refused, row, firstOf, andThen}
 use Rattle.list.specs.Refusals.{writeAnswerOf}
 use Rattle.list.specs.Numbers.{u16Bytes}
-use Rattle.list.specs.Entries.{entryBytes}
+use Rattle.list.specs.Forms.{entryBytes}
 use Rattle.list.specs.DayLists.{entriesOf}
 use Rattle.list.specs.Checks.{checkOf}
 use Rattle.list.specs.declared.types.Entry.{Entry}

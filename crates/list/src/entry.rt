@@ -26,7 +26,7 @@ ghost use Rattle.list.specs.Entries.{defaultR, defaultD, sealOf, entryAt
 // An entry with the bytes that it took, or why it was turned back.
 pub enum EntryAnswer {
     Taken(Entry, usize),
-    TurnedBack(Refusal),
+    NotTaken(Refusal),
 }
 
 // "missing means 0"
@@ -101,16 +101,16 @@ fn read_fields(frame: Frame, at: usize, m: Fields, rest: &[u8]) -> EntryAnswer
 {
     let size = size_of(m);
     if rest.len() < size {
-        return EntryAnswer::TurnedBack(Refusal::BytesMissing(at + rest.len()));
+        return EntryAnswer::NotTaken(Refusal::BytesMissing(at + rest.len()));
     }
     let e = entry_at(frame, m, rest);
     if default_written(frame, m, e) {
-        return EntryAnswer::TurnedBack(Refusal::DefaultWritten(at));
+        return EntryAnswer::NotTaken(Refusal::DefaultWritten(at));
     }
     let fault = entry_fault(frame, at, e);
     match fault {
         Verdict::Accepted => EntryAnswer::Taken(e, size),
-        Verdict::Refused(x) => EntryAnswer::TurnedBack(x),
+        Verdict::Refused(x) => EntryAnswer::NotTaken(x),
     }
 }
 
@@ -120,11 +120,11 @@ pub(crate) fn read_entry(frame: Frame, at: usize, rest: &[u8]) -> EntryAnswer
     ensures { λ a. ⌜ entryAnswerOf a ≡ entryOf frame at (now (rest .entry)) ⌝ }
 {
     if rest.len() == 0 {
-        return EntryAnswer::TurnedBack(Refusal::BytesMissing(at + rest.len()));
+        return EntryAnswer::NotTaken(Refusal::BytesMissing(at + rest.len()));
     }
     let said = map_answer(rest[0]);
     match said {
-        MapAnswer::Breaks => EntryAnswer::TurnedBack(Refusal::BadMapByte(at)),
+        MapAnswer::Breaks => EntryAnswer::NotTaken(Refusal::BadMapByte(at)),
         MapAnswer::Follow(m) => read_fields(frame, at, m, rest),
     }
 }

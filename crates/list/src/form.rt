@@ -11,7 +11,7 @@ use crate::types::Seal;
 ghost use mathlib.Core.Path.{_≡_};
 ghost use Prim.Native.Nat.{_+_, _≤_};
 ghost use lib.ListN.{length};
-ghost use Rattle.list.specs.Entries.{sealed, fieldsIn, sealBytes, minuteBytes, timesBytes, entryBytes};
+ghost use Rattle.list.specs.Forms.{sealed, fieldsIn, sealBytes, minuteBytes, timesBytes, entryBytes};
 ghost use Rattle.list.specs.Writing.{Wrote};
 
 fn has_number(seal: Seal) -> bool

@@ -2,8 +2,8 @@
 use crate::types::Kind;
 ghost use mathlib.Core.Path.{_≡_};
 ghost use mathlib.Core.Bool.{cond};
-ghost use Prim.Native.Nat.{_+_, _<_, _^_};
-ghost use Rattle.list.specs.Maps.{kindOf, bit, mapRead, mapOf, rPlace, dPlace, pPlace, sizeOf};
+ghost use Prim.Native.Nat.{ℕ, _+_, _<_, _^_};
+ghost use Rattle.list.specs.Maps.{kindOf, bit, mapFields, mapAnswerOf, mapOf, rPlace, dPlace, pPlace, sizeOf};
 
 // What a map byte says: which of the fields that may be missing follow, and the kind.
 pub struct Fields {
@@ -20,7 +20,7 @@ pub enum MapAnswer {
 
 // The fields that follow a legal map byte: bits 0 and 4 stand, bits 6 and 7 are clear; the second byte of a pair is whole.
 pub(crate) fn map_answer(map: u8) -> MapAnswer
-    ensures { λ r. ⌜ r ≡ mapRead map ⌝ }
+    ensures { λ a. ⌜ ((at : ℕ) → mapAnswerOf at a ≡ mapFields at map) ⌝ }
 {
     match map {
         0..=16 => MapAnswer::Breaks,
@@ -32,29 +32,32 @@ pub(crate) fn map_answer(map: u8) -> MapAnswer
         27 | 59 => follow(map, true, false, true),
         29 | 61 => follow(map, false, true, true),
         31 | 63 => follow(map, true, true, true),
+        32..=48 => MapAnswer::Breaks,
         64..=255 => MapAnswer::Breaks,
         _ => MapAnswer::Breaks,
+    }
+}
+
+fn kind_of(map: u8) -> Kind
+    ensures { λ k. ⌜ k ≡ kindOf (bit 5 map) ⌝ }
+{
+    if map / 32 % 2 == 1 {
+        Kind::Whole
+    } else {
+        Kind::Pause
     }
 }
 
 fn follow(map: u8, seal: bool, r: bool, d: bool) -> MapAnswer
     ensures { λ a. ⌜ a ≡ MapAnswer.Follow (record { seal = seal; r = r; d = d; kind = kindOf (bit 5 map) }) ⌝ }
 {
-    if map / 32 % 2 == 1 {
-        MapAnswer::Follow(Fields {
-            seal: seal,
-            r: r,
-            d: d,
-            kind: Kind::Whole,
-        })
-    } else {
-        MapAnswer::Follow(Fields {
-            seal: seal,
-            r: r,
-            d: d,
-            kind: Kind::Pause,
-        })
-    }
+    let kind = kind_of(map);
+    MapAnswer::Follow(Fields {
+        seal: seal,
+        r: r,
+        d: d,
+        kind: kind,
+    })
 }
 
 // x, with y added where a field follows.

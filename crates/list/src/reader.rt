@@ -19,7 +19,7 @@ ghost use Rattle.list.specs.DayLists.{emptyList};
 ghost use Rattle.list.specs.Reading.{frameOf, countOf, bodyOf, readOf, AnswersAs};
 
 // A refusal, with the empty list beside it.
-fn turned_back(x: Refusal) -> ReadAnswer
+fn refused_with(x: Refusal) -> ReadAnswer
     ensures { λ a. ⌜ a ≡ record { verdict = Verdict.Refused x; list = emptyList } ⌝ }
 {
     ReadAnswer {
@@ -44,14 +44,14 @@ fn read_body(bytes: &[u8], frame: Frame, n: u8) -> ReadAnswer
                 entries[i] = e;
                 at += size;
             }
-            EntryAnswer::TurnedBack(x) => {
-                return turned_back(x);
+            EntryAnswer::NotTaken(x) => {
+                return refused_with(x);
             }
         }
         i += 1;
     }
     if at < bytes.len() {
-        return turned_back(Refusal::BytesLeftOver(at));
+        return refused_with(Refusal::BytesLeftOver(at));
     }
     ReadAnswer {
         verdict: Verdict::Accepted,
@@ -68,7 +68,7 @@ pub fn read(bytes: &[u8]) -> ReadAnswer
     ensures { λ a. ⌜ AnswersAs (readOf (now (bytes .entry))) a ⌝ }
 {
     if bytes.len() < 3 {
-        return turned_back(Refusal::BytesMissing(bytes.len()));
+        return refused_with(Refusal::BytesMissing(bytes.len()));
     }
     let frame = Frame {
         h: u16_at(bytes, 0),
@@ -77,6 +77,6 @@ pub fn read(bytes: &[u8]) -> ReadAnswer
     let header = header_fault(2, frame, n);
     match header {
         Verdict::Accepted => read_body(bytes, frame, n),
-        Verdict::Refused(x) => turned_back(x),
+        Verdict::Refused(x) => refused_with(x),
     }
 }

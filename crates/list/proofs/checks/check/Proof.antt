@@ -13,7 +13,7 @@ use Rattle.list.specs.Checks.{headerFault, checkOf, entriesFault}
 use Rattle.list.specs.declared.types.Verdict.the-variants.{Accepted}
 use Rattle.list.proofs.Walk.{length-mapped}
 use Rattle.list.proofs.Sound.{header-of}
-use Rattle.list.proofs.CheckCases.{check-header, check-entries, check-turned, check-next, check-done}
+use Rattle.list.proofs.CheckCases.{check-header, check-entries, check-refused, check-next, check-done}
 use Rattle.list.proofs.checks.check.Statement.{statement}
 use Rattle.list.proofs.checks.check.Tie as tie
 
@@ -64,7 +64,7 @@ enum-told-4 c = search needs
 returns-2 : tie.Need-returns-2 Inv-loop μ-loop
 returns-2 c =
     let len : length ((c .before .before .before .before .before .before .before .before .before .before .before .args .t1) .entries) ≡ 64 = search (needs, length-mapped) in
-    check-turned (c .before .before .before .before .before .before .before .before .before .before .before .args .t1) (omega (arith, len, c .before .before .before .before .before .before .loop .inv .1)) (c .before .before .before .before .before .before .loop .i) _ (c .before .before .entry-fault .result) (c .before .before .entry-fault .ensures) (c .before .before .before .before .before .loop-test .taken) _ (c .enum-told4 .given .1) ∙ sym (c .before .before .before .before .before .before .loop .inv .2)
+    check-refused (c .before .before .before .before .before .before .before .before .before .before .before .args .t1) (omega (arith, len, c .before .before .before .before .before .before .loop .inv .1)) (c .before .before .before .before .before .before .loop .i) _ (c .before .before .entry-fault .result) (c .before .before .entry-fault .ensures) (c .before .before .before .before .before .loop-test .taken) _ (c .enum-told4 .given .1) ∙ sym (c .before .before .before .before .before .before .loop .inv .2)
 
 add-i : tie.Need-add-i Inv-loop μ-loop
 add-i c = search needs

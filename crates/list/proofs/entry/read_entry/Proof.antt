@@ -29,10 +29,10 @@ read-fields-requires : tie.Need-read-fields-requires
 read-fields-requires c κs = search needs
 
 returns-2 : tie.Need-returns-2
-returns-2 c = entry-broken (c .before .before .before .before .before .before .args .frame) (c .before .before .before .before .before .before .args .at) (now (c .before .before .before .before .before .before .args .rest)) (c .before .before .before .before .if1 .left) (sym (c .before .before .map-answer .ensures) ∙ c .enum-told .given .1)
+returns-2 c = entry-broken (c .before .before .before .before .before .before .args .frame) (c .before .before .before .before .before .before .args .at) (now (c .before .before .before .before .before .before .args .rest)) (c .before .before .before .before .if1 .left) (c .before .before .map-answer .result) (c .before .before .map-answer .ensures) (c .enum-told .given .1)
 
 returns-3 : tie.Need-returns-3
-returns-3 c = c .read-fields .ensures ∙ entry-legal (c .before .before .before .before .before .before .before .before .args .frame) (c .before .before .before .before .before .before .before .before .args .at) (now (c .before .before .before .before .before .before .before .before .args .rest)) _ (c .before .before .before .before .before .before .if1 .left) (sym (c .before .before .before .before .map-answer .ensures) ∙ c .before .before .said .given .1)
+returns-3 c = c .read-fields .ensures ∙ entry-legal (c .before .before .before .before .before .before .before .before .args .frame) (c .before .before .before .before .before .before .before .before .args .at) (now (c .before .before .before .before .before .before .before .before .args .rest)) (c .before .before .before .before .before .before .if1 .left) (c .before .before .before .before .map-answer .result) (c .before .before .before .before .map-answer .ensures) _ (c .before .before .said .given .1)
 
 pub read-entry-spec : {M : Type 1} → statement M
 read-entry-spec =

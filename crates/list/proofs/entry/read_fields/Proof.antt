@@ -4,7 +4,7 @@ use borrow.Author.Needs.{needs}
 use mathlib.Core.Path.{sym, _∙_}
 use native.Mathlib.Omega.{arith}
 use denote.Ref.{now}
-use Rattle.list.proofs.EntryCases.{fields-short, fields-default, fields-taken, fields-turned}
+use Rattle.list.proofs.EntryCases.{fields-short, fields-default, fields-taken, fields-refused}
 use Rattle.list.proofs.entry.read_fields.Statement.{statement}
 use Rattle.list.proofs.entry.read_fields.Tie as tie
 
@@ -42,7 +42,7 @@ returns-3 c = fields-taken (c .before .before .before .before .before .before .b
     (c .before .before .entry-fault .ensures) _ (c .before .before .before .before .before .before .before .size-of .ensures) (c .enum-told .given .1)
 
 returns-4 : tie.Need-returns-4
-returns-4 c = fields-turned (c .before .before .before .before .before .before .before .before .before .before .args .frame) (c .before .before .before .before .before .before .before .before .before .before .args .at) (c .before .before .before .before .before .before .before .before .before .before .args .m) (now (c .before .before .before .before .before .before .before .before .before .before .args .rest)) _ (c .before .before .before .entry-fault .result) (c .before .before .before .before .before .before .entry-at .ensures)
+returns-4 c = fields-refused (c .before .before .before .before .before .before .before .before .before .before .args .frame) (c .before .before .before .before .before .before .before .before .before .before .args .at) (c .before .before .before .before .before .before .before .before .before .before .args .m) (now (c .before .before .before .before .before .before .before .before .before .before .args .rest)) _ (c .before .before .before .entry-fault .result) (c .before .before .before .before .before .before .entry-at .ensures)
     (omega (arith, c .before .before .before .before .before .before .before .if1 .left, c .before .before .before .before .before .before .before .before .size-of .ensures))
     (sym (c .before .before .before .before .before .default-written .ensures) ∙ c .before .before .before .before .if2 .left)
     (c .before .before .before .entry-fault .ensures) _ (c .before .fault .given .1)

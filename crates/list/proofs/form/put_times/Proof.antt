@@ -3,7 +3,7 @@
 use borrow.Author.Needs.{needs}
 use mathlib.Core.List.{_++_}
 use Rattle.list.specs.Numbers.{u16Bytes}
-use Rattle.list.specs.Entries.{minuteBytes}
+use Rattle.list.specs.Forms.{minuteBytes}
 use Rattle.list.proofs.Stores.{room-first, room-after}
 use Rattle.list.proofs.FormCases.{times-stored}
 use Rattle.list.proofs.form.put_times.Statement.{statement}

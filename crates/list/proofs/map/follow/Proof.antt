@@ -1,15 +1,14 @@
--- `map::follow` meets its contract: the test is bit 5.
+-- `map::follow` meets its contract.
 -- Assumes nothing.
 use borrow.Author.Needs.{needs}
-use borrow.Author.Tests.{eq-eqb, ne-eqb, lt-ltb, le-ltb}
 use Rattle.list.proofs.map.follow.Statement.{statement}
 use Rattle.list.proofs.map.follow.Tie as tie
 
-returns : tie.Need-returns
-returns c = simp (eq-eqb _ _ (c .if1 .taken))
+kind-of-requires : tie.Need-kind-of-requires
+kind-of-requires c κs = search needs
 
-returns-2 : tie.Need-returns-2
-returns-2 c = simp (ne-eqb _ _ (c .if1 .left))
+returns : tie.Need-returns
+returns c = rw (c .kind-of .ensures)
 
 pub follow-spec : {M : Type 1} → statement M
-follow-spec = tie.close (tie.spec returns returns-2)
+follow-spec = tie.close (tie.spec kind-of-requires returns)

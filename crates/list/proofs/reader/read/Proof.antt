@@ -11,11 +11,11 @@ use Rattle.list.proofs.ReadCases.{answers-refused, read-short, read-hea
 use Rattle.list.proofs.reader.read.Statement.{statement}
 use Rattle.list.proofs.reader.read.Tie as tie
 
-turned-back-requires : tie.Need-turned-back-requires
-turned-back-requires c κs = search needs
+refused-with-requires : tie.Need-refused-with-requires
+refused-with-requires c κs = search needs
 
 returns : tie.Need-returns
-returns c = answers-refused _ _ _ (c .turned-back .ensures) (read-short (c .before .before .before .args .bytes .now) (c .before .if1 .taken))
+returns c = answers-refused _ _ _ (c .refused-with .ensures) (read-short (c .before .before .before .args .bytes .now) (c .before .if1 .taken))
 
 u16-at-requires : tie.Need-u16-at-requires
 u16-at-requires c κs = search needs
@@ -37,20 +37,20 @@ read-body-requires c κs =
 enum-known-header : tie.Need-enum-known-header
 enum-known-header c = search needs
 
-turned-back-requires-2 : tie.Need-turned-back-requires-2
-turned-back-requires-2 c κs = search needs
+refused-with-requires-2 : tie.Need-refused-with-requires-2
+refused-with-requires-2 c κs = search needs
 
 returns-2 : tie.Need-returns-2
 returns-2 c = rw (read-body (c .before .before .before .before .before .before .before .before .args .bytes .now) (record { h = c .before .before .before .before .before .u16-at .result }) (c .before .before .before .header-fault .result) (ap (λ (x : ℕ). record { h = x }) (c .before .before .before .before .before .u16-at .ensures)) (c .before .before .before .before .before .before .if1 .left) (c .before .before .before .header-fault .ensures) (c .before .enum-told .given .1)) (c .read-body .ensures)
 
 returns-3 : tie.Need-returns-3
-returns-3 c = answers-refused _ _ _ (c .turned-back2 .ensures) (read-header (c .before .before .before .before .before .before .before .before .before .args .bytes .now) (record { h = c .before .before .before .before .before .before .u16-at .result }) (c .before .before .before .before .header-fault .result) (ap (λ (x : ℕ). record { h = x }) (c .before .before .before .before .before .before .u16-at .ensures)) (c .before .before .before .before .before .before .before .if1 .left) (c .before .before .before .before .header-fault .ensures) _ (c .before .before .header .given .1))
+returns-3 c = answers-refused _ _ _ (c .refused-with2 .ensures) (read-header (c .before .before .before .before .before .before .before .before .before .args .bytes .now) (record { h = c .before .before .before .before .before .before .u16-at .result }) (c .before .before .before .before .header-fault .result) (ap (λ (x : ℕ). record { h = x }) (c .before .before .before .before .before .before .u16-at .ensures)) (c .before .before .before .before .before .before .before .if1 .left) (c .before .before .before .before .header-fault .ensures) _ (c .before .before .header .given .1))
 
 pub read-spec : {M : Type 1} → statement M
 read-spec =
     tie.close
     (tie.spec
-    turned-back-requires
+    refused-with-requires
     returns
     u16-at-requires
     shared-slice-read-n
@@ -58,6 +58,6 @@ read-spec =
     enum-told
     read-body-requires
     enum-known-header
-    turned-back-requires-2
+    refused-with-requires-2
     returns-2
     returns-3)

@@ -6,7 +6,7 @@ use mathlib.Core.Path.{sym, ap, _∙_}
 use native.Mathlib.Omega.{arith}
 use Prim.Native.Nat.{_-_}
 use Rattle.list.specs.Outcomes.{answered}
-use Rattle.list.proofs.ReadCases.{SoFar, start, turned, next, done, list-is, size-here, body-turned, body-left, body-done, answers-refused, answers-list}
+use Rattle.list.proofs.ReadCases.{SoFar, start, entry-refused, next, done, list-is, size-here, body-refused, body-left, body-done, answers-refused, answers-list}
 use Rattle.list.proofs.reader.read_body.Statement.{statement}
 use Rattle.list.proofs.reader.read_body.Tie as tie
 
@@ -55,13 +55,13 @@ add-at c =
 enum-known-one-2 : tie.Need-enum-known-one-2 Inv-loop μ-loop
 enum-known-one-2 c = search needs
 
-turned-back-requires : tie.Need-turned-back-requires Inv-loop μ-loop
-turned-back-requires c κs = search needs
+refused-with-requires : tie.Need-refused-with-requires Inv-loop μ-loop
+refused-with-requires c κs = search needs
 
 returns : tie.Need-returns Inv-loop μ-loop
 returns c =
-    let o = turned (c .before .before .before .before .before .before .before .loop .inv) (c .before .before .before .before .read-entry .result) _ (c .before .before .before .before .before .before .loop-test .taken) (c .before .before .before .before .read-entry .ensures) (c .before .before .one2 .given .1) in
-    answers-refused _ _ _ (c .turned-back .ensures) (body-turned (c .before .before .before .before .before .before .before .before .before .before .before .args .bytes .now) _ _ (c .before .before .before .before .before .before .before .before .before .before .before .pre .2) (c .before .before .before .before .before .before .before .before .before .before .before .pre .3) _ o)
+    let o = entry-refused (c .before .before .before .before .before .before .before .loop .inv) (c .before .before .before .before .read-entry .result) _ (c .before .before .before .before .before .before .loop-test .taken) (c .before .before .before .before .read-entry .ensures) (c .before .before .one2 .given .1) in
+    answers-refused _ _ _ (c .refused-with .ensures) (body-refused (c .before .before .before .before .before .before .before .before .before .before .before .args .bytes .now) _ _ (c .before .before .before .before .before .before .before .before .before .before .before .pre .2) (c .before .before .before .before .before .before .before .before .before .before .before .pre .3) _ o)
 
 add-i : tie.Need-add-i Inv-loop μ-loop
 add-i c = search needs
@@ -72,13 +72,13 @@ loop-less c = search needs
 loop-again : tie.Need-loop-again Inv-loop μ-loop
 loop-again c = next (c .before .before .before .before .before .before .loop .inv) (c .before .before .before .read-entry .result) _ _ (c .before .before .before .before .before .before .before .before .before .before .pre .1) (c .before .before .before .before .before .loop-test .taken) (c .before .before .before .read-entry .ensures) (c .before .one .given .1)
 
-turned-back-requires-2 : tie.Need-turned-back-requires-2 Inv-loop μ-loop
-turned-back-requires-2 c κs = search needs
+refused-with-requires-2 : tie.Need-refused-with-requires-2 Inv-loop μ-loop
+refused-with-requires-2 c κs = search needs
 
 returns-2 : tie.Need-returns-2 Inv-loop μ-loop
 returns-2 c =
     let o = done (c .before .before .before .loop .inv) (c .before .before .loop-test .left) in
-    answers-refused _ _ _ (c .turned-back2 .ensures) (body-left (c .before .before .before .before .before .before .before .args .bytes .now) _ _ (c .before .before .before .before .before .before .before .pre .2) (c .before .before .before .before .before .before .before .pre .3) _ _ o (c .before .if1 .taken))
+    answers-refused _ _ _ (c .refused-with2 .ensures) (body-left (c .before .before .before .before .before .before .before .args .bytes .now) _ _ (c .before .before .before .before .before .before .before .pre .2) (c .before .before .before .before .before .before .before .pre .3) _ _ o (c .before .if1 .taken))
 
 returns-3 : tie.Need-returns-3 Inv-loop μ-loop
 returns-3 c =
@@ -103,11 +103,11 @@ read-body-spec =
     array-set-from-entries
     add-at
     enum-known-one-2
-    turned-back-requires
+    refused-with-requires
     returns
     add-i
     loop-less
     loop-again
-    turned-back-requires-2
+    refused-with-requires-2
     returns-2
     returns-3)
