@@ -4,19 +4,17 @@
 use crate::flat::Fields;
 
 extern "C" {
-    fn dock_read(bytes: *const u8, len: usize, carried: *mut [u64; 3], fields: *mut Fields) -> u32;
-    fn dock_write(fields: *const Fields, carried: *mut [u64; 3], out: *mut u8, len: usize) -> u32;
+    fn dock_read(bytes: *const u8, len: usize, fields: *mut Fields) -> Answer;
+    fn dock_write(fields: *const Fields, out: *mut u8, len: usize) -> Answer;
 }
 
-/// What a call answers: 0 or a refusal's number, and the values beside it.
+/// What a call answers: 0 or a refusal's number, and three values, 0 where there are fewer.
+#[repr(C)]
 #[derive(Clone, Copy, Debug, PartialEq, Eq)]
 pub struct Answer {
-    pub number: u32,
-    pub carried: [u64; 3],
+    pub number: u64,
+    pub values: [u64; 3],
 }
-
-/// What `carried` holds before a call.
-const CARRIED: [u64; 3] = [0xC0C1_C2C3_C4C5_C6C7; 3];
 
 /// What `fields` hold before a call.
 pub fn untouched_fields() -> Fields {
@@ -30,11 +28,10 @@ pub fn untouched_bytes(room: usize) -> Vec<u8> {
 
 /// Reads a list through the library.
 pub fn read(bytes: &[u8]) -> (Answer, Fields) {
-    let mut carried = CARRIED;
     let mut fields = untouched_fields();
-    // SAFETY: the library reads `bytes.len()` bytes and writes two arrays, all of them lent here.
-    let number = unsafe { dock_read(bytes.as_ptr(), bytes.len(), &mut carried, &mut fields) };
-    (Answer { number, carried }, fields)
+    // SAFETY: the library reads `bytes.len()` bytes and writes one array, all of them lent here.
+    let answer = unsafe { dock_read(bytes.as_ptr(), bytes.len(), &mut fields) };
+    (answer, fields)
 }
 
 /// Bytes before and behind those that are lent to the writer, which it has no business with.
@@ -42,12 +39,11 @@ const MARGIN: [u8; 16] = [0xEE; 16];
 
 /// Writes a list through the library into `room` bytes, and gives all of them back.
 pub fn write(fields: &Fields, room: usize) -> (Answer, Vec<u8>) {
-    let mut carried = CARRIED;
     let mut memory = [&MARGIN[..], &untouched_bytes(room), &MARGIN].concat();
     let out = &mut memory[MARGIN.len()..][..room];
-    // SAFETY: the library reads one array and writes another and `room` bytes, all of them lent here.
-    let number = unsafe { dock_write(fields, &mut carried, out.as_mut_ptr(), room) };
+    // SAFETY: the library reads one array and writes `room` bytes, all of them lent here.
+    let answer = unsafe { dock_write(fields, out.as_mut_ptr(), room) };
     let out = out.to_vec();
     assert!(memory.starts_with(&MARGIN) && memory.ends_with(&MARGIN), "bytes written that were not lent");
-    (Answer { number, carried }, out)
+    (answer, out)
 }

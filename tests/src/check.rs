@@ -7,7 +7,7 @@ use crate::{reader, writer};
 
 fn refusing(refusal: &Refusal) -> Answer {
     let (number, carries) = refusal.code();
-    Answer { number, carried: [carries, 0, 0] }
+    Answer { number: u64::from(number), values: [carries, 0, 0] }
 }
 
 /// The number of an answer, 0 for a success.
@@ -22,7 +22,7 @@ pub fn read(bytes: &[u8]) -> Result<Day, Refusal> {
     let expected = reader::read(bytes);
     let (answer, fields) = abi::read(bytes);
     let (wanted, wanted_fields) = match &expected {
-        Ok(day) => (Answer { number: 0, carried: [0; 3] }, flat::of_day(day)),
+        Ok(day) => (Answer { number: 0, values: [0; 3] }, flat::of_day(day)),
         Err(refusal) => (refusing(refusal), abi::untouched_fields()),
     };
     assert_eq!(answer, wanted, "answer to {bytes:02X?}");
@@ -57,7 +57,7 @@ pub fn write(fields: &Fields, room: usize) -> Result<Vec<u8>, Refusal> {
     let wanted = match &expected {
         Ok(form) => {
             wanted_out[..form.len()].copy_from_slice(form);
-            Answer { number: 0, carried: [form.len() as u64, 0, 0] }
+            Answer { number: 0, values: [form.len() as u64, 0, 0] }
         }
         Err(refusal) => refusing(refusal),
     };

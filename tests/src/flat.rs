@@ -43,19 +43,24 @@ pub fn put(fields: &mut Fields, place: usize, entry: &Entry) {
     fields[2 + WIDTH * place..][..WIDTH].copy_from_slice(&numbers);
 }
 
-/// The value that 450 numbers stand for: H, r, d and p modulo 65,536, n modulo 256, and any other number
-/// than 0 as a yes.
+fn minute(number: u32) -> u16 {
+    u16::try_from(number).unwrap_or(u16::MAX)
+}
+
+/// The value that 450 numbers stand for: a number too large for its field as the field's largest, which the
+/// rules then refuse, and any other number than 0 as a yes.
 pub fn value(fields: &Fields) -> Value {
     let places = fields[2..].chunks_exact(WIDTH).map(|place| match place {
         &[serial, stands, seal, r, d, p, whole] => Entry {
             serial,
             seal: (stands != 0).then_some(seal),
-            r: r as u16,
-            d: d as u16,
-            p: p as u16,
+            r: minute(r),
+            d: minute(d),
+            p: minute(p),
             whole: whole != 0,
         },
         _ => unreachable!("a place has {WIDTH} numbers"),
     });
-    Value { h: fields[0] as u16, n: fields[1] as u8, places: places.collect() }
+    let n = u8::try_from(fields[1]).unwrap_or(u8::MAX);
+    Value { h: minute(fields[0]), n, places: places.collect() }
 }

@@ -19,7 +19,7 @@ fn the_documents_sample_is_read() {
 #[test]
 fn the_documents_sample_in_flat_form() {
     let (answer, fields) = abi::read(&samples::document());
-    assert_eq!((answer.number, answer.carried), (0, [0, 0, 0]));
+    assert_eq!((answer.number, answer.values), (0, [0, 0, 0]));
     assert_eq!(fields[..2], [12, 3]);
     assert_eq!(fields[2..9], [501, 0, 0, 0, 12, 4, 0]);
     assert_eq!(fields[9..16], [502, 1, 77, 2, 8, 3, 1]);
@@ -31,7 +31,7 @@ fn the_documents_sample_in_flat_form() {
 fn the_documents_sample_is_written() {
     let (_, fields) = abi::read(&samples::document());
     let (answer, out) = abi::write(&fields, 41);
-    assert_eq!((answer.number, answer.carried), (0, [40, 0, 0]));
+    assert_eq!((answer.number, answer.values), (0, [40, 0, 0]));
     assert_eq!(out[..40], samples::document());
     assert_eq!(out[40], abi::untouched_bytes(41)[40]);
 }

@@ -9,9 +9,9 @@ fn there_and_back(day: &Day) {
     let fields = flat::of_day(day);
     let (answer, out) = abi::write(&fields, 1000);
     assert_eq!(answer.number, 0);
-    let form = &out[..answer.carried[0] as usize];
+    let form = &out[..answer.values[0] as usize];
     let (answer, read) = abi::read(form);
-    assert_eq!((answer.number, answer.carried), (0, [0, 0, 0]));
+    assert_eq!((answer.number, answer.values), (0, [0, 0, 0]));
     assert!(read == fields, "{day:?} reads back as {:?}", &read[..]);
     assert_eq!(check::accepted(form), *day);
 }
@@ -47,7 +47,7 @@ fn accepted_bytes_are_written_back() {
         let (answer, fields) = abi::read(&bytes);
         assert_eq!(answer.number, 0);
         let (answer, out) = abi::write(&fields, bytes.len());
-        assert_eq!((answer.number, answer.carried), (0, [bytes.len() as u64, 0, 0]));
+        assert_eq!((answer.number, answer.values), (0, [bytes.len() as u64, 0, 0]));
         assert_eq!(out, bytes);
     }
 }

@@ -4,7 +4,7 @@ use dock_tests::samples::{self, hex};
 use dock_tests::{abi, check, flat};
 
 /// An input for each refusal of reading, late in the input where that can be.
-fn refused_inputs() -> Vec<(u32, Vec<u8>)> {
+fn refused_inputs() -> Vec<(u64, Vec<u8>)> {
     let after = |rest: &str| [hex("64 00 02 | 3F 01000000 02000000 0300 3200 0100"), hex(rest)].concat();
     vec![
         (1, hex("64 00")),
@@ -45,7 +45,7 @@ fn a_refused_value_leaves_the_buffer_as_it_was() {
 fn a_refusal_carries_one_value_and_zeros() {
     for (_, bytes) in refused_inputs() {
         let (answer, _) = abi::read(&bytes);
-        assert_eq!(answer.carried[1..], [0, 0]);
+        assert_eq!(answer.values[1..], [0, 0]);
     }
 }
 

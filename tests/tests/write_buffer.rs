@@ -57,6 +57,6 @@ fn the_longest_list_needs_963_bytes() {
 #[test]
 fn a_buffer_that_is_too_short_keeps_its_bytes() {
     let (answer, out) = abi::write(&flat::of_day(&samples::longest()), 962);
-    assert_eq!((answer.number, answer.carried), (12, [963, 0, 0]));
+    assert_eq!((answer.number, answer.values), (12, [963, 0, 0]));
     assert_eq!(out, abi::untouched_bytes(962));
 }

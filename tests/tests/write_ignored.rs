@@ -1,6 +1,6 @@
-//! What a flat value may hold besides the list: places from n on, high bits, a number beside no seal.
+//! What a flat value may hold besides the list: places from n on, a number beside no seal, any flag.
 
-use dock_tests::check::{not_written, written};
+use dock_tests::check::written;
 use dock_tests::flat::{self, Fields, WIDTH};
 use dock_tests::random::{self, Random};
 use dock_tests::{check, samples, writer};
@@ -55,38 +55,6 @@ fn lists_that_differ_only_from_n_on_are_written_alike() {
         assert_eq!(written(&one, ROOM), writer::form(&day));
         assert_eq!(written(&two, ROOM), writer::form(&day));
     }
-}
-
-#[test]
-fn day_and_minutes_count_modulo_65536() {
-    let mut fields = sample();
-    for number in [0, 5, 6, 7, 12, 13, 14, 19, 20, 21] {
-        fields[number] += 65_536 * (number as u32 + 1);
-    }
-    assert_eq!(written(&fields, ROOM), samples::document());
-    fields[0] = 65_536;
-    not_written(&fields, ROOM, 2, 0);
-}
-
-#[test]
-fn the_number_of_entries_counts_modulo_256() {
-    let mut fields = sample();
-    for n in [256 + 3, 65_536 + 3, 0xFFFF_FF03] {
-        fields[1] = n;
-        assert_eq!(written(&fields, ROOM), samples::document());
-    }
-    fields[1] = 256 + 65;
-    not_written(&fields, ROOM, 3, 0);
-}
-
-#[test]
-fn minutes_that_are_0_modulo_65536_are_none() {
-    let mut fields = sample();
-    fields[7] = 65_536;
-    not_written(&fields, ROOM, 6, 0);
-    fields[7] = 4;
-    fields[12] = 131_072;
-    assert_eq!(written(&fields, ROOM)[10], 0x3B, "r is 0, and a default is not written");
 }
 
 #[test]

@@ -157,3 +157,18 @@ fn fifty_thousand_wild_values() {
         assert!(seen[expected] > 500, "too few of an answer: {seen:?}");
     }
 }
+
+/// Numbers too large for their field get the refusal that the number itself would get.
+#[test]
+fn a_number_too_large_for_its_field_is_refused_by_its_own_row() {
+    for more in [65_536, 65_548, 131_072, u32::MAX] {
+        for (number, refusal) in [(0, 2), (5, 7), (6, 7), (7, 7)] {
+            let mut fields = day(&[entry(0, 100, 4)]);
+            fields[number] = more;
+            not_written(&fields, ROOM, refusal, 0);
+        }
+    }
+    for n in [65, 256, 257, 256 + 3, 65_536 + 3, 0xFFFF_FF03] {
+        not_written(&value(100, n, &[entry(0, 100, 4)]), ROOM, 3, 0);
+    }
+}

@@ -1,5 +1,5 @@
 -- A list value as 450 numbers: H, n, and seven numbers for each of the 64 places.
-use Prim.Native.Nat.{ℕ, zero, suc, _+_, _*_, _%_}
+use Prim.Native.Nat.{ℕ, zero, suc, _+_, _*_, min}
 use mathlib.Core.Bool.{not}
 use mathlib.Core.List.{List, [], _∷_, _++_}
 use lib.ListN.{getD}
@@ -14,9 +14,9 @@ use Rattle.list.specs.declared.types.Entry.{Entry}
 use Rattle.list.specs.declared.types.DayList.{DayList}
 
 -- whether a seal stands, and its number (0 where it is missing)
-abbrev pub stands : Seal → ℕ
-stands Missing = 0
-stands (Number x) = 1
+abbrev pub present : Seal → ℕ
+present Missing = 0
+present (Number x) = 1
 
 abbrev pub numberOf : Seal → ℕ
 numberOf Missing = 0
@@ -28,7 +28,7 @@ wholeOf Whole = 1
 
 -- serial, whether a seal stands, its number, r, d, p, whether the entry is whole
 abbrev pub flatEntry : Entry → List ℕ
-flatEntry e = e .serial ∷ stands (e .seal) ∷ numberOf (e .seal) ∷ e .r ∷ e .d ∷ e .p ∷ wholeOf (e .kind) ∷ []
+flatEntry e = e .serial ∷ present (e .seal) ∷ numberOf (e .seal) ∷ e .r ∷ e .d ∷ e .p ∷ wholeOf (e .kind) ∷ []
 
 unfoldable pub flatEntries : List Entry → List ℕ
 flatEntries [] = []
@@ -37,15 +37,16 @@ flatEntries (e ∷ es) = flatEntry e ++ flatEntries es
 abbrev pub flatOf : DayList → List ℕ
 flatOf l = l .frame .h ∷ l .n ∷ flatEntries (l .entries)
 
--- the entry whose seven numbers start at a place; numbers are cut to the field's width, and any flag but 0 stands
+-- the entry whose seven numbers start at a place; a number too large for its field counts as the field's largest, so that the rules
+-- turn it back, and any flag but 0 stands
 abbrev pub entryIn : List ℕ → ℕ → Entry
 entryIn xs at =
     record {
       serial = getD xs at 0;
       seal = sealOf (not (eqb (getD xs (at + 1) 0) 0)) (getD xs (at + 2) 0);
-      r = getD xs (at + 3) 0 % 65536;
-      d = getD xs (at + 4) 0 % 65536;
-      p = getD xs (at + 5) 0 % 65536;
+      r = min (getD xs (at + 3) 0) 65535;
+      d = min (getD xs (at + 4) 0) 65535;
+      p = min (getD xs (at + 5) 0) 65535;
       kind = kindOf (not (eqb (getD xs (at + 6) 0) 0));
     }
 
@@ -55,4 +56,4 @@ entriesIn zero i xs = []
 entriesIn (suc k) i xs = entryIn xs (2 + 7 * i) ∷ entriesIn k (i + 1) xs
 
 abbrev pub valueOf : List ℕ → DayList
-valueOf xs = record { frame = record { h = getD xs 0 0 % 65536 }; n = getD xs 1 0 % 256; entries = entriesIn 64 0 xs }
+valueOf xs = record { frame = record { h = min (getD xs 0 0) 65535 }; n = min (getD xs 1 0) 255; entries = entriesIn 64 0 xs }

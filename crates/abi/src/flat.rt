@@ -6,13 +6,26 @@ use list::types::Kind;
 use list::types::Seal;
 ghost use mathlib.Core.Path.{_≡_};
 ghost use mathlib.Core.Bool.{not};
-ghost use Prim.Native.Nat.{_+_, _≤_};
+ghost use Prim.Native.Nat.{_+_, _≤_, min};
 ghost use lib.ListN.{replicate};
 ghost use lib.Seq.{sets};
 ghost use lib.Dec.{eqb};
 ghost use Rattle.list.specs.Maps.{kindOf};
 ghost use Rattle.list.specs.Entries.{sealOf};
-ghost use Rattle.abi.specs.Flat.{stands, numberOf, wholeOf, flatEntry, flatOf, entryIn, valueOf};
+ghost use Rattle.abi.specs.Flat.{present, numberOf, wholeOf, flatEntry, flatOf, entryIn, valueOf};
+
+// The largest u16 for a number that is too large, and likewise below.
+fn u16_of(x: u32) -> u16
+    ensures { λ r. ⌜ r ≡ min x 65535 ⌝ }
+{
+    if x < 65536 { x as u16 } else { 65535 }
+}
+
+fn u8_of(x: u32) -> u8
+    ensures { λ r. ⌜ r ≡ min x 255 ⌝ }
+{
+    if x < 256 { x as u8 } else { 255 }
+}
 
 fn seal_in(flag: u32, number: u32) -> Seal
     ensures { λ s. ⌜ s ≡ sealOf (not (eqb flag 0)) number ⌝ }
@@ -39,9 +52,9 @@ fn entry_in(fields: &[u32; 450], at: usize) -> Entry
     Entry {
         serial: fields[at],
         seal: seal,
-        r: (fields[at + 3] % 65536) as u16,
-        d: (fields[at + 4] % 65536) as u16,
-        p: (fields[at + 5] % 65536) as u16,
+        r: u16_of(fields[at + 3]),
+        d: u16_of(fields[at + 4]),
+        p: u16_of(fields[at + 5]),
         kind: kind,
     }
 }
@@ -65,15 +78,15 @@ pub(crate) fn list_in(fields: &[u32; 450]) -> DayList
     }
     DayList {
         frame: Frame {
-            h: (fields[0] % 65536) as u16,
+            h: u16_of(fields[0]),
         },
-        n: (fields[1] % 256) as u8,
+        n: u8_of(fields[1]),
         entries: entries,
     }
 }
 
-fn seal_stands(seal: Seal) -> u32
-    ensures { λ x. ⌜ x ≡ stands seal ⌝ }
+fn seal_present(seal: Seal) -> u32
+    ensures { λ x. ⌜ x ≡ present seal ⌝ }
 {
     match seal {
         Seal::Missing => 0,
@@ -106,7 +119,7 @@ fn put_entry(e: Entry, fields: &mut [u32; 450], at: usize)
     let seal = e.seal;
     let kind = e.kind;
     fields[at] = e.serial;
-    fields[at + 1] = seal_stands(seal);
+    fields[at + 1] = seal_present(seal);
     fields[at + 2] = seal_number(seal);
     fields[at + 3] = e.r as u32;
     fields[at + 4] = e.d as u32;

@@ -14,3 +14,5 @@ pub mod EntryTrip
 pub mod WriteCases
 pub mod ListTrip
 pub mod RoundTrip
+pub mod InTypes
+pub mod Promised

@@ -28,7 +28,7 @@ use Rattle.list.proofs.Sound.{Header, header-says, header-passes, Sound
 use Rattle.list.proofs.FieldTrip.{bytes-drop, u16-back, u16-stands, byte-stands}
 use Rattle.list.proofs.EntryTrip.{Fits}
 use Rattle.list.proofs.ReadCases.{read-body, body-done}
-use Rattle.list.proofs.WriteCases.{list-short, has-room, written-whole}
+use Rattle.list.proofs.WriteCases.{list-short, has-room, written-whole, written-whole}
 use Rattle.list.proofs.ListTrip.{TakenEntries, entries-say, entries-read-back, every-take, every-at}
 
 module _ (l : DayList) (t : Typed l) (w : WellFormed l) where
@@ -79,7 +79,14 @@ written-reads-back l old count t e =
       same-back l t (z .0),
     )
 
--- what an accepted list is: sound, blank after its entries, and, of bytes, their list
+-- the same from the list alone: a well-formed list that has room is written, and an equal list is read from what was written
+pub survives : (l : DayList) (old : List ℕ) → Typed l → WellFormed l → length (bytesOf l) ≤ length old
+    → (count : ℕ) × (writeOf l (length old) ≡ answered count)
+    × ((back : DayList) × (readOf (take count (bufferAfter (writeOf l (length old)) l old)) ≡ answered back) × SameList back l)
+survives l old t w h =
+    let e = written-whole l (length old) w h in (length (bytesOf l), e, written-reads-back l old (length (bytesOf l)) t e)
+
+-- what an accepted list is: sound, with blank places after its entries, and the list whose one form was read
 record ReadAs (bs : List ℕ) (l : DayList) : Type 0 where
   sound : SoundList l
   filled : l ≡ dayList (l .frame) (entriesOf l)
@@ -180,6 +187,10 @@ module _ (bs : List ℕ) where
 -- no list's one form has more than 963 bytes
 pub longest : (l : DayList) → WellFormed l → length (bytesOf l) ≤ 963
 longest l w = list-short l (has-room l w)
+
+-- no longer input is accepted
+pub longest-read : (bs : List ℕ) (l : DayList) → readOf bs ≡ answered l → Bytes bs → length bs ≤ 963
+longest-read bs l e b = rw (read-one-form bs l e b) at (longest l (read-well-formed bs l e))
 
 -- 64 entries that write all their fields
 fullest : DayList

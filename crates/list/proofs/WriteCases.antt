@@ -15,7 +15,7 @@ use Rattle.list.specs.Maps.{sizeOf}
 use Rattle.list.specs.Forms.{fieldsIn, entryBytes}
 use Rattle.list.specs.DayLists.{entriesOf}
 use Rattle.list.specs.Checks.{WellFormed, checkOf}
-use Rattle.list.specs.Writing.{Wrote, bytesOfEntries, bytesOf, writeOf, Writes}
+use Rattle.list.specs.Writing.{Wrote, bytesOfEntries, bytesOf, writeOf}
 use Rattle.list.specs.declared.types.Entry.{Entry}
 use Rattle.list.specs.declared.types.Frame.{Frame}
 use Rattle.list.specs.declared.types.DayList.{DayList}
@@ -123,20 +123,3 @@ module _ (l : DayList) where
   pub written-whole : (room : ℕ) → WellFormed l → length (bytesOf l) ≤ room → writeOf l room ≡ answered (length (bytesOf l))
   unfolding writeOf
   written-whole room w h = rw w (simp (le-ltb _ _ h))
-
-  module _ (old : List ℕ) where
-    pub write-refused : (v : Verdict) (x : Refusal) → verdictOf v ≡ checkOf l → v ≡ Refused x → Writes l old (NotWritten x) old
-    unfolding writeOf
-    write-refused v x w a = let q : checkOf l ≡ refused (codeOf x) = sym w ∙ rw a in record { outcome = rw q; buffer = rw q }
-
-    pub write-short : (size : ℕ) → WellFormed l → size ≡ length (bytesOf l) → length old < size → Writes l old (NotWritten (ListBufferShort size)) old
-    unfolding writeOf
-    write-short size w z h =
-        let k : length old < length (bytesOf l) = omega (arith, z) in
-        let q : writeOf l (length old) ≡ refused (code 12 (length (bytesOf l) ∷ [])) = rw w (simp (lt-ltb _ _ k)) in
-        record { outcome = rw (q, z); buffer = rw q }
-
-    pub write-whole : (size : ℕ) (new : List ℕ) → WellFormed l → size ≡ length (bytesOf l) → size ≤ length old → new ≡ sets old 0 (bytesOf l) → Writes l old (Written size) new
-    write-whole size new w z h q₀ =
-        let q = written-whole (length old) w (omega (arith, z)) in
-        record { outcome = rw (q, z); buffer = rw q (q₀ ∙ sets-eq (bytesOf l) old 0 (omega (arith, z)) ∙ rw zero-add) }

@@ -9,3 +9,4 @@ pub mod Reading
 pub mod Forms
 pub mod Writing
 pub mod Machine
+pub mod Promises

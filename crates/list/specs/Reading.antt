@@ -46,7 +46,7 @@ abbrev pub listOr : Outcome DayList → DayList
 listOr (answered l) = l
 listOr (refused k) = emptyList
 
--- an answer that says an outcome, with its list beside it
+-- an answer that says an outcome, with its list beside it, inside the reader
 pub record AnswersAs (o : Outcome DayList) (a : ReadAnswer) : Type 0 where
   pub outcome : readAnswerOf a ≡ o
   pub beside : a .list ≡ listOr o

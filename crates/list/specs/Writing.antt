@@ -6,7 +6,6 @@ use lib.ListN.{length, drop}
 use lib.Seq.{sets}
 use lib.Dec.{ltb}
 use Rattle.list.specs.Outcomes.{Outcome, answered, refused, row, firstOf, andThen}
-use Rattle.list.specs.Refusals.{writeAnswerOf}
 use Rattle.list.specs.Numbers.{u16Bytes}
 use Rattle.list.specs.Forms.{entryBytes}
 use Rattle.list.specs.DayLists.{entriesOf}
@@ -14,7 +13,6 @@ use Rattle.list.specs.Checks.{checkOf}
 use Rattle.list.specs.declared.types.Entry.{Entry}
 use Rattle.list.specs.declared.types.Frame.{Frame}
 use Rattle.list.specs.declared.types.DayList.{DayList}
-use Rattle.list.specs.declared.types.WriteAnswer.{WriteAnswer}
 
 -- A step of the writer: it stores a text from place at on, and answers the place after it.
 pub record Wrote (old : List ℕ) (at : ℕ) (text new : List ℕ) (next : ℕ) : Type 0 where
@@ -30,7 +28,7 @@ bytesOfEntries f (e ∷ es) = entryBytes f e ++ bytesOfEntries f es
 unfoldable pub bytesOf : DayList → List ℕ
 bytesOf l = u16Bytes (l .frame .h) ++ (l .n ∷ bytesOfEntries (l .frame) (entriesOf l))
 
--- the bytes written to a buffer of the length given, or the first row, 2, 3, 6, 7 and 12, that turns the list back
+-- the number of bytes written to a buffer of the length given, or the first row, 2, 3, 6, 7 and 12, that turns the list back
 unfoldable pub writeOf : DayList → ℕ → Outcome ℕ
 writeOf l room =
     andThen (checkOf l)
@@ -40,8 +38,3 @@ writeOf l room =
 abbrev pub bufferAfter : Outcome ℕ → DayList → List ℕ → List ℕ
 bufferAfter (answered n) l old = bytesOf l ++ drop n old
 bufferAfter (refused k) l old = old
-
--- what `write` answers of the list l and a buffer that held old, and what the buffer holds then
-pub record Writes (l : DayList) (old : List ℕ) (a : WriteAnswer) (new : List ℕ) : Type 0 where
-  pub outcome : writeAnswerOf a ≡ writeOf l (length old)
-  pub buffer : new ≡ bufferAfter (writeOf l (length old)) l old

@@ -122,8 +122,8 @@ pub(crate) fn read_entry(frame: Frame, at: usize, rest: &[u8]) -> EntryAnswer
     if rest.len() == 0 {
         return EntryAnswer::NotTaken(Refusal::BytesMissing(at + rest.len()));
     }
-    let said = map_answer(rest[0]);
-    match said {
+    let answer = map_answer(rest[0]);
+    match answer {
         MapAnswer::Breaks => EntryAnswer::NotTaken(Refusal::BadMapByte(at)),
         MapAnswer::Follow(m) => read_fields(frame, at, m, rest),
     }

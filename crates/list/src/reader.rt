@@ -16,7 +16,8 @@ ghost use mathlib.Core.Path.{_≡_};
 ghost use Prim.Native.Nat.{_≤_};
 ghost use lib.ListN.{length};
 ghost use Rattle.list.specs.DayLists.{emptyList};
-ghost use Rattle.list.specs.Reading.{frameOf, countOf, bodyOf, readOf, AnswersAs};
+ghost use Rattle.list.specs.Reading.{frameOf, countOf, bodyOf, AnswersAs};
+ghost use Rattle.list.specs.Promises.{Reads};
 
 // A refusal, with the empty list beside it.
 fn refused_with(x: Refusal) -> ReadAnswer
@@ -65,7 +66,7 @@ fn read_body(bytes: &[u8], frame: Frame, n: u8) -> ReadAnswer
 
 // The list that bytes say, or why they are turned back.
 pub fn read(bytes: &[u8]) -> ReadAnswer
-    ensures { λ a. ⌜ AnswersAs (readOf (now (bytes .entry))) a ⌝ }
+    ensures { λ a. ⌜ Reads (now (bytes .entry)) a ⌝ }
 {
     if bytes.len() < 3 {
         return refused_with(Refusal::BytesMissing(bytes.len()));

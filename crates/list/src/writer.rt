@@ -12,7 +12,8 @@ ghost use mathlib.Core.Path.{_≡_};
 ghost use Prim.Native.Nat.{_≤_};
 ghost use lib.ListN.{length};
 ghost use lib.Seq.{sets};
-ghost use Rattle.list.specs.Writing.{bytesOf, Writes};
+ghost use Rattle.list.specs.Writing.{bytesOf};
+ghost use Rattle.list.specs.Promises.{Writes};
 
 // The bytes of a list's one form.
 fn list_size(list: DayList) -> usize

@@ -17,14 +17,14 @@ flat-of-requires c κs = search needs
 enum-known-verdict : tie.Need-enum-known-verdict
 enum-known-verdict c = search needs
 
-give-requires : tie.Need-give-requires
-give-requires c κs = search needs
+refused-as-requires : tie.Need-refused-as-requires
+refused-as-requires c κs = search needs
 
 returns : tie.Need-returns
-returns c = read-accepted (c .before .before .before .before .before .before .before .args .bytes .now) (c .before .before .before .before .before .before .before .args .fields .now) (c .before .before .before .before .before .read .result) (c .before .before .before .before .before .read .ensures) _ (c .before .before .before .enum-told .given .1) (c .before .flat-of .ensures)
+returns c = read-accepted (c .before .before .before .before .before .before .args .bytes .now) (c .before .before .before .before .before .before .args .fields .now) (c .before .before .before .before .read .result) (c .before .before .before .before .read .ensures) _ (c .before .before .enum-told .given .1) (c .flat-of .ensures)
 
 returns-2 : tie.Need-returns-2
-returns-2 c = read-refused (c .before .before .before .before .before .before .before .args .bytes .now) (c .before .before .before .before .before .before .before .args .fields .now) (c .before .before .before .before .before .read .result) (c .before .before .before .before .before .read .ensures) _ _ _ (c .before .before .before .verdict .given .1) (c .give .ensures .0) (c .give .ensures .1)
+returns-2 c = read-refused (c .before .before .before .before .before .before .args .bytes .now) (c .before .before .before .before .before .before .args .fields .now) (c .before .before .before .before .read .result) (c .before .before .before .before .read .ensures) _ _ (c .before .before .verdict .given .1) (c .refused-as .ensures)
 
 pub dock-read-spec : {M : Type 1} → statement M
 dock-read-spec =
@@ -34,6 +34,6 @@ dock-read-spec =
     enum-told
     flat-of-requires
     enum-known-verdict
-    give-requires
+    refused-as-requires
     returns
     returns-2)

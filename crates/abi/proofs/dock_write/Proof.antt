@@ -17,20 +17,20 @@ enum-known-answer c = search needs
 enum-known-answer-2 : tie.Need-enum-known-answer-2
 enum-known-answer-2 c = search needs
 
-give-requires : tie.Need-give-requires
-give-requires c κs = search needs
+refused-as-requires : tie.Need-refused-as-requires
+refused-as-requires c κs = search needs
 
 same-length : tie.Need-same-length
 same-length c = search needs
 
 returns : tie.Need-returns
-returns c = write-accepted (c .before .before .before .before .before .before .before .before .before .before .args .fields .now) (c .before .before .before .before .before .before .before .before .before .before .args .out .now) _ (c .before .before .before .before .before .before .before .before .list-in .result) (c .before .before .before .before .before .before .write .result) (c .before .before .before .before .before .before .before .before .list-in .ensures) (c .before .before .before .before .before .before .write .ensures) _ (c .before .before .answer .given .1)
+returns c = write-accepted (c .before .before .before .before .before .before .before .before .before .args .fields .now) (c .before .before .before .before .before .before .before .before .before .args .out .now) _ (c .before .before .before .before .before .before .before .list-in .result) (c .before .before .before .before .before .write .result) (c .before .before .before .before .before .before .before .list-in .ensures) (c .before .before .before .before .before .write .ensures) _ (c .before .answer .given .1)
 
 same-length-2 : tie.Need-same-length-2
 same-length-2 c = search needs
 
 returns-2 : tie.Need-returns-2
-returns-2 c = write-refused (c .before .before .before .before .before .before .before .before .before .before .before .args .fields .now) (c .before .before .before .before .before .before .before .before .before .before .before .args .out .now) _ (c .before .before .before .before .before .before .before .before .before .list-in .result) (c .before .before .before .before .before .before .before .write .result) (c .before .before .before .before .before .before .before .before .before .list-in .ensures) (c .before .before .before .before .before .before .before .write .ensures) _ _ _ (c .before .before .before .answer2 .given .1) (c .give .ensures .0) (c .give .ensures .1)
+returns-2 c = write-refused (c .before .before .before .before .before .before .before .before .before .before .args .fields .now) (c .before .before .before .before .before .before .before .before .before .before .args .out .now) _ (c .before .before .before .before .before .before .before .before .list-in .result) (c .before .before .before .before .before .before .write .result) (c .before .before .before .before .before .before .before .before .list-in .ensures) (c .before .before .before .before .before .before .write .ensures) _ _ (c .before .before .answer2 .given .1) (c .refused-as .ensures)
 
 pub dock-write-spec : {M : Type 1} → statement M
 dock-write-spec =
@@ -40,7 +40,7 @@ dock-write-spec =
     write-requires
     enum-known-answer
     enum-known-answer-2
-    give-requires
+    refused-as-requires
     same-length
     returns
     same-length-2

@@ -43,44 +43,44 @@ mul-t10 c = search needs
 element-copy-out-t14 : tie.Need-element-copy-out-t14
 element-copy-out-t14 c = search needs
 
-add-t6 : tie.Need-add-t6
-add-t6 c = search needs
+add-u16-of : tie.Need-add-u16-of
+add-u16-of c = search needs
 
-mul-t5 : tie.Need-mul-t5
-mul-t5 c = search needs
+mul-u16-of : tie.Need-mul-u16-of
+mul-u16-of c = search needs
 
-element-copy-out-t9 : tie.Need-element-copy-out-t9
-element-copy-out-t9 c = search needs
+element-copy-out-u16-of : tie.Need-element-copy-out-u16-of
+element-copy-out-u16-of c = search needs
 
-cast-t22 : tie.Need-cast-t22
-cast-t22 c = search needs
+u16-of-requires : tie.Need-u16-of-requires
+u16-of-requires c κs = search needs
 
-add-t11 : tie.Need-add-t11
-add-t11 c = search needs
+add-u16-of-2 : tie.Need-add-u16-of-2
+add-u16-of-2 c = search needs
 
-mul-t23 : tie.Need-mul-t23
-mul-t23 c = search needs
+mul-u16-of-2 : tie.Need-mul-u16-of-2
+mul-u16-of-2 c = search needs
 
-element-copy-out-t26 : tie.Need-element-copy-out-t26
-element-copy-out-t26 c = search needs
+element-copy-out-u16-of-2 : tie.Need-element-copy-out-u16-of-2
+element-copy-out-u16-of-2 c = search needs
 
-cast-t28 : tie.Need-cast-t28
-cast-t28 c = search needs
+u16-of-requires-2 : tie.Need-u16-of-requires-2
+u16-of-requires-2 c κs = search needs
 
-add-t29 : tie.Need-add-t29
-add-t29 c = search needs
+add-u16-of-3 : tie.Need-add-u16-of-3
+add-u16-of-3 c = search needs
 
-mul-t30 : tie.Need-mul-t30
-mul-t30 c = search needs
+mul-u16-of-3 : tie.Need-mul-u16-of-3
+mul-u16-of-3 c = search needs
 
-element-copy-out-t33 : tie.Need-element-copy-out-t33
-element-copy-out-t33 c = search needs
+element-copy-out-u16-of-3 : tie.Need-element-copy-out-u16-of-3
+element-copy-out-u16-of-3 c = search needs
 
-cast-t35 : tie.Need-cast-t35
-cast-t35 c = search needs
+u16-of-requires-3 : tie.Need-u16-of-requires-3
+u16-of-requires-3 c κs = search needs
 
 returns : tie.Need-returns
-returns c = rw (c .before .before .before .before .kind-in .ensures, c .before .before .before .before .before .before .seal-in .ensures)
+returns c = rw (c .before .before .before .before .before .before .before .kind-in .ensures, c .before .before .before .before .before .before .before .before .before .seal-in .ensures, c .before .before .before .before .u16-of .ensures, c .before .before .u16-of2 .ensures, c .u16-of3 .ensures)
 
 pub entry-in-spec : {M : Type 1} → statement M
 entry-in-spec =
@@ -99,16 +99,16 @@ entry-in-spec =
     kind-in-requires
     mul-t10
     element-copy-out-t14
-    add-t6
-    mul-t5
-    element-copy-out-t9
-    cast-t22
-    add-t11
-    mul-t23
-    element-copy-out-t26
-    cast-t28
-    add-t29
-    mul-t30
-    element-copy-out-t33
-    cast-t35
+    add-u16-of
+    mul-u16-of
+    element-copy-out-u16-of
+    u16-of-requires
+    add-u16-of-2
+    mul-u16-of-2
+    element-copy-out-u16-of-2
+    u16-of-requires-2
+    add-u16-of-3
+    mul-u16-of-3
+    element-copy-out-u16-of-3
+    u16-of-requires-3
     returns)

@@ -45,20 +45,20 @@ loop-less c = search needs
 loop-again : tie.Need-loop-again Inv-loop μ-loop
 loop-again c = read-in-next (c .before .before .loop .inv) _ (c .before .loop-test .taken) (c .entry-in2 .ensures)
 
-element-copy-out-t15 : tie.Need-element-copy-out-t15 Inv-loop μ-loop
-element-copy-out-t15 c = search needs
+element-copy-out-u16-of : tie.Need-element-copy-out-u16-of Inv-loop μ-loop
+element-copy-out-u16-of c = search needs
 
-cast-t17 : tie.Need-cast-t17 Inv-loop μ-loop
-cast-t17 c = search needs
+u16-of-requires : tie.Need-u16-of-requires Inv-loop μ-loop
+u16-of-requires c κs = search needs
 
-element-copy-out-t21 : tie.Need-element-copy-out-t21 Inv-loop μ-loop
-element-copy-out-t21 c = search needs
+element-copy-out-u8-of : tie.Need-element-copy-out-u8-of Inv-loop μ-loop
+element-copy-out-u8-of c = search needs
 
-cast-t23 : tie.Need-cast-t23 Inv-loop μ-loop
-cast-t23 c = search needs
+u8-of-requires : tie.Need-u8-of-requires Inv-loop μ-loop
+u8-of-requires c κs = search needs
 
 returns : tie.Need-returns Inv-loop μ-loop
-returns c = rw (read-in-done (c .before .before .before .loop .inv) (c .before .before .loop-test .left))
+returns c = rw (c .u8-of .ensures, c .before .before .u16-of .ensures, read-in-done (c .before .before .before .before .before .loop .inv) (c .before .before .before .before .loop-test .left))
 
 pub list-in-spec : {M : Type 1} → statement M
 list-in-spec =
@@ -77,8 +77,8 @@ list-in-spec =
     add-i
     loop-less
     loop-again
-    element-copy-out-t15
-    cast-t17
-    element-copy-out-t21
-    cast-t23
+    element-copy-out-u16-of
+    u16-of-requires
+    element-copy-out-u8-of
+    u8-of-requires
     returns)

@@ -11,8 +11,8 @@ mul-fields c = search needs
 element-write-fields : tie.Need-element-write-fields
 element-write-fields c = search needs
 
-seal-stands-requires : tie.Need-seal-stands-requires
-seal-stands-requires c κs = search needs
+seal-present-requires : tie.Need-seal-present-requires
+seal-present-requires c κs = search needs
 
 add-fields : tie.Need-add-fields
 add-fields c = search needs
@@ -84,7 +84,7 @@ element-write-fields-7 : tie.Need-element-write-fields-7
 element-write-fields-7 c = search needs
 
 returns : tie.Need-returns
-returns c = rw (c .before .before .before .before .seal-number .ensures, c .before .before .before .before .before .seal-stands .ensures, c .is-whole .ensures) (simp towards-suc)
+returns c = rw (c .before .before .before .before .seal-number .ensures, c .before .before .before .before .before .seal-present .ensures, c .is-whole .ensures) (simp towards-suc)
 
 pub put-entry-spec : {M : Type 1} → statement M
 put-entry-spec =
@@ -92,7 +92,7 @@ put-entry-spec =
     (tie.spec
     mul-fields
     element-write-fields
-    seal-stands-requires
+    seal-present-requires
     add-fields
     mul-fields-2
     element-write-fields-2

@@ -22,8 +22,8 @@ map-answer-requires c κs = search needs
 enum-told : tie.Need-enum-told
 enum-told c = search needs
 
-enum-known-said : tie.Need-enum-known-said
-enum-known-said c = search needs
+enum-known-answer : tie.Need-enum-known-answer
+enum-known-answer c = search needs
 
 read-fields-requires : tie.Need-read-fields-requires
 read-fields-requires c κs = search needs
@@ -32,7 +32,7 @@ returns-2 : tie.Need-returns-2
 returns-2 c = entry-broken (c .before .before .before .before .before .before .args .frame) (c .before .before .before .before .before .before .args .at) (now (c .before .before .before .before .before .before .args .rest)) (c .before .before .before .before .if1 .left) (c .before .before .map-answer .result) (c .before .before .map-answer .ensures) (c .enum-told .given .1)
 
 returns-3 : tie.Need-returns-3
-returns-3 c = c .read-fields .ensures ∙ entry-legal (c .before .before .before .before .before .before .before .before .args .frame) (c .before .before .before .before .before .before .before .before .args .at) (now (c .before .before .before .before .before .before .before .before .args .rest)) (c .before .before .before .before .before .before .if1 .left) (c .before .before .before .before .map-answer .result) (c .before .before .before .before .map-answer .ensures) _ (c .before .before .said .given .1)
+returns-3 c = c .read-fields .ensures ∙ entry-legal (c .before .before .before .before .before .before .before .before .args .frame) (c .before .before .before .before .before .before .before .before .args .at) (now (c .before .before .before .before .before .before .before .before .args .rest)) (c .before .before .before .before .before .before .if1 .left) (c .before .before .before .before .map-answer .result) (c .before .before .before .before .map-answer .ensures) _ (c .before .before .answer .given .1)
 
 pub read-entry-spec : {M : Type 1} → statement M
 read-entry-spec =
@@ -43,7 +43,7 @@ read-entry-spec =
     shared-slice-read-map-answer
     map-answer-requires
     enum-told
-    enum-known-said
+    enum-known-answer
     read-fields-requires
     returns-2
     returns-3)

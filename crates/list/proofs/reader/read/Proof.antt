@@ -8,6 +8,7 @@ use Rattle.list.specs.Outcomes.{answered}
 use Rattle.list.specs.Checks.{headerFault}
 use Rattle.list.proofs.Sound.{header-of}
 use Rattle.list.proofs.ReadCases.{answers-refused, read-short, read-header, read-body}
+use Rattle.list.proofs.Promised.{reads}
 use Rattle.list.proofs.reader.read.Statement.{statement}
 use Rattle.list.proofs.reader.read.Tie as tie
 
@@ -15,7 +16,7 @@ refused-with-requires : tie.Need-refused-with-requires
 refused-with-requires c κs = search needs
 
 returns : tie.Need-returns
-returns c = answers-refused _ _ _ (c .refused-with .ensures) (read-short (c .before .before .before .args .bytes .now) (c .before .if1 .taken))
+returns c = reads (c .before .before .before .args .bytes .now) _ (λ i. c .before .before .shared-slice-known .given i .fits) (answers-refused _ _ _ (c .refused-with .ensures) (read-short (c .before .before .before .args .bytes .now) (c .before .if1 .taken)))
 
 u16-at-requires : tie.Need-u16-at-requires
 u16-at-requires c κs = search needs
@@ -41,10 +42,10 @@ refused-with-requires-2 : tie.Need-refused-with-requires-2
 refused-with-requires-2 c κs = search needs
 
 returns-2 : tie.Need-returns-2
-returns-2 c = rw (read-body (c .before .before .before .before .before .before .before .before .args .bytes .now) (record { h = c .before .before .before .before .before .u16-at .result }) (c .before .before .before .header-fault .result) (ap (λ (x : ℕ). record { h = x }) (c .before .before .before .before .before .u16-at .ensures)) (c .before .before .before .before .before .before .if1 .left) (c .before .before .before .header-fault .ensures) (c .before .enum-told .given .1)) (c .read-body .ensures)
+returns-2 c = reads (c .before .before .before .before .before .before .before .before .args .bytes .now) _ (λ i. c .before .before .before .before .before .before .before .shared-slice-known .given i .fits) (rw (read-body (c .before .before .before .before .before .before .before .before .args .bytes .now) (record { h = c .before .before .before .before .before .u16-at .result }) (c .before .before .before .header-fault .result) (ap (λ (x : ℕ). record { h = x }) (c .before .before .before .before .before .u16-at .ensures)) (c .before .before .before .before .before .before .if1 .left) (c .before .before .before .header-fault .ensures) (c .before .enum-told .given .1)) (c .read-body .ensures))
 
 returns-3 : tie.Need-returns-3
-returns-3 c = answers-refused _ _ _ (c .refused-with2 .ensures) (read-header (c .before .before .before .before .before .before .before .before .before .args .bytes .now) (record { h = c .before .before .before .before .before .before .u16-at .result }) (c .before .before .before .before .header-fault .result) (ap (λ (x : ℕ). record { h = x }) (c .before .before .before .before .before .before .u16-at .ensures)) (c .before .before .before .before .before .before .before .if1 .left) (c .before .before .before .before .header-fault .ensures) _ (c .before .before .header .given .1))
+returns-3 c = reads (c .before .before .before .before .before .before .before .before .before .args .bytes .now) _ (λ i. c .before .before .before .before .before .before .before .before .shared-slice-known .given i .fits) (answers-refused _ _ _ (c .refused-with2 .ensures) (read-header (c .before .before .before .before .before .before .before .before .before .args .bytes .now) (record { h = c .before .before .before .before .before .before .u16-at .result }) (c .before .before .before .before .header-fault .result) (ap (λ (x : ℕ). record { h = x }) (c .before .before .before .before .before .before .u16-at .ensures)) (c .before .before .before .before .before .before .before .if1 .left) (c .before .before .before .before .header-fault .ensures) _ (c .before .before .header .given .1)))
 
 pub read-spec : {M : Type 1} → statement M
 read-spec =

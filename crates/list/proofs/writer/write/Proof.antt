@@ -8,9 +8,23 @@ use Rattle.list.specs.Checks.{WellFormed, checkOf}
 use Rattle.list.specs.declared.types.DayList.{DayList}
 use Rattle.list.specs.declared.types.Verdict.{Verdict}
 use Rattle.list.specs.declared.types.Verdict.the-variants.{Accepted}
-use Rattle.list.proofs.WriteCases.{has-room, write-refused, write-short, write-whole}
+use Rattle.list.specs.Machine.{Typed}
+use Rattle.list.proofs.Walk.{length-mapped}
+use Rattle.list.proofs.InTypes.{each-serial, each-seal}
+use Rattle.list.proofs.WriteCases.{has-room}
+use Rattle.list.proofs.Promised.{write-refused, write-short, write-whole}
 use Rattle.list.proofs.writer.write.Statement.{statement}
 use Rattle.list.proofs.writer.write.Tie as tie
+
+-- the list is a value of its type
+in-types : (c : tie.Start) → Typed (c .args .list)
+in-types c =
+    let z = c .good .0 .1 .1 .1 .1 .0 in
+    record {
+      long = search (needs, length-mapped);
+      serial = each-serial (c .args .list .entries) (z .0) (z .1 .1);
+      seal = each-seal (c .args .list .entries) (z .0) (z .1 .1);
+    }
 
 -- the list was accepted
 well : (l : DayList) {v : Verdict} → verdictOf v ≡ checkOf l → v ≡ Accepted → WellFormed l
@@ -26,7 +40,7 @@ list-size-requires : tie.Need-list-size-requires
 list-size-requires c κs = has-room (c .before .before .before .before .args .list) (well (c .before .before .before .before .args .list) (c .before .before .check .ensures) (c .enum-told .given .1))
 
 returns : tie.Need-returns
-returns c = write-short (c .before .before .before .before .before .before .args .list) (c .before .before .before .before .before .before .args .out .now) _ (well (c .before .before .before .before .before .before .args .list) (c .before .before .before .before .check .ensures) (c .before .before .enum-told .given .1)) (c .before .list-size .ensures) (c .if1 .taken)
+returns c = write-short (c .before .before .before .before .before .before .args .list) (c .before .before .before .before .before .before .args .out .now) (in-types (c .before .before .before .before .before .before)) _ (well (c .before .before .before .before .before .before .args .list) (c .before .before .before .before .check .ensures) (c .before .before .enum-told .given .1)) (c .before .list-size .ensures) (c .if1 .taken)
 
 put-list-requires : tie.Need-put-list-requires
 put-list-requires c κs = (has-room (c .before .before .before .before .before .before .before .args .list) (well (c .before .before .before .before .before .before .before .args .list) (c .before .before .before .before .before .check .ensures) (c .before .before .before .enum-told .given .1)), omega (arith, c .before .before .list-size .ensures, c .before .if1 .left))
@@ -38,10 +52,10 @@ same-length : tie.Need-same-length
 same-length c = search needs
 
 returns-2 : tie.Need-returns-2
-returns-2 c = write-whole (c .before .before .before .before .before .before .before .before .before .before .args .list) (c .before .before .before .before .before .before .before .before .before .before .args .out .now) _ _ (well (c .before .before .before .before .before .before .before .before .before .before .args .list) (c .before .before .before .before .before .before .before .before .check .ensures) (c .before .before .before .before .before .before .enum-told .given .1)) (c .before .before .before .before .before .list-size .ensures) (c .before .before .before .before .if1 .left) (c .before .before .put-list .ensures)
+returns-2 c = write-whole (c .before .before .before .before .before .before .before .before .before .before .args .list) (c .before .before .before .before .before .before .before .before .before .before .args .out .now) (in-types (c .before .before .before .before .before .before .before .before .before .before)) _ _ (well (c .before .before .before .before .before .before .before .before .before .before .args .list) (c .before .before .before .before .before .before .before .before .check .ensures) (c .before .before .before .before .before .before .enum-told .given .1)) (c .before .before .before .before .before .list-size .ensures) (c .before .before .before .before .if1 .left) (c .before .before .put-list .ensures)
 
 returns-3 : tie.Need-returns-3
-returns-3 c = write-refused (c .before .before .before .before .before .args .list) (c .before .before .before .before .before .args .out .now) _ _ (c .before .before .before .check .ensures) (c .before .verdict .given .1)
+returns-3 c = write-refused (c .before .before .before .before .before .args .list) (c .before .before .before .before .before .args .out .now) (in-types (c .before .before .before .before .before)) _ _ (c .before .before .before .check .ensures) (c .before .verdict .given .1)
 
 pub write-spec : {M : Type 1} → statement M
 write-spec =
