@@ -1,6 +1,6 @@
 //! What a flat value may hold besides the list: places from n on, a number beside no seal, any flag.
 
-use dock_tests::check::written;
+use dock_tests::check::{not_written, written};
 use dock_tests::flat::{self, Fields, WIDTH};
 use dock_tests::random::{self, Random};
 use dock_tests::{check, samples, writer};
