@@ -3,15 +3,14 @@
 use mathlib.Core.Path.{_≡_, refl, sym, ap, _∙_}
 use mathlib.Core.List.{List, [], _∷_, _++_, append-assoc, append-nil}
 use Prim.Native.Nat.{ℕ, suc, _+_, _*_, _-_, _≤_, _<_}
-use native.Mathlib.Nat.{zero-add}
 use native.Mathlib.Numerals.{add-one}
 use native.Mathlib.Omega.{arith}
-use lib.ListN.{length, getD, take, drop, set, length-append, length-set, drop-of-length-le}
+use lib.ListN.{length, getD, take, drop, set, length-set, drop-of-length-le}
 use lib.Seq.{take-suc-set, take-all, drop-cons, sets, sets-eq, length-sets}
 use Rattle.list.specs.declared.types.Entry.{Entry}
 use Rattle.list.specs.declared.types.DayList.{DayList}
 use Rattle.list.proofs.Stores.{sets-append}
-use Rattle.abi.specs.Flat.{flatEntry, flatEntries, flatOf, entryIn, entriesIn, valueOf}
+use Rattle.abi.specs.Flat.{flatEntry, flatEntries, flatOf, entryIn, entriesIn}
 
 -- i entries were read from the numbers
 pub record ReadInSoFar (xs : List ℕ) (entries : List Entry) (i : ℕ) : Type 0 where

@@ -1,14 +1,13 @@
 -- What `fieldsEntry` and `entryOf` are, case by case, from the facts that code has at each answer.
 -- Assumes nothing.
-use mathlib.Core.Path.{_≡_, refl, sym, ap, _∙_}
-use mathlib.Core.Bool.{Bool, true, false, cond, not, _&&_, _||_}
+use mathlib.Core.Path.{_≡_, sym, _∙_}
+use mathlib.Core.Bool.{Bool, true, false, cond, _&&_}
 use mathlib.Core.List.{List, [], _∷_}
 use Prim.Native.Nat.{ℕ, _+_, _≤_, _<_}
 use lib.ListN.{length, getD}
 use lib.Dec.{eqb}
-use native.Mathlib.Omega.{arith}
 use borrow.Author.Tests.{lt-ltb, le-ltb, eq-eqb, ne-eqb}
-use Rattle.list.specs.Outcomes.{code, Outcome, answered, refused, andThen}
+use Rattle.list.specs.Outcomes.{code, answered, refused, andThen}
 use Rattle.list.specs.Refusals.{codeOf, verdictOf}
 use Rattle.list.specs.Numbers.{u16At, u32At}
 use Rattle.list.specs.Maps.{rPlace, dPlace, pPlace, sizeOf, mapFields, mapAnswerOf}

@@ -1,18 +1,19 @@
-pub mod Table
-pub mod MapBytes
-pub mod Places
-pub mod EntryCases
+-- What the crates above may cite: the round trips, and laws on walks over arrays and on runs of stores. The rest serves this crate alone.
+mod Table
+mod MapBytes
+mod Places
+mod EntryCases
+mod CheckCases
+mod Inversion
+mod Sound
+mod ReadCases
+mod FormCases
+mod WriteCases
+mod FieldTrip
+mod EntryTrip
+mod ListTrip
+mod InTypes
+mod Promised
 pub mod Walk
-pub mod CheckCases
-pub mod ReadCases
-pub mod Inversion
-pub mod Sound
 pub mod Stores
-pub mod FormCases
-pub mod FieldTrip
-pub mod EntryTrip
-pub mod WriteCases
-pub mod ListTrip
 pub mod RoundTrip
-pub mod InTypes
-pub mod Promised

@@ -1,7 +1,7 @@
 -- The bit meanings of all 256 map bytes, by computed tests: the legal ones are the eight pairs k and k + 32 that code names, and each is the map byte of its fields.
 -- Assumes nothing.
 use mathlib.Core.Path.{_≡_, refl, _∙_, sym}
-use mathlib.Core.Bool.{Bool, true, false, cond, not, _||_, Bool·beq}
+use mathlib.Core.Bool.{Bool, true, false, not, _||_, Bool·beq}
 use mathlib.Core.List.{List, [], _∷_}
 use mathlib.Core.Logic.{_⊎_, inl, inr}
 use Prim.Native.Nat.{ℕ, _+_, _<_}
@@ -13,7 +13,7 @@ use Rattle.list.specs.declared.types.Kind.the-variants.{Pause, Whole}
 use Rattle.list.specs.declared.map.Fields.{Fields}
 use Rattle.list.specs.declared.map.MapAnswer.{MapAnswer}
 use Rattle.list.specs.declared.map.MapAnswer.the-variants.{Breaks, Follow}
-use Rattle.list.proofs.Table.{all, at}
+use Rattle.list.proofs.Table.{at}
 
 -- b is k or k + 32 for a k of the list
 among : List ℕ → ℕ → Bool

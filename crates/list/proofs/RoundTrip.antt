@@ -3,13 +3,13 @@
 -- Assumes nothing.
 use mathlib.Core.Path.{_≡_, refl, sym, ap, _∙_}
 use mathlib.Core.List.{List, [], _∷_, _++_, append-nil}
-use Prim.Native.Nat.{ℕ, _+_, _-_, _^_, _≤_, _<_}
+use Prim.Native.Nat.{ℕ, _+_, _-_, _≤_, _<_}
 use native.Mathlib.Omega.{arith}
 use borrow.Author.Tests.{ltb-true, ltb-false}
 use lib.Dec.{ltb}
 use lib.ListN.{length, getD, take, drop, replicate, length-append, length-take, length-drop, length-replicate, drop-of-length-le}
 use lib.Seq.{take-append-seam, take-at}
-use Rattle.list.specs.Machine.{Bytes, SealFits, Typed}
+use Rattle.list.specs.Machine.{Bytes, Typed}
 use Rattle.list.specs.Outcomes.{Code, Outcome, answered, refused}
 use Rattle.list.specs.Entries.{entryFault}
 use Rattle.list.specs.Forms.{entryBytes}

@@ -3,28 +3,21 @@
 use mathlib.Core.Path.{_≡_, refl, sym, ap, _∙_}
 use mathlib.Core.List.{List, [], _∷_, _++_}
 use Prim.Native.Nat.{ℕ, _+_, _*_, _≤_, _<_}
-use native.Mathlib.Nat.{zero-add}
 use native.Mathlib.Omega.{arith}
-use borrow.Author.Tests.{lt-ltb, le-ltb}
+use borrow.Author.Tests.{le-ltb}
 use lib.ListN.{length, getD, drop, set, length-append, length-set, length-take}
-use lib.Seq.{sets, sets-eq}
-use Rattle.list.specs.Outcomes.{code, answered, refused}
-use Rattle.list.specs.Refusals.{codeOf, verdictOf}
+use lib.Seq.{sets}
+use Rattle.list.specs.Outcomes.{answered}
 use Rattle.list.specs.Numbers.{u16Bytes}
 use Rattle.list.specs.Maps.{sizeOf}
 use Rattle.list.specs.Forms.{fieldsIn, entryBytes}
 use Rattle.list.specs.DayLists.{entriesOf}
-use Rattle.list.specs.Checks.{WellFormed, checkOf}
+use Rattle.list.specs.Checks.{WellFormed}
 use Rattle.list.specs.Writing.{Wrote, bytesOfEntries, bytesOf, writeOf}
 use Rattle.list.specs.declared.types.Entry.{Entry}
 use Rattle.list.specs.declared.types.Frame.{Frame}
 use Rattle.list.specs.declared.types.DayList.{DayList}
-use Rattle.list.specs.declared.types.Refusal.{Refusal}
-use Rattle.list.specs.declared.types.Refusal.the-variants.{ListBufferShort}
-use Rattle.list.specs.declared.types.Verdict.{Verdict}
-use Rattle.list.specs.declared.types.Verdict.the-variants.{Refused}
 use Rattle.list.specs.declared.map.Fields.{Fields}
-use Rattle.list.specs.declared.types.WriteAnswer.the-variants.{Written, NotWritten}
 use Rattle.list.proofs.Sound.{sound-list}
 use Rattle.list.proofs.Stores.{wrote-length, wrote-more, room-first, room-after}
 use Rattle.list.proofs.FormCases.{entry-length, entry-short}

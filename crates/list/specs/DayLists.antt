@@ -1,5 +1,5 @@
 -- List values: what counts in one, and what stands where nothing counts.
-use Prim.Native.Nat.{ℕ, _-_}
+use Prim.Native.Nat.{_-_}
 use mathlib.Core.Path.{_≡_}
 use mathlib.Core.List.{List, [], _++_}
 use lib.ListN.{length, take, replicate}

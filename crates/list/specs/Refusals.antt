@@ -1,5 +1,5 @@
 -- The number and the carried values of each case of an answer, as "Where a list is turned back" has them.
-use mathlib.Core.List.{List, [], _∷_}
+use mathlib.Core.List.{[], _∷_}
 use Rattle.list.specs.Outcomes.{Code, code, Outcome, answered, refused}
 use Rattle.list.specs.declared.types.Refusal.{Refusal}
 use Rattle.list.specs.declared.types.Refusal.the-variants.{BytesMissing, BadDayLength, TooManyEntries, BadMapByte, DefaultWritten, NoMinutes, BadWindow, BytesLeftOver, Overloaded, NoStart, PlanBufferShort, ListBufferShort, UnknownPlace}
@@ -40,7 +40,7 @@ listAnswerOf (Refused x) l = refused (codeOf x)
 abbrev pub readAnswerOf : ReadAnswer → Outcome DayList
 readAnswerOf a = listAnswerOf (a .verdict) (a .list)
 
--- a writer's answer: the bytes written
+-- a writer's answer: the number of bytes written
 abbrev pub writeAnswerOf : WriteAnswer → Outcome ℕ
 writeAnswerOf (Written n) = answered n
 writeAnswerOf (NotWritten x) = refused (codeOf x)

@@ -1,6 +1,6 @@
 // The day's list (document 01, "The day's list"): its value, its bytes, and when it is turned back.
-// Promises: `check` tests a value, `read` turns bytes into a list, `write` gives a list's one form; each is total and equal to
-// the definition of specs/ that its contract names. Uses nothing but the language.
+// Promises: `check` tests a value, `read` turns bytes into a list, `write` gives a list's one form. Each is total: its contract states
+// the answer, and what lent buffers hold, by equality with definitions of specs/, for every input. Uses nothing but the language.
 mod blank;
 mod bytes;
 mod checks;

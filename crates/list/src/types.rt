@@ -6,7 +6,7 @@ pub enum Seal {
     Number(u32),
 }
 
-// Document 01's kinds: a pause entry may be interrupted (preempted), a whole one may not.
+// Document 01's kinds: a pause entry may be interrupted (preempted); a whole entry is unpausable, its work is wanted in one piece.
 pub enum Kind {
     Pause,
     Whole,
@@ -34,14 +34,14 @@ pub struct DayList {
     pub entries: [Entry; 64],
 }
 
-// The refusals of every call of the planner, a case for each row of "Where a list is turned back".
+// The refusals of every call of the planner, a case for each number of "Where a list is turned back".
 // specs/Refusals.antt has each case's number and the values that it carries.
 pub enum Refusal {
     // 1: bytes are missing; the input's length.
     BytesMissing(usize),
     // 2: the day's length is 0 or over 1,440.
     BadDayLength,
-    // 3: over 64 entries; the count's place.
+    // 3: over 64 entries; the count's place in the bytes, 0 for a value.
     TooManyEntries(usize),
     // 4: a map byte breaks its rules; its place.
     BadMapByte(usize),

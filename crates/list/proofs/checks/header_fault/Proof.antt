@@ -1,6 +1,5 @@
 -- `checks::header_fault` meets its contract: the tests that led to each answer say which row holds.
 -- Assumes nothing.
-use borrow.Author.Needs.{needs}
 use borrow.Author.Tests.{eq-eqb, ne-eqb, lt-ltb, le-ltb}
 use Rattle.list.specs.Checks.{headerFault}
 use Rattle.list.proofs.checks.header_fault.Statement.{statement}

@@ -1,7 +1,7 @@
 -- `entry::read_entry` meets its contract: each answer is the case of `entryOf` that its tests say.
 -- Assumes nothing.
 use borrow.Author.Needs.{needs}
-use mathlib.Core.Path.{sym, _∙_}
+use mathlib.Core.Path.{_∙_}
 use denote.Ref.{now}
 use Rattle.list.proofs.EntryCases.{entry-none, entry-broken, entry-legal}
 use Rattle.list.proofs.entry.read_entry.Statement.{statement}

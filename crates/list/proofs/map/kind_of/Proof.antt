@@ -1,7 +1,6 @@
 -- `map::kind_of` meets its contract: the test is bit 5.
 -- Assumes nothing.
-use borrow.Author.Needs.{needs}
-use borrow.Author.Tests.{eq-eqb, ne-eqb, lt-ltb, le-ltb}
+use borrow.Author.Tests.{eq-eqb, ne-eqb}
 use Rattle.list.proofs.map.kind_of.Statement.{statement}
 use Rattle.list.proofs.map.kind_of.Tie as tie
 
