@@ -10,3 +10,4 @@ pub mod Forms
 pub mod Writing
 pub mod Machine
 pub mod Promises
+pub mod Steps

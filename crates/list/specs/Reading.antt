@@ -5,7 +5,6 @@ use mathlib.Core.List.{List, [], _∷_}
 use lib.ListN.{length, getD, drop}
 use lib.Dec.{ltb}
 use Rattle.list.specs.Outcomes.{Code, Outcome, answered, refused, row, firstOf, andThen}
-use Rattle.list.specs.Refusals.{readAnswerOf}
 use Rattle.list.specs.Numbers.{u16At}
 use Rattle.list.specs.Entries.{entryOf}
 use Rattle.list.specs.DayLists.{dayList, emptyList}
@@ -13,7 +12,6 @@ use Rattle.list.specs.Checks.{headerFault}
 use Rattle.list.specs.declared.types.Entry.{Entry}
 use Rattle.list.specs.declared.types.Frame.{Frame}
 use Rattle.list.specs.declared.types.DayList.{DayList}
-use Rattle.list.specs.declared.types.ReadAnswer.{ReadAnswer}
 
 -- k entries, one after the other, from the start of bs, what is left of the input from place at on; with the place after them
 unfoldable pub entriesFrom : Frame → ℕ → ℕ → List ℕ → Outcome (List Entry × ℕ)
@@ -45,11 +43,6 @@ readOf bs =
 abbrev pub listOr : Outcome DayList → DayList
 listOr (answered l) = l
 listOr (refused k) = emptyList
-
--- an answer that says an outcome, with its list beside it, inside the reader
-pub record AnswersAs (o : Outcome DayList) (a : ReadAnswer) : Type 0 where
-  pub outcome : readAnswerOf a ≡ o
-  pub beside : a .list ≡ listOr o
 
 -- What a refusal of an input of this length carries: 1 the length, any other number a place inside the input.
 pub record PlaceIn (len : ℕ) (k : Code) : Type 0 where

@@ -1,9 +1,7 @@
 -- Writing: "The writer gives the list's one form; bytes after it keep their values." and "A refusal writes nothing to any lent buffer."
-use Prim.Native.Nat.{ℕ, _+_}
-use mathlib.Core.Path.{_≡_}
+use Prim.Native.Nat.{ℕ}
 use mathlib.Core.List.{List, [], _∷_, _++_}
 use lib.ListN.{length, drop}
-use lib.Seq.{sets}
 use lib.Dec.{ltb}
 use Rattle.list.specs.Outcomes.{Outcome, answered, refused, row, firstOf, andThen}
 use Rattle.list.specs.Numbers.{u16Bytes}
@@ -13,11 +11,6 @@ use Rattle.list.specs.Checks.{checkOf}
 use Rattle.list.specs.declared.types.Entry.{Entry}
 use Rattle.list.specs.declared.types.Frame.{Frame}
 use Rattle.list.specs.declared.types.DayList.{DayList}
-
--- A step of the writer: it stores a text from place at on, and answers the place after it.
-pub record Wrote (old : List ℕ) (at : ℕ) (text new : List ℕ) (next : ℕ) : Type 0 where
-  pub place : next ≡ at + length text
-  pub stored : new ≡ sets old at text
 
 -- the entries' one forms, one after the other
 unfoldable pub bytesOfEntries : Frame → List Entry → List ℕ

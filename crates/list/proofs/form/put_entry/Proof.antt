@@ -5,7 +5,7 @@ use native.Mathlib.Omega.{arith}
 use mathlib.Core.List.{_++_}
 use Rattle.list.specs.Numbers.{u32Bytes}
 use Rattle.list.specs.Forms.{sealBytes, timesBytes, entryBytes}
-use Rattle.list.specs.Writing.{Wrote}
+use Rattle.list.specs.Steps.{Wrote}
 use Rattle.list.proofs.Stores.{wrote-one, wrote-length, room-first, room-after}
 use Rattle.list.proofs.FormCases.{entry-length, entry-room, entry-stored}
 use Rattle.list.proofs.form.put_entry.Statement.{statement}
