@@ -1,0 +1,57 @@
+// The one form, byte for byte where a line shows it.
+use crate::lines::compare;
+use crate::lines::run;
+use crate::lines::run_and_show;
+use crate::values::day;
+use crate::values::entry;
+use crate::values::junk;
+use crate::values::one;
+use crate::values::sealed;
+use list::types::Kind;
+
+// "Two list values are equal if H, n and the first n entries are."
+pub(crate) fn after_n() {
+    let good = entry(501, 0, 12, 4);
+    let zeros = entry(0, 0, 0, 0);
+    // One entry counts: 3 bytes and 7.
+    run(b"after_n_junk", day(12, 1, good, junk(), junk()));
+    // The same list: 3 bytes and 7.
+    run(b"after_n_zeros", day(12, 1, good, zeros, zeros));
+    // Equal lists have the same one form.
+    compare(
+        b"after_n",
+        day(12, 1, good, junk(), junk()),
+        day(12, 1, good, zeros, zeros),
+    );
+    // A serial is part of the one form, so lists that differ in one are written as other bytes.
+    compare(b"within_n", one(12, good), one(12, entry(502, 0, 12, 4)));
+}
+
+// "The same serial may stand twice."
+pub(crate) fn serials() {
+    let good = entry(501, 0, 12, 4);
+    // Two windows: 3 bytes, then map, serial, d and p, 9, then map, serial, r and p, 9.
+    run_and_show(
+        b"serial_twice",
+        day(12, 2, entry(7, 0, 6, 4), entry(7, 6, 12, 5), junk()),
+    );
+    // Two entries alike: 3 bytes and twice 7.
+    run_and_show(b"entry_twice", day(12, 2, good, good, junk()));
+}
+
+// A seal "may be missing; any value, 0 too".
+pub(crate) fn seals() {
+    // Bit 1 is clear, and no bytes: 3 and 7.
+    run_and_show(b"seal_missing", one(12, entry(501, 0, 12, 4)));
+    // Bit 1 stands, and 4 bytes of 0: 3 and 11.
+    run_and_show(b"seal_0", one(12, sealed(501, 0, 0, 12, 4, Kind::Pause)));
+}
+
+// The list of "Writer and report".
+pub(crate) fn example() {
+    let a = entry(501, 0, 12, 4);
+    let b = sealed(502, 77, 2, 8, 3, Kind::Whole);
+    let c = sealed(503, 78, 3, 6, 2, Kind::Pause);
+    // The bytes that stand there: 3, 7, 15 and 15.
+    run_and_show(b"example", day(12, 3, a, b, c));
+}
