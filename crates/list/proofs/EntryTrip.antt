@@ -37,17 +37,17 @@ pub record Fits (e : Entry) : Type 0 where
   pub seal : SealFits (e .seal)
 
 -- an entry's one form with bytes after it
-abbrev laid : Frame → Entry → List ℕ → List ℕ
-laid f e rest =
+abbrev formBefore : Frame → Entry → List ℕ → List ℕ
+formBefore f e rest =
     let m = fieldsIn f e in
     mapOf m
     ∷ (u32Bytes (e .serial)
     ++ (sealBytes (e .seal)
     ++ (minuteBytes (m .r) (e .r) ++ (minuteBytes (m .d) (e .d) ++ (u16Bytes (e .p) ++ rest)))))
 
-laid-out : (f : Frame) (e : Entry) (rest : List ℕ) → entryBytes f e ++ rest ≡ laid f e rest
+form-before : (f : Frame) (e : Entry) (rest : List ℕ) → entryBytes f e ++ rest ≡ formBefore f e rest
 unfolding entryBytes
-laid-out f e rest = simp append-assoc
+form-before f e rest = simp append-assoc
 
 module _ (bs : List ℕ) (i : ℕ) (tail : List ℕ) where
   seal-read : (s : Seal) → SealFits s → drop i bs ≡ sealBytes s ++ tail → s ≡ sealOf (sealed s) (u32At bs i)
@@ -58,10 +58,10 @@ module _ (bs : List ℕ) (i : ℕ) (tail : List ℕ) where
   minute-read x x₀ h true q e = eqb-true _ _ q
   minute-read x x₀ h false q e = sym (u16-read bs i x tail h e)
 
-entry-back : (f : Frame) (e : Entry) (rest : List ℕ) → f .h < 65536 → Fits e → Sound f e → e ≡ entryAt f (fieldsIn f e) (laid f e rest)
+entry-back : (f : Frame) (e : Entry) (rest : List ℕ) → f .h < 65536 → Fits e → Sound f e → e ≡ entryAt f (fieldsIn f e) (formBefore f e rest)
 entry-back f e rest h fits s =
     let m = fieldsIn f e in
-    let bs = laid f e rest in
+    let bs = formBefore f e rest in
     let r-here = past-field bs 5 (sealBytes (e .seal)) _ _ (seal-length (e .seal)) refl in
     let d-here = past-field bs (rPlace m) (minuteBytes (m .r) (e .r)) _ _ (minute-length (m .r) (e .r)) r-here in
     let p-here = past-field bs (dPlace m) (minuteBytes (m .d) (e .d)) _ _ (minute-length (m .d) (e .d)) d-here in
@@ -76,9 +76,9 @@ entry-back f e rest h fits s =
 pub entry-reads-back : (f : Frame) (at : ℕ) (e : Entry) (rest : List ℕ) → f .h < 65536 → Fits e → Sound f e → entryOf f at (entryBytes f e ++ rest) ≡ answered (e, length (entryBytes f e))
 entry-reads-back f at e rest h fits s =
     let m = fieldsIn f e in
-    let bs = laid f e rest in
-    let long : sizeOf m ≤ length bs = omega (arith, entry-length f e, length-append (entryBytes f e) rest, ap length (laid-out f e rest)) in
-    rw laid-out (sym
+    let bs = formBefore f e rest in
+    let long : sizeOf m ≤ length bs = omega (arith, entry-length f e, length-append (entryBytes f e) rest, ap length (form-before f e rest)) in
+    rw form-before (sym
     (fields-taken f at m bs e Accepted (entry-back f e rest h fits s) long (simp not-and-self) (sym (faultless f at e s)) _ (entry-length f e) refl
     ∙ entry-legal f at bs (omega arith) (Follow m) (map-back m) m refl))
 
@@ -111,7 +111,7 @@ module _ (f : Frame) (m : Fields) (bs : List ℕ) (r-kept : m .r && eqb (entryAt
   fields-again =
       rw (sealed-again, written-again (m .r) (u16At bs (rPlace m)) (defaultR f) r-kept, written-again (m .d) (u16At bs (dPlace m)) (defaultD f) d-kept)
 
-  entry-stands : Bytes bs → sizeOf m ≤ length bs → mapOf (fieldsIn f (entryAt f m bs)) ≡ getD bs 0 0 → bs ≡ laid f (entryAt f m bs) (drop (sizeOf m) bs)
+  entry-stands : Bytes bs → sizeOf m ≤ length bs → mapOf (fieldsIn f (entryAt f m bs)) ≡ getD bs 0 0 → bs ≡ formBefore f (entryAt f m bs) (drop (sizeOf m) bs)
   unfolding entryAt
   entry-stands b l q =
       byte-stands bs 0 (omega arith)
@@ -150,7 +150,7 @@ module _ (f : Frame) (at : ℕ) (bs : List ℕ) (len : ℕ) (all : at + length b
         sound = s;
         form = λ b.
             let map : mapOf (fieldsIn f e) ≡ getD bs 0 0 = ap mapOf again ∙ map-form (getD bs 0 0) (b 0) legal in
-            entry-stands f m bs (z .0) (z .1) b long map ∙ sym (laid-out f e (drop (sizeOf m) bs));
+            entry-stands f m bs (z .0) (z .1) b long map ∙ sym (form-before f e (drop (sizeOf m) bs));
         fits = λ b. record { serial = u32-small bs b 1; seal = seal-fits bs b 5 (m .seal) };
       }
 
