@@ -17,17 +17,13 @@ fn say(text: &[u8]) {
     io::write_all(STDOUT_FILENO, text);
 }
 
-fn say_number(x: u64) {
-    io::print_decimal(STDOUT_FILENO, x);
-}
-
 fn say_refusal(x: Refusal) {
     let code = codes::numbers_of(x);
     let values = code.values;
     say(b" refused ");
-    say_number(code.number as u64);
+    io::print_decimal(STDOUT_FILENO, code.number as u64);
     say(b" at ");
-    say_number(values[0]);
+    io::print_decimal(STDOUT_FILENO, values[0]);
 }
 
 fn say_verdict(v: Verdict) {
@@ -37,11 +33,11 @@ fn say_verdict(v: Verdict) {
     }
 }
 
-// Whether two buffers have the same bytes from a place on.
-fn alike(a: &Buffer, b: &Buffer, from: usize) -> bool {
+// Whether the bytes from a place on, those after the part that was lent too, are as they were.
+fn kept(buffer: &Buffer, from: usize) -> bool {
     let mut i: usize = from;
     while i < ROOM {
-        if a[i] != b[i] {
+        if buffer[i] != FILL {
             return false;
         }
         i += 1;
@@ -49,27 +45,11 @@ fn alike(a: &Buffer, b: &Buffer, from: usize) -> bool {
     true
 }
 
-// Whether all bytes from a place on are as they were before the buffer was lent.
-fn kept(buffer: &Buffer, from: usize) -> bool {
-    let fresh = [FILL; ROOM];
-    alike(buffer, &fresh, from)
-}
-
-// Of all bytes, those after the part that was lent too.
-fn say_kept(buffer: &Buffer) {
-    if kept(buffer, 0) {
+fn say_kept(buffer: &Buffer, from: usize) {
+    if kept(buffer, from) {
         say(b" kept");
     } else {
         say(b" changed");
-    }
-}
-
-// Of the bytes after the list.
-fn say_tail(buffer: &Buffer, from: usize) {
-    if kept(buffer, from) {
-        say(b" tail-kept");
-    } else {
-        say(b" tail-changed");
     }
 }
 
@@ -77,13 +57,14 @@ fn say_answer(answer: WriteAnswer, buffer: &Buffer) {
     match answer {
         WriteAnswer::Written(count) => {
             say(b" written ");
-            say_number(count as u64);
-            say_kept(buffer);
-            say_tail(buffer, count);
+            io::print_decimal(STDOUT_FILENO, count as u64);
+            say_kept(buffer, 0);
+            say(b" tail");
+            say_kept(buffer, count);
         }
         WriteAnswer::NotWritten(x) => {
             say_refusal(x);
-            say_kept(buffer);
+            say_kept(buffer, 0);
         }
     }
 }
@@ -137,19 +118,5 @@ pub(crate) fn run_and_show(name: &[u8], value: DayList) {
         say(b" bytes");
         say_bytes(&buffer, count);
         say(b"\n");
-    }
-}
-
-// A line that says whether two values are written as the same bytes.
-pub(crate) fn compare(name: &[u8], a: DayList, b: DayList) {
-    let mut first = [FILL; ROOM];
-    let mut second = [FILL; ROOM];
-    write_in(a, &mut first, ROOM);
-    write_in(b, &mut second, ROOM);
-    say(name);
-    if alike(&first, &second, 0) {
-        say(b" alike\n");
-    } else {
-        say(b" differ\n");
     }
 }

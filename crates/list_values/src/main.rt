@@ -3,9 +3,8 @@
 // Uses `check`, `write` and the types of the crate list, `numbers_of` of codes, and io and libc to print; reads nothing.
 //
 // A line: the case's name; `accepted` or `refused N at P`, which the check answers; `written N` or `refused N at P`, which the
-// writer answers; `kept` or `changed`, what became of the buffer's bytes; after `written` also `tail-kept` or `tail-changed`, of
-// the bytes after the list.
-// Two more kinds of line: the bytes written, after the word `bytes`; and `alike` or `differ`, of what two values are written as.
+// writer answers; `kept` or `changed`, of all the buffer's bytes; after `written N` also `tail` and the same of the bytes after
+// the list. Some cases have a second line: the name, `bytes`, and the bytes written.
 mod buffer_cases;
 mod entry_cases;
 mod form_cases;

@@ -1,24 +1,21 @@
--- `lines::alike` ends. The measure is what is left of 970.
+-- `lines::kept` ends. The measure is what is left of 970.
 -- Assumes nothing.
 use borrow.Author.Needs.{needs}
 use Prim.Native.Nat.{_-_}
-use Rattle.list_values.proofs.lines.alike.Statement.{statement}
-use Rattle.list_values.proofs.lines.alike.Tie as tie
+use Rattle.list_values.proofs.lines.kept.Statement.{statement}
+use Rattle.list_values.proofs.lines.kept.Tie as tie
 
 abbrev Inv-loop : tie.InvT-loop
-Inv-loop a b from i₀ i = Unit
+Inv-loop buffer from i₀ i = Unit
 
 abbrev μ-loop : tie.MeasureT-loop
-μ-loop a b from i₀ i = 970 - i
+μ-loop buffer from i₀ i = 970 - i
 
 loop-holds : tie.Need-loop-holds Inv-loop μ-loop
 loop-holds c = search needs
 
 element-copy-out-if1 : tie.Need-element-copy-out-if1 Inv-loop μ-loop
 element-copy-out-if1 c = search needs
-
-element-copy-out-if1-2 : tie.Need-element-copy-out-if1-2 Inv-loop μ-loop
-element-copy-out-if1-2 c = search needs
 
 returns : tie.Need-returns Inv-loop μ-loop
 returns c = search needs
@@ -35,15 +32,14 @@ loop-again c = search needs
 returns-2 : tie.Need-returns-2 Inv-loop μ-loop
 returns-2 c = search needs
 
-pub alike-spec : {M : Type 1} → statement M
-alike-spec =
+pub kept-spec : {M : Type 1} → statement M
+kept-spec =
     tie.close
     (tie.spec
     Inv-loop
     μ-loop
     loop-holds
     element-copy-out-if1
-    element-copy-out-if1-2
     returns
     add-i
     loop-less
