@@ -1,4 +1,4 @@
-//! The inputs that document 01 and its readers write out, byte for byte.
+//! The inputs that document 01 writes out, and others where the order of the rows decides.
 
 use dock_tests::day::{Day, Entry, LONGEST_LIST};
 use dock_tests::samples::{self, hex};

@@ -13,7 +13,7 @@ use Rattle.list.specs.declared.types.Kind.the-variants.{Pause, Whole}
 use Rattle.list.specs.declared.types.Entry.{Entry}
 use Rattle.list.specs.declared.types.DayList.{DayList}
 
--- whether a seal stands, and its number (0 where it is missing)
+-- whether a seal is a number, and that number (0 where it is missing)
 abbrev pub present : Seal → ℕ
 present Missing = 0
 present (Number x) = 1
@@ -22,6 +22,7 @@ abbrev pub numberOf : Seal → ℕ
 numberOf Missing = 0
 numberOf (Number x) = x
 
+-- whether an entry is whole
 abbrev pub wholeOf : Kind → ℕ
 wholeOf Pause = 0
 wholeOf Whole = 1
@@ -30,10 +31,12 @@ wholeOf Whole = 1
 abbrev pub flatEntry : Entry → List ℕ
 flatEntry e = e .serial ∷ present (e .seal) ∷ numberOf (e .seal) ∷ e .r ∷ e .d ∷ e .p ∷ wholeOf (e .kind) ∷ []
 
+-- entry after entry
 unfoldable pub flatEntries : List Entry → List ℕ
 flatEntries [] = []
 flatEntries (e ∷ es) = flatEntry e ++ flatEntries es
 
+-- a list value as numbers
 abbrev pub flatOf : DayList → List ℕ
 flatOf l = l .frame .h ∷ l .n ∷ flatEntries (l .entries)
 
@@ -55,5 +58,6 @@ unfoldable pub entriesIn : ℕ → ℕ → List ℕ → List Entry
 entriesIn zero i xs = []
 entriesIn (suc k) i xs = entryIn xs (2 + 7 * i) ∷ entriesIn k (i + 1) xs
 
+-- the list value that numbers say
 abbrev pub valueOf : List ℕ → DayList
 valueOf xs = record { frame = record { h = min (getD xs 0 0) 65535 }; n = min (getD xs 1 0) 255; entries = entriesIn 64 0 xs }

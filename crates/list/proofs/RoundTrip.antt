@@ -28,7 +28,7 @@ use Rattle.list.proofs.Sound.{Header, header-says, header-passes, Sound
 use Rattle.list.proofs.FieldTrip.{bytes-drop, u16-back, u16-stands, byte-stands}
 use Rattle.list.proofs.EntryTrip.{Fits}
 use Rattle.list.proofs.ReadCases.{read-body, body-done}
-use Rattle.list.proofs.WriteCases.{list-short, has-room, written-whole, written-whole}
+use Rattle.list.proofs.WriteCases.{list-short, has-room, written-whole}
 use Rattle.list.proofs.ListTrip.{TakenEntries, entries-say, entries-read-back, every-take, every-at}
 
 module _ (l : DayList) (t : Typed l) (w : WellFormed l) where

@@ -45,11 +45,11 @@ pub enum Refusal {
     TooManyEntries(usize),
     // 4: a map byte breaks its rules; its place.
     BadMapByte(usize),
-    // 5: r or d is written at its default; the place.
+    // 5: r or d is written at its default; the map byte's place.
     DefaultWritten(usize),
-    // 6: p is 0; the place.
+    // 6: p is 0; the map byte's place, or the entry's for a value.
     NoMinutes(usize),
-    // 7: d over H, or r + p over d; the place.
+    // 7: d over H, or r + p over d; the map byte's place, or the entry's for a value.
     BadWindow(usize),
     // 8: bytes are left over; the first of them.
     BytesLeftOver(usize),

@@ -6,7 +6,7 @@ use crate::values::longest;
 use crate::values::none;
 use crate::values::one;
 
-// All 64 places hold the window [0, 1) with p 1, so only H and n can be wrong.
+// All 64 places hold the window [0, 1) with p 1, so only H and n can be wrong where H is at least 1.
 fn header(name: &[u8], h: u16, n: u8) {
     let good = entry(501, 0, 1, 1);
     run(name, day(h, n, good, good, good));

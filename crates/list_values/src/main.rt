@@ -1,5 +1,5 @@
 // Runs the value check and the writer on list values, most of which no reader makes, and prints a line for each case.
-// The file stdout beside src/ has the lines that document 01 asks for, worked out by hand.
+// The file stdout beside src/ has the lines that document 01 asks for, worked out from the document and not from a run.
 // Uses `check`, `write` and the types of the crate list, `numbers_of` of codes, and io and libc to print; reads nothing.
 //
 // A line: the case's name; `accepted` or `refused N at P`, which the check answers; `written N` or `refused N at P`, which the
