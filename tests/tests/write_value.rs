@@ -61,22 +61,23 @@ fn the_header_comes_before_the_entries() {
     not_written(&value(100, 64, &wrong), ROOM, 6, 0);
 }
 
-#[test]
-fn no_minutes_is_6_with_the_entrys_place() {
+/// One entry of a full day is made wrong, at each place in turn.
+fn wrong_at_each_place(number: u32, spoil: fn(&mut Entry)) {
     for place in 0..MOST_ENTRIES {
         let mut entries = vec![entry(0, 100, 1); MOST_ENTRIES];
-        entries[place].p = 0;
-        not_written(&day(&entries), ROOM, 6, place);
+        spoil(&mut entries[place]);
+        not_written(&day(&entries), ROOM, number, place);
     }
 }
 
 #[test]
+fn no_minutes_is_6_with_the_entrys_place() {
+    wrong_at_each_place(6, |entry| entry.p = 0);
+}
+
+#[test]
 fn a_wrong_window_is_7_with_the_entrys_place() {
-    for place in 0..MOST_ENTRIES {
-        let mut entries = vec![entry(0, 100, 1); MOST_ENTRIES];
-        entries[place].d = 101;
-        not_written(&day(&entries), ROOM, 7, place);
-    }
+    wrong_at_each_place(7, |entry| entry.d = 101);
 }
 
 #[test]

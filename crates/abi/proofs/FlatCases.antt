@@ -2,15 +2,29 @@
 -- Assumes nothing.
 use mathlib.Core.Path.{_≡_, refl, sym, ap, _∙_}
 use mathlib.Core.List.{List, [], _∷_, _++_, append-assoc, append-nil}
-use Prim.Native.Nat.{ℕ, suc, _+_, _*_, _-_, _≤_, _<_}
+use Prim.Native.Nat.{ℕ, suc, _+_, _*_, _-_, _≤_, _<_, min}
 use native.Mathlib.Numerals.{add-one}
 use native.Mathlib.Omega.{arith}
 use lib.ListN.{length, getD, take, drop, set, length-set, drop-of-length-le}
 use lib.Seq.{take-suc-set, take-all, drop-cons, sets, sets-eq, length-sets}
+use mathlib.Core.Bool.{not}
+use lib.Dec.{eqb}
+use Rattle.list.specs.declared.types.Kind.{Kind}
+use Rattle.list.specs.declared.types.Seal.{Seal}
+use Rattle.list.specs.Entries.{sealOf}
+use Rattle.list.specs.Maps.{kindOf}
 use Rattle.list.specs.declared.types.Entry.{Entry}
 use Rattle.list.specs.declared.types.DayList.{DayList}
 use Rattle.list.proofs.Stores.{sets-append}
 use Rattle.abi.specs.Flat.{flatEntry, flatEntries, flatOf, entryIn, entriesIn}
+
+-- `entryIn`, field by field
+pub entry-in-is : (xs : List ℕ) (at : ℕ) {seal : Seal} {r d p : ℕ} {kind : Kind}
+    → seal ≡ sealOf (not (eqb (getD xs (at + 1) 0) 0)) (getD xs (at + 2) 0)
+    → r ≡ min (getD xs (at + 3) 0) 65535 → d ≡ min (getD xs (at + 4) 0) 65535 → p ≡ min (getD xs (at + 5) 0) 65535
+    → kind ≡ kindOf (not (eqb (getD xs (at + 6) 0) 0))
+    → record { serial = getD xs at 0; seal = seal; r = r; d = d; p = p; kind = kind } ≡ entryIn xs at
+entry-in-is xs at s r d p k = rw (s, r, d, p, k)
 
 -- i entries were read from the numbers
 pub record ReadInSoFar (xs : List ℕ) (entries : List Entry) (i : ℕ) : Type 0 where

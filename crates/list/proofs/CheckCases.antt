@@ -1,9 +1,12 @@
 -- The value check, case by case: what code knows at the header, at each entry, and after the last.
 -- Assumes nothing.
+use Rattle.list.specs.declared.types.Frame.{Frame}
+use mathlib.Core.List.{[], _∷_}
+use borrow.Author.Tests.{eq-eqb, ne-eqb, lt-ltb, le-ltb}
 use mathlib.Core.Path.{_≡_}
 use Prim.Native.Nat.{ℕ, _+_, _≤_, _<_}
 use lib.ListN.{length, getD, drop}
-use Rattle.list.specs.Outcomes.{answered, andThen}
+use Rattle.list.specs.Outcomes.{answered, andThen, code, refused}
 use Rattle.list.specs.Refusals.{verdictOf}
 use Rattle.list.specs.Entries.{entryFault}
 use Rattle.list.specs.DayLists.{entriesOf}
@@ -14,6 +17,34 @@ use Rattle.list.specs.declared.types.Refusal.{Refusal}
 use Rattle.list.specs.declared.types.Verdict.{Verdict}
 use Rattle.list.specs.declared.types.Verdict.the-variants.{Accepted, Refused}
 use Rattle.list.proofs.Walk.{walk-next, walk-done}
+
+-- rows 2 and 3, each from the tests that led to it
+module _ (place : ℕ) (f : Frame) (n : ℕ) where
+  pub no-day : f .h ≡ 0 → refused (code 2 (0 ∷ [])) ≡ headerFault place f n
+  unfolding headerFault
+  no-day z = simp (eq-eqb _ _ z)
+
+  pub long-day : (f .h ≡ 0 → ⊥) → 1440 < f .h → refused (code 2 (0 ∷ [])) ≡ headerFault place f n
+  unfolding headerFault
+  long-day z h = simp (ne-eqb _ _ z, lt-ltb _ _ h)
+
+  pub too-many : (f .h ≡ 0 → ⊥) → f .h ≤ 1440 → 64 < n → refused (code 3 (place ∷ [])) ≡ headerFault place f n
+  unfolding headerFault
+  too-many z h k = simp (ne-eqb _ _ z, le-ltb _ _ h, lt-ltb _ _ k)
+
+-- rows 6 and 7 likewise
+module _ (f : Frame) (place : ℕ) (e : Entry) where
+  pub no-minutes : e .p ≡ 0 → refused (code 6 (place ∷ [])) ≡ entryFault f place e
+  unfolding entryFault
+  no-minutes z = simp (eq-eqb _ _ z)
+
+  pub past-day : (e .p ≡ 0 → ⊥) → f .h < e .d → refused (code 7 (place ∷ [])) ≡ entryFault f place e
+  unfolding entryFault
+  past-day z h = simp (ne-eqb _ _ z, lt-ltb _ _ h)
+
+  pub too-short : (e .p ≡ 0 → ⊥) → e .d ≤ f .h → e .d < e .r + e .p → refused (code 7 (place ∷ [])) ≡ entryFault f place e
+  unfolding entryFault
+  too-short z h w = simp (ne-eqb _ _ z, le-ltb _ _ h, lt-ltb _ _ w)
 
 module _ (l : DayList) where
   -- the header is turned back, or the entries decide

@@ -1,5 +1,6 @@
 -- What `fieldsEntry` and `entryOf` are, case by case, from the facts that code has at each answer.
 -- Assumes nothing.
+use Rattle.list.specs.declared.types.Seal.the-variants.{Number}
 use mathlib.Core.Path.{_≡_, sym, _∙_}
 use mathlib.Core.Bool.{Bool, true, false, cond, _&&_}
 use mathlib.Core.List.{List, [], _∷_}
@@ -21,6 +22,10 @@ use Rattle.list.specs.declared.types.Verdict.the-variants.{Accepted, Ref
 use Rattle.list.specs.declared.map.Fields.{Fields}
 use Rattle.list.specs.declared.map.MapAnswer.{MapAnswer}
 use Rattle.list.specs.declared.map.MapAnswer.the-variants.{Breaks, Follow}
+
+-- a seal that follows is the number read
+pub seal-follows : {follows : Bool} {x y : ℕ} → follows ≡ true → x ≡ y → Number x ≡ sealOf follows y
+seal-follows t e = rw (t, e)
 
 -- `entryAt`, field by field, each at the place and with the default that code found
 pub entry-is : (f : Frame) (m : Fields) (bs : List ℕ) (serial : ℕ) (seal : Seal) (r d p ri di pi r₀ d₀ : ℕ)

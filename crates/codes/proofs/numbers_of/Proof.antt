@@ -8,9 +8,14 @@ use Rattle.list.specs.Outcomes.{code}
 use Rattle.list.specs.Refusals.{codeOf}
 use Rattle.codes.specs.Numbers.{numbersOf}
 use Rattle.list.specs.declared.types.Refusal.{Refusal}
+use Rattle.list.specs.declared.types.Refusal.the-variants.{Overloaded}
 use Rattle.codes.specs.declared.RefusalCode.{RefusalCode}
 use Rattle.codes.proofs.numbers_of.Statement.{statement}
 use Rattle.codes.proofs.numbers_of.Tie as tie
+
+-- the refusal that carries three
+three-values : {x : Refusal} {a b work : ℕ} → x ≡ Overloaded a b work → record { number = 9; count = 3; values = a ∷ b ∷ work ∷ [] } ≡ numbersOf (codeOf x)
+three-values q = rw q
 
 -- a refusal that carries one value
 one : {r : RefusalCode} {x y : Refusal} {k v : ℕ} → r ≡ numbersOf (code k (v ∷ [])) → x ≡ y → codeOf y ≡ code k (v ∷ []) → r ≡ numbersOf (codeOf x)
@@ -125,7 +130,7 @@ returns-8 : tie.Need-returns-8
 returns-8 c = one (c .with-one8 .ensures) (c .before .before .x7 .given .1) refl
 
 returns-9 : tie.Need-returns-9
-returns-9 c = rw (c .before .x8 .given .1)
+returns-9 c = three-values (c .before .x8 .given .1)
 
 returns-10 : tie.Need-returns-10
 returns-10 c = one (c .with-one9 .ensures) (c .before .before .x9 .given .1) refl

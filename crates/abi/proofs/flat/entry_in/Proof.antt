@@ -1,6 +1,7 @@
 -- `flat::entry_in` meets its contract, field by field.
 -- Assumes nothing.
 use borrow.Author.Needs.{needs}
+use Rattle.abi.proofs.FlatCases.{entry-in-is}
 use Rattle.abi.proofs.flat.entry_in.Statement.{statement}
 use Rattle.abi.proofs.flat.entry_in.Tie as tie
 
@@ -80,7 +81,8 @@ u16-of-requires-3 : tie.Need-u16-of-requires-3
 u16-of-requires-3 c κs = search needs
 
 returns : tie.Need-returns
-returns c = rw (c .before .before .before .before .before .before .before .kind-in .ensures, c .before .before .before .before .before .before .before .before .before .seal-in .ensures, c .before .before .before .before .u16-of .ensures, c .before .before .u16-of2 .ensures, c .u16-of3 .ensures)
+returns c =
+    entry-in-is (c .before .before .before .before .before .before .before .before .before .before .before .before .args .fields .now) (c .before .before .before .before .before .before .before .before .before .before .before .before .args .at) (c .before .before .before .before .before .before .before .before .before .seal-in .ensures) (c .before .before .before .before .u16-of .ensures) (c .before .before .u16-of2 .ensures) (c .u16-of3 .ensures) (c .before .before .before .before .before .before .before .kind-in .ensures)
 
 pub entry-in-spec : {M : Type 1} → statement M
 entry-in-spec =

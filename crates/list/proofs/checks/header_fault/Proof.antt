@@ -1,25 +1,23 @@
 -- `checks::header_fault` meets its contract: the tests that led to each answer say which row holds.
 -- Assumes nothing.
-use borrow.Author.Tests.{eq-eqb, ne-eqb, lt-ltb, le-ltb}
-use Rattle.list.specs.Checks.{headerFault}
+use mathlib.Core.Path.{sym}
+use native.Mathlib.Omega.{arith}
+use Rattle.list.proofs.Sound.{header-passes}
+use Rattle.list.proofs.CheckCases.{no-day, long-day, too-many}
 use Rattle.list.proofs.checks.header_fault.Statement.{statement}
 use Rattle.list.proofs.checks.header_fault.Tie as tie
 
 returns : tie.Need-returns
-unfolding headerFault
-returns c = simp (eq-eqb _ _ (c .if1 .taken))
+returns c = no-day (c .before .args .place) (c .before .args .frame) (c .before .args .n) (c .if1 .taken)
 
 returns-2 : tie.Need-returns-2
-unfolding headerFault
-returns-2 c = simp (ne-eqb _ _ (c .before .if1 .left), lt-ltb _ _ (c .if2 .taken))
+returns-2 c = long-day (c .before .before .args .place) (c .before .before .args .frame) (c .before .before .args .n) (c .before .if1 .left) (c .if2 .taken)
 
 returns-3 : tie.Need-returns-3
-unfolding headerFault
-returns-3 c = simp (ne-eqb _ _ (c .before .before .if1 .left), le-ltb _ _ (c .before .if2 .left), lt-ltb _ _ (c .if3 .taken))
+returns-3 c = too-many (c .before .before .before .args .place) (c .before .before .before .args .frame) (c .before .before .before .args .n) (c .before .before .if1 .left) (c .before .if2 .left) (c .if3 .taken)
 
 returns-4 : tie.Need-returns-4
-unfolding headerFault
-returns-4 c = simp (ne-eqb _ _ (c .before .before .if1 .left), le-ltb _ _ (c .before .if2 .left), le-ltb _ _ (c .if3 .left))
+returns-4 c = sym (header-passes (c .before .before .before .args .place) (c .before .before .before .args .frame) (c .before .before .before .args .n) (record { some-minutes = omega (arith, c .before .before .if1 .left); one-day = c .before .if2 .left; room = c .if3 .left }))
 
 pub header-fault-spec : {M : Type 1} → statement M
 header-fault-spec = tie.close (tie.spec returns returns-2 returns-3 returns-4)

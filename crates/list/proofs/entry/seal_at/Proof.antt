@@ -2,6 +2,7 @@
 -- Assumes nothing.
 use borrow.Author.Needs.{needs}
 use native.Mathlib.Omega.{arith}
+use Rattle.list.proofs.EntryCases.{seal-follows}
 use Rattle.list.proofs.entry.seal_at.Statement.{statement}
 use Rattle.list.proofs.entry.seal_at.Tie as tie
 
@@ -9,7 +10,7 @@ u32-at-requires : tie.Need-u32-at-requires
 u32-at-requires c κs = omega (arith, simp (c .if1 .taken) at (c .before .before .pre))
 
 returns : tie.Need-returns
-returns c = simp (c .before .if1 .taken, c .u32-at .ensures)
+returns c = seal-follows (c .before .if1 .taken) (c .u32-at .ensures)
 
 returns-2 : tie.Need-returns-2
 returns-2 c = search needs
