@@ -1,0 +1,44 @@
+-- Sums, counts and searches over the numbers below a bound.
+use Prim.Native.Nat.{ℕ, zero, suc, _+_}
+use mathlib.Core.Bool.{Bool, cond, _&&_, _||_}
+use mathlib.Core.List.{List, [], _∷_, _++_}
+use lib.Dec.{eqb, ltb}
+
+-- f 0 + .. + f (n - 1)
+unfoldable pub sum : ℕ → (ℕ → ℕ) → ℕ
+sum zero f = 0
+sum (suc n) f = sum n f + f n
+
+-- 1 if the two are the same, else 0
+abbrev pub same : ℕ → ℕ → ℕ
+same a b = cond (eqb a b) 1 0
+
+-- the first number below n that passes the test, or n if none does
+unfoldable pub firstBelow : ℕ → (ℕ → Bool) → ℕ
+firstBelow zero f = 0
+firstBelow (suc n) f = cond (f 0) 0 (suc (firstBelow n (λ i. f (suc i))))
+
+-- the last number below n that passes the test, plus 1, or 0 if none does
+unfoldable pub lastBelow : ℕ → (ℕ → Bool) → ℕ
+lastBelow zero f = 0
+lastBelow (suc n) f = cond (f n) (suc n) (lastBelow n f)
+
+-- the best of the numbers below n that pass the test, the lowest of equals, or none, a number that is n or more;
+-- `before i k` says that i is strictly better than k
+unfoldable pub best : ℕ → ℕ → (ℕ → Bool) → (ℕ → ℕ → Bool) → ℕ
+best none zero f before = none
+best none (suc n) f before =
+    let k = best none n f before in
+    cond (f n && (eqb k none || before n k)) n k
+
+-- smaller and larger values of f are better
+abbrev pub smaller : (ℕ → ℕ) → ℕ → ℕ → Bool
+smaller f i k = ltb (f i) (f k)
+
+abbrev pub larger : (ℕ → ℕ) → ℕ → ℕ → Bool
+larger f i k = ltb (f k) (f i)
+
+-- the list f 0, .., f (n - 1)
+unfoldable pub listOf : ℕ → (ℕ → ℕ) → List ℕ
+listOf zero f = []
+listOf (suc n) f = listOf n f ++ (f n ∷ [])

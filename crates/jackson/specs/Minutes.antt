@@ -1,0 +1,73 @@
+-- Jackson's minute and Jackson's preemptive schedule.
+use Prim.Native.Nat.{ℕ, zero, suc, _+_, _-_}
+use mathlib.Core.Bool.{Bool, cond, not, _&&_}
+use mathlib.Core.List.{List}
+use lib.Dec.{leb, ltb}
+use Rattle.jackson.specs.Counting.{same, best, smaller, listOf}
+use Rattle.jackson.specs.Windows.{Windows, withLeft, windowsIn}
+use Rattle.jackson.specs.Plans.{idle}
+use Rattle.jackson.specs.declared.types.Day.{Day}
+
+-- "the day's state": its minute t, the entry that had the minute before (idle for none), and the windows, where p i is the minutes that
+-- the entry at place i has left
+pub record State : Type 0 where
+  pub windows : Windows
+  pub t : ℕ
+  pub last : ℕ
+
+-- the state that a value of the code's type holds
+abbrev pub stateOf : Day → State
+stateOf day = record { windows = windowsIn (day .windows); t = day .t; last = day .last }
+
+-- the state in which a day begins
+abbrev pub morning : Windows → State
+morning w = record { windows = w; t = 0; last = idle }
+
+module _ (s : State) where
+  -- "entries with r reached and minutes left"
+  abbrev pub ready : ℕ → Bool
+  ready i = leb (s .windows .r i) (s .t) && ltb 0 (s .windows .p i)
+
+  -- "among entries with r reached and minutes left, take the smallest d .. the lowest place among equals"; idle if there is none
+  abbrev pub earliest : ℕ
+  earliest = best idle (s .windows .n) ready (smaller (s .windows .d))
+
+  -- "The entry that had the minute before, if it has minutes left, goes on unless another d is strictly smaller."
+  abbrev pub goesOn : Bool
+  goesOn = ltb (s .last) (s .windows .n) && (ready (s .last) && not (ltb (s .windows .d earliest) (s .windows .d (s .last))))
+
+  -- the place that has the minute
+  unfoldable pub chosen : ℕ
+  chosen = cond goesOn (s .last) earliest
+
+-- one minute less for the entry at place k, if k is a place
+abbrev pub lessOne : Windows → ℕ → Windows
+lessOne w k = withLeft w (λ i. w .p i - same k i)
+
+-- the state after place k, or idle, had the minute
+abbrev pub after : State → ℕ → State
+after s k = record { windows = lessOne (s .windows) k; t = s .t + 1; last = k }
+
+-- "Each minute takes the day's state and gives the next one." A day past its end is idle and stays as it is.
+pub record Turn : Type 0 where
+  pub place : ℕ
+  pub next : State
+
+unfoldable pub minuteOf : State → Turn
+minuteOf s =
+    cond (ltb (s .t) (s .windows .h))
+    (let k = chosen s in record { place = k; next = after s k })
+    (record { place = idle; next = s })
+
+-- the state k minutes later
+unfoldable pub later : ℕ → State → State
+later zero s = s
+later (suc k) s = minuteOf (later k s) .next
+
+-- the place that has the minute k minutes later
+abbrev pub placeAt : State → ℕ → ℕ
+placeAt s k = minuteOf (later k s) .place
+
+-- Jackson's preemptive schedule of a day, as the bytes of a plan
+unfoldable pub schedule : Windows → List ℕ
+schedule w = listOf (w .h) (placeAt (morning w))

@@ -1,0 +1,39 @@
+-- Plans.
+use Prim.Native.Nat.{ℕ, _<_, _≤_}
+use mathlib.Core.Path.{_≡_}
+use mathlib.Core.Logic.{_⊎_}
+use mathlib.Core.List.{List}
+use lib.ListN.{length, getD}
+use lib.Dec.{eqb}
+use Rattle.jackson.specs.Counting.{sum, same, firstBelow, lastBelow}
+use Rattle.jackson.specs.Windows.{Windows}
+
+-- the minutes below h that m gives to place i
+abbrev pub minutes : ℕ → (ℕ → ℕ) → ℕ → ℕ
+minutes h m i = sum h (λ t. same (m t) i)
+
+-- "A plan gives each minute 0 to H-1 to one entry or none; entry i has exactly p minutes, all in [r, d)."
+-- m t is the place that has minute t; a number that is no place is none.
+pub record Plan (w : Windows) (m : ℕ → ℕ) : Type 0 where
+  pub exact : (i : ℕ) → i < w .n → minutes (w .h) m i ≡ w .p i
+  pub inside : (i t : ℕ) → i < w .n → t < w .h → m t ≡ i → (w .r i ≤ t) × (t < w .d i)
+
+-- "Its end is its last minute plus 1, its start its first minute." Of an entry without minutes the end is 0 and the start h.
+abbrev pub endOf : ℕ → (ℕ → ℕ) → ℕ → ℕ
+endOf h m i = lastBelow h (λ t. eqb (m t) i)
+
+abbrev pub startOf : ℕ → (ℕ → ℕ) → ℕ → ℕ
+startOf h m i = firstBelow h (λ t. eqb (m t) i)
+
+-- "A plan is H bytes: the place, or 255 for idle."
+abbrev pub idle : ℕ
+idle = 255
+
+-- the places that bytes give to the minutes
+abbrev pub placesIn : List ℕ → ℕ → ℕ
+placesIn bytes t = getD bytes t idle
+
+pub record PlanBytes (w : Windows) (bytes : List ℕ) : Type 0 where
+  pub long : length bytes ≡ w .h
+  pub places : (t : ℕ) → t < w .h → (placesIn bytes t < w .n) ⊎ (placesIn bytes t ≡ idle)
+  pub plan : Plan w (placesIn bytes)

@@ -1,0 +1,39 @@
+-- Jackson's rule as facts about the place chosen, beside the algorithm of Minutes.antt.
+use Prim.Native.Nat.{ℕ, suc, _-_, _<_, _≤_}
+use mathlib.Core.Path.{_≡_}
+use Rattle.jackson.specs.Counting.{same}
+use Rattle.jackson.specs.Windows.{Windows, withLeft}
+use Rattle.jackson.specs.Plans.{idle}
+use Rattle.jackson.specs.Minutes.{State}
+
+-- the entry at place i has its r reached at minute t, and has minutes left
+pub record Ready (w : Windows) (t i : ℕ) : Type 0 where
+  pub place : i < w .n
+  pub released : w .r i ≤ t
+  pub unfinished : 1 ≤ w .p i
+
+-- "at each minute, among entries with r reached and minutes left, take the smallest d"; none is taken only if there is none.
+-- w .p is the minutes left. This says nothing of ties: the law on plans holds for every rule of this kind.
+pub record LeastDeadline (w : Windows) (t k : ℕ) : Type 0 where
+  pub taken : k < w .n → Ready w t k
+  pub least : (i : ℕ) → k < w .n → Ready w t i → w .d k ≤ w .d i
+  pub none : (i : ℕ) → w .n ≤ k → Ready w t i → ⊥
+
+-- the rule with its ties
+pub record Takes (s : State) (k : ℕ) : Type 0 where
+  pub deadline : LeastDeadline (s .windows) (s .t) k
+  -- "The entry that had the minute before, if it has minutes left, goes on unless another d is strictly smaller."
+  pub goes-on : Ready (s .windows) (s .t) (s .last)
+      → ((i : ℕ) → Ready (s .windows) (s .t) i → s .windows .d i < s .windows .d (s .last) → ⊥)
+      → k ≡ s .last
+  -- "Otherwise the lowest place among equals is taken."
+  pub lowest : (i : ℕ) → (k ≡ s .last → ⊥) → k < s .windows .n → Ready (s .windows) (s .t) i → s .windows .d i ≡ s .windows .d k → k ≤ i
+  pub idles : s .windows .n ≤ k → k ≡ idle
+
+-- A rule followed from minute t₀, when w .p is left, to the day's end: m t is the place that has minute t (none before t₀), left t i the
+-- minutes that the entry at place i has left at minute t.
+pub record Follows (w : Windows) (t₀ : ℕ) (m : ℕ → ℕ) (left : ℕ → ℕ → ℕ) : Type 0 where
+  pub before : (t : ℕ) → t < t₀ → w .n ≤ m t
+  pub start : (i : ℕ) → i < w .n → left t₀ i ≡ w .p i
+  pub next : (t i : ℕ) → t₀ ≤ t → t < w .h → i < w .n → left (suc t) i ≡ left t i - same (m t) i
+  pub takes : (t : ℕ) → t₀ ≤ t → t < w .h → LeastDeadline (withLeft w (left t)) t (m t)

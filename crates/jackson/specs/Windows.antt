@@ -1,0 +1,58 @@
+-- "A set of windows has one for each entry." The rules speak of windows by the entry's place, as functions of it.
+use Prim.Native.Nat.{ℕ, _+_, _<_, _≤_, max}
+use lib.ListN.{getD}
+use Rattle.list.specs.DayLists.{entriesOf, blank}
+use Rattle.list.specs.declared.types.DayList.{DayList}
+use Rattle.jackson.specs.declared.types.WindowSet.{WindowSet}
+
+-- a day of h minutes with n entries: the window [r i, d i) of the entry at place i and the p i minutes that it needs
+pub record Windows : Type 0 where
+  pub h : ℕ
+  pub n : ℕ
+  pub r : ℕ → ℕ
+  pub d : ℕ → ℕ
+  pub p : ℕ → ℕ
+
+-- the windows of a list
+abbrev pub windowsOf : DayList → Windows
+windowsOf l =
+    record {
+      h = l .frame .h;
+      n = l .n;
+      r = λ i. getD (entriesOf l) i blank .r;
+      d = λ i. getD (entriesOf l) i blank .d;
+      p = λ i. getD (entriesOf l) i blank .p;
+    }
+
+-- the windows that the code's arrays hold
+abbrev pub windowsIn : WindowSet → Windows
+windowsIn s =
+    record {
+      h = s .h;
+      n = s .n;
+      r = λ i. getD (s .r) i 0;
+      d = λ i. getD (s .d) i 0;
+      p = λ i. getD (s .p) i 0;
+    }
+
+-- "A window [r, d) lies in 0 to H and holds at least p minutes."
+pub record Roomy (w : Windows) : Type 0 where
+  pub in-day : (i : ℕ) → i < w .n → w .d i ≤ w .h
+  pub room : (i : ℕ) → i < w .n → w .r i + w .p i ≤ w .d i
+
+-- "It lies inside another if each of its r is at least, and each of its d at most, the other's."
+pub record Inside (v w : Windows) : Type 0 where
+  pub r : (i : ℕ) → i < w .n → w .r i ≤ v .r i
+  pub d : (i : ℕ) → i < w .n → v .d i ≤ w .d i
+
+-- the same entries with other windows
+abbrev pub withWindows : Windows → (ℕ → ℕ) → (ℕ → ℕ) → Windows
+withWindows w r d = record { h = w .h; n = w .n; r = r; d = d; p = w .p }
+
+-- the same windows with other minutes needed: in a running day, those left
+abbrev pub withLeft : Windows → (ℕ → ℕ) → Windows
+withLeft w p = record { h = w .h; n = w .n; r = w .r; d = w .d; p = p }
+
+-- the windows of the rest of the day: an r before minute t counts as t
+abbrev pub restFrom : ℕ → Windows → Windows
+restFrom t w = withWindows w (λ i. max (w .r i) t) (w .d)

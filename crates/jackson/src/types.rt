@@ -1,0 +1,30 @@
+// The values that a day is planned by.
+use list::types::Verdict;
+
+// A set of windows, by place: the window [r, d) of each of the first n entries of a day of h minutes, and its p minutes of work.
+pub struct WindowSet {
+    pub h: u16,
+    pub n: u8,
+    pub r: [u16; 64],
+    pub d: [u16; 64],
+    pub p: [u16; 64],
+}
+
+// A day that is being planned: its minute t, the entry that had the minute before, 255 for none, and the windows, where p is the minutes left.
+pub struct Day {
+    pub windows: WindowSet,
+    pub t: u16,
+    pub last: u8,
+}
+
+// What a minute gives: the place that has it, 255 for none, and the advanced day.
+pub struct Minute {
+    pub place: u8,
+    pub day: Day,
+}
+
+// What starting a day answers: the day beside Accepted, and the empty list's day beside a refusal.
+pub struct DayAnswer {
+    pub verdict: Verdict,
+    pub day: Day,
+}
