@@ -1,0 +1,15 @@
+pub mod Sums
+pub mod Scans
+pub mod Searches
+pub mod PlanFacts
+pub mod Counted
+pub mod PlanWork
+pub mod OneMinute
+pub mod Runs
+pub mod Endpoints
+pub mod Choices
+pub mod ShownInterval
+mod ScanSteps
+mod MinuteCases
+mod IntervalCases
+mod SpreadCases

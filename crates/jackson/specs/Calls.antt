@@ -15,7 +15,13 @@ use Rattle.jackson.specs.Plans.{Plan, PlanBytes}
 use Rattle.jackson.specs.Minutes.{State, stateOf, morning, schedule, minuteOf}
 use Rattle.jackson.specs.Intervals.{overloadOf}
 use Rattle.jackson.specs.declared.types.Day.{Day}
+use Rattle.jackson.specs.declared.types.Minute.{Minute}
 use Rattle.jackson.specs.declared.types.DayAnswer.{DayAnswer}
+
+-- what a minute gives: the place chosen together with the advanced day
+pub record Turns (day : Day) (m : Minute) : Type 0 where
+  pub place : m .place ≡ minuteOf (stateOf day) .place
+  pub next : stateOf (m .day) ≡ minuteOf (stateOf day) .next
 
 -- the list whose day stands in an answer: the one given, or the empty one beside a refusal
 abbrev pub listBeside : Outcome (Unit {0}) → DayList → DayList

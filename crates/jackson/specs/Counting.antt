@@ -23,13 +23,14 @@ unfoldable pub lastBelow : ℕ → (ℕ → Bool) → ℕ
 lastBelow zero f = 0
 lastBelow (suc n) f = cond (f n) (suc n) (lastBelow n f)
 
--- the best of the numbers below n that pass the test, the lowest of equals, or none, a number that is n or more;
--- `before i k` says that i is strictly better than k
+-- the better of i and the best so far, k or none: i must pass the test, and `before i k` says that it is strictly better than k
+abbrev pub better : ℕ → (ℕ → Bool) → (ℕ → ℕ → Bool) → ℕ → ℕ → ℕ
+better none f before i k = cond (f i && (eqb k none || before i k)) i k
+
+-- the best of the numbers below n that pass the test, the lowest of equals, or none, a number that is n or more
 unfoldable pub best : ℕ → ℕ → (ℕ → Bool) → (ℕ → ℕ → Bool) → ℕ
 best none zero f before = none
-best none (suc n) f before =
-    let k = best none n f before in
-    cond (f n && (eqb k none || before n k)) n k
+best none (suc n) f before = better none f before n (best none n f before)
 
 -- smaller and larger values of f are better
 abbrev pub smaller : (ℕ → ℕ) → ℕ → ℕ → Bool

@@ -34,13 +34,21 @@ pub record Shown (w : Windows) (a b : ℕ) : Type 0 where
 abbrev pub overloaded : Windows → ℕ → ℕ → Bool
 overloaded w a b = ltb a b && ltb (b - a) (work w a b)
 
--- the place whose r is the largest left end of an overloaded interval that ends at b; n if there is none
-unfoldable pub leftEnd : Windows → ℕ → ℕ
-leftEnd w b = best (w .n) (w .n) (λ i. overloaded w (w .r i) b) (larger (w .r))
+-- place i has the left end of an overloaded interval that ends at b
+abbrev pub leftOf : Windows → ℕ → ℕ → Bool
+leftOf w b i = overloaded w (w .r i) b
 
--- the place whose d is the smallest right end of an overloaded interval; n if there is none
+-- the place with the largest of these left ends; n if there is none
+unfoldable pub leftEnd : Windows → ℕ → ℕ
+leftEnd w b = best (w .n) (w .n) (leftOf w b) (larger (w .r))
+
+-- place j has the right end of an overloaded interval
+abbrev pub rightOf : Windows → ℕ → Bool
+rightOf w j = ltb (leftEnd w (w .d j)) (w .n)
+
+-- the place with the smallest of these right ends; n if there is none
 unfoldable pub rightEnd : Windows → ℕ
-rightEnd w = best (w .n) (w .n) (λ j. ltb (leftEnd w (w .d j)) (w .n)) (smaller (w .d))
+rightEnd w = best (w .n) (w .n) (rightOf w) (smaller (w .d))
 
 -- row 9, which carries a, b and work
 unfoldable pub overloadOf : Windows → Outcome (Unit {0})

@@ -4,7 +4,7 @@ use mathlib.Core.Bool.{Bool, cond, not, _&&_}
 use mathlib.Core.List.{List}
 use lib.Dec.{leb, ltb}
 use Rattle.jackson.specs.Counting.{same, best, smaller, listOf}
-use Rattle.jackson.specs.Windows.{Windows, withLeft, windowsIn}
+use Rattle.jackson.specs.Windows.{Windows, withLeft, columns, windowsIn}
 use Rattle.jackson.specs.Plans.{idle}
 use Rattle.jackson.specs.declared.types.Day.{Day}
 
@@ -18,6 +18,10 @@ pub record State : Type 0 where
 -- the state that a value of the code's type holds
 abbrev pub stateOf : Day → State
 stateOf day = record { windows = windowsIn (day .windows); t = day .t; last = day .last }
+
+-- the same of arrays, as far as readiness goes
+abbrev pub arrived : ℕ → ℕ → List ℕ → List ℕ → List ℕ → State
+arrived n t r d left = record { windows = columns 0 n r d left; t = t; last = idle }
 
 -- the state in which a day begins
 abbrev pub morning : Windows → State

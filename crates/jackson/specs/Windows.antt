@@ -1,6 +1,7 @@
 -- "A set of windows has one for each entry." The rules speak of windows by the entry's place, as functions of it.
-use Prim.Native.Nat.{ℕ, _+_, _<_, _≤_, max}
-use lib.ListN.{getD}
+use Prim.Native.Nat.{ℕ, _+_, _<_, _≤_, min, max}
+use mathlib.Core.List.{List}
+use lib.ListN.{length, getD}
 use Rattle.list.specs.DayLists.{entriesOf, blank}
 use Rattle.list.specs.declared.types.DayList.{DayList}
 use Rattle.jackson.specs.declared.types.WindowSet.{WindowSet}
@@ -13,27 +14,24 @@ pub record Windows : Type 0 where
   pub d : ℕ → ℕ
   pub p : ℕ → ℕ
 
--- the windows of a list
+-- the windows of a list's entries
 abbrev pub windowsOf : DayList → Windows
 windowsOf l =
     record {
       h = l .frame .h;
-      n = l .n;
+      n = length (entriesOf l);
       r = λ i. getD (entriesOf l) i blank .r;
       d = λ i. getD (entriesOf l) i blank .d;
       p = λ i. getD (entriesOf l) i blank .p;
     }
 
--- the windows that the code's arrays hold
+-- the windows that arrays hold
+abbrev pub columns : ℕ → ℕ → List ℕ → List ℕ → List ℕ → Windows
+columns h n r d p = record { h = h; n = n; r = λ i. getD r i 0; d = λ i. getD d i 0; p = λ i. getD p i 0 }
+
+-- the windows that a value of the code's type holds: its arrays have 64 places, whatever its n
 abbrev pub windowsIn : WindowSet → Windows
-windowsIn s =
-    record {
-      h = s .h;
-      n = s .n;
-      r = λ i. getD (s .r) i 0;
-      d = λ i. getD (s .d) i 0;
-      p = λ i. getD (s .p) i 0;
-    }
+windowsIn s = columns (s .h) (min (s .n) 64) (s .r) (s .d) (s .p)
 
 -- "A window [r, d) lies in 0 to H and holds at least p minutes."
 pub record Roomy (w : Windows) : Type 0 where

@@ -1,11 +1,11 @@
--- What the crates above may cite: the round trips, and laws on walks over arrays and on runs of stores. The rest serves this crate alone.
+-- What the crates above may cite: what a well-formed list is, inversions of outcomes, the round trips, and laws on walks over arrays and on runs of stores. The rest serves this crate alone.
 mod Table
 mod MapBytes
 mod Places
 mod EntryCases
 mod CheckCases
-mod Inversion
-mod Sound
+pub mod Inversion
+pub mod Sound
 mod ReadCases
 mod FormCases
 mod WriteCases

@@ -1,0 +1,126 @@
+-- The place that the algorithm chooses is the one that Jackson's rule takes, and the rule takes one only.
+-- Assumes nothing.
+use mathlib.Core.Path.{_≡_, refl, sym, ap, _∙_}
+use mathlib.Core.Bool.{Bool, true, false, cond, true≢false, and-eq-true-iff}
+use Prim.Native.Nat.{ℕ, _<_, _≤_}
+use native.Mathlib.Omega.{arith}
+use native.Mathlib.Nat.{le-antisymm}
+use native.Mathlib.Decide.{decLt, ℕ-discrete}
+use borrow.Author.Tests.{leb-true, ltb-true, ltb-false, le-leb, le-ltb, lt-ltb, not-true}
+use lib.Dec.{leb, ltb}
+use Rattle.jackson.specs.Counting.{smaller}
+use Rattle.jackson.specs.Plans.{idle}
+use Rattle.jackson.specs.Minutes.{State, ready, earliest, goesOn, chosen}
+use Rattle.jackson.specs.Rules.{Ready, Takes}
+use Rattle.jackson.proofs.Scans.{Best, smaller-ranks, best-cases, best-some, best-smallest}
+
+module _ (s : State) where
+  -- the algorithm's test of a place, and the rule's words for it
+  of-test : (i : ℕ) → i < s .windows .n → ready s i ≡ true → Ready (s .windows) (s .t) i
+  of-test i h e =
+      let z = and-eq-true-iff (leb (s .windows .r i) (s .t)) (ltb 0 (s .windows .p i)) .0 e in
+      record { place = h; released = leb-true _ _ (z .0); unfinished = ltb-true _ _ (z .1) }
+
+  to-test : (i : ℕ) → Ready (s .windows) (s .t) i → ready s i ≡ true
+  to-test i h = simp (le-leb _ _ (h .released), lt-ltb _ _ (h .unfinished))
+
+  -- the algorithm's test whether the entry that had the minute before goes on
+  of-goes-on : goesOn s ≡ true → Ready (s .windows) (s .t) (s .last) × (s .windows .d (s .last) ≤ s .windows .d (earliest s))
+  of-goes-on e =
+      let y = and-eq-true-iff (ltb (s .last) (s .windows .n)) _ .0 e in
+      let z = and-eq-true-iff (ready s (s .last)) _ .0 (y .1) in
+      (of-test (s .last) (ltb-true _ _ (y .0)) (z .0), ltb-false _ _ (not-true _ (z .1)))
+
+  to-goes-on : Ready (s .windows) (s .t) (s .last) → s .windows .d (s .last) ≤ s .windows .d (earliest s) → goesOn s ≡ true
+  to-goes-on h l = simp (lt-ltb _ _ (h .place), le-leb _ _ (h .released), lt-ltb _ _ (h .unfinished), le-ltb _ _ l)
+
+  module _ (few : s .windows .n ≤ 255) where
+    -- the scan finds a ready entry's place, if there is one
+    scan-some : (i : ℕ) → Ready (s .windows) (s .t) i → Best (s .windows .n) (ready s) (smaller (s .windows .d)) (earliest s)
+    scan-some i h =
+        best-some idle (ready s) (smaller (s .windows .d)) (smaller-ranks (s .windows .d)) (s .windows .n) few i (h .place) (to-test i h)
+
+    least-found : (i : ℕ) → Ready (s .windows) (s .t) i → s .windows .d (earliest s) ≤ s .windows .d i
+    least-found i h = best-smallest (s .windows .n) (ready s) (s .windows .d) (earliest s) (scan-some i h) i (h .place) (to-test i h)
+
+    -- ready places below the one found have a larger d
+    larger-below : (i : ℕ) → i < earliest s → Ready (s .windows) (s .t) i → s .windows .d (earliest s) < s .windows .d i
+    larger-below i l h = ltb-true _ _ (scan-some i h .lowest i l (to-test i h))
+
+    -- the entry that had the minute before
+    takes-last : goesOn s ≡ true → Takes s (s .last)
+    takes-last e =
+        let z = of-goes-on e in
+        record {
+          deadline =
+              record {
+                taken = λ _. z .0;
+                least = λ i _ h. omega (arith, least-found i h);
+                none = λ i h _. omega arith;
+              };
+          goes-on = λ _ _. refl;
+          lowest = λ i other _ _ _. absurd (other refl);
+          idles = λ h. absurd (omega arith);
+        }
+
+    -- or else the lowest of the ready places with the smallest d
+    takes-earliest : goesOn s ≡ false → Takes s (earliest s)
+    takes-earliest e =
+        best-cases idle (ready s) (smaller (s .windows .d)) (smaller-ranks (s .windows .d)) (s .windows .n) few (Takes s (earliest s))
+        (λ q empty.
+        record {
+          deadline =
+              record {
+                taken = λ h. absurd (omega arith);
+                least = λ i h _. absurd (omega arith);
+                none = λ i _ h. empty i (h .place) (to-test i h);
+              };
+          goes-on = λ h _. absurd (empty (s .last) (h .place) (to-test (s .last) h));
+          lowest = λ i _ h _ _. absurd (omega arith);
+          idles = λ _. q;
+        })
+        (λ b.
+        let first = of-test (earliest s) (b .below) (b .passes) in
+        record {
+          deadline =
+              record {
+                taken = λ _. first;
+                least = λ i _ h. least-found i h;
+                none = λ i h _. omega (arith, b .below);
+              };
+          goes-on = λ h alone. absurd (true≢false (sym (to-goes-on h (omega (arith, alone (earliest s) first))) ∙ e));
+          lowest = λ i _ _ h q. let above : i < earliest s → ⊥ = λ l. omega (arith, larger-below i l h) in omega arith;
+          idles = λ h. absurd (omega (arith, b .below));
+        })
+
+    -- the place chosen is one that the rule takes
+    pub chosen-takes : Takes s (chosen s)
+    unfolding chosen
+    chosen-takes = go (goesOn s) refl
+      where
+        go : (t : Bool) → goesOn s ≡ t → Takes s (cond t (s .last) (earliest s))
+        go true e = takes-last e
+        go false e = takes-earliest e
+
+-- the rule leaves one choice: of two, neither is above the other
+not-above : (s : State) (j k : ℕ) → Takes s j → Takes s k → j ≤ k
+not-above s j k a b = go (decLt j (s .windows .n)) (decLt k (s .windows .n)) (ℕ-discrete j (s .last))
+  where
+    go : Dec (j < s .windows .n) → Dec (k < s .windows .n) → Dec (j ≡ s .last) → j ≤ k
+    go (yes h) (yes l) (yes q) =
+        let d = ap (s .windows .d) q in
+        omega (arith, b .goes-on (rw q at (a .deadline .taken h)) (λ i r less. omega (arith, a .deadline .least i h r)))
+    go (yes h) (yes l) (no q) =
+        let x = a .deadline .taken h in
+        let y = b .deadline .taken l in
+        a .lowest k q h y (omega (arith, a .deadline .least k h y, b .deadline .least j l x))
+    go (yes h) (no l) q = omega arith
+    go (no h) (yes l) q = absurd (a .deadline .none k (omega arith) (b .deadline .taken l))
+    go (no h) (no l) q = omega (arith, a .idles (omega arith), b .idles (omega arith))
+
+pub takes-one : (s : State) (j k : ℕ) → Takes s j → Takes s k → j ≡ k
+takes-one s j k a b = le-antisymm (not-above s j k a b) (not-above s k j b a)
+
+-- so the rule takes the place chosen, and no other
+pub takes-chosen : (s : State) (k : ℕ) → s .windows .n ≤ 255 → Takes s k → k ≡ chosen s
+takes-chosen s k few h = takes-one s k (chosen s) h (chosen-takes s few)

@@ -1,0 +1,162 @@
+-- Facts about plans alone: their mirrors, their starts and ends, wider windows, and the room that a plan needs.
+-- Assumes nothing.
+use mathlib.Core.Path.{_≡_, ap, _∙_, fun-ext}
+use mathlib.Core.Bool.{cond, _&&_}
+use Prim.Native.Nat.{ℕ, suc, _+_, _-_, _<_, _≤_}
+use native.Mathlib.Omega.{arith}
+use borrow.Author.Tests.{eqb-true, eq-eqb}
+use lib.Dec.{eqb, leb, ltb}
+use Rattle.jackson.specs.Counting.{same}
+use Rattle.jackson.specs.Windows.{Windows, Roomy, Inside, withWindows}
+use Rattle.jackson.specs.Plans.{minutes, Plan, startOf, endOf}
+use Rattle.jackson.specs.Mirrors.{mirror, mirrorPlan}
+use Rattle.jackson.proofs.Sums.{le-or-lt, same-cases, same-ne, between-is, sum-le, sum-zero, sum-reverse, count-between}
+use Rattle.jackson.proofs.Searches.{First, first-below, last-below, last-first, first-last, turn-back}
+
+-- Mirrors.
+
+-- a place has as many minutes in the mirror
+mirror-minutes : (h : ℕ) (m : ℕ → ℕ) (i : ℕ) → minutes h (mirrorPlan h m) i ≡ minutes h m i
+mirror-minutes h m i = sum-reverse h (λ t. same (m t) i)
+
+-- the mirror of a plan is a plan for the mirrored windows
+pub mirror-plan : (w : Windows) (m : ℕ → ℕ) → Plan w m → Plan (mirror w) (mirrorPlan (w .h) m)
+mirror-plan w m plan =
+    record {
+      exact = λ i place. mirror-minutes (w .h) m i ∙ plan .exact i place;
+      inside = λ i t place below e. let z = plan .inside i (w .h - suc t) place (omega arith) e in (omega arith, omega arith);
+    }
+
+-- windows inside the day are the mirror of their mirror
+pub mirror-mirror : (w : Windows) → ((i : ℕ) → w .r i ≤ w .h) → ((i : ℕ) → w .d i ≤ w .h) → mirror (mirror w) ≡ w
+mirror-mirror w release deadline =
+    λ j.
+    record {
+      h = w .h;
+      n = w .n;
+      r = fun-ext (λ i. twice (w .r i) (release i)) j;
+      d = fun-ext (λ i. twice (w .d i) (deadline i)) j;
+      p = w .p;
+    }
+  where
+    twice : (x : ℕ) → x ≤ w .h → w .h - (w .h - x) ≡ x
+    twice x h = omega arith
+
+-- and so is a plan, in the day's minutes
+pub mirror-twice : (h : ℕ) (m : ℕ → ℕ) (t : ℕ) → t < h → mirrorPlan h (mirrorPlan h m) t ≡ m t
+mirror-twice h m t below = ap m (turn-back h t below)
+
+-- windows with room have it in the mirror
+pub mirror-roomy : (w : Windows) → Roomy w → Roomy (mirror w)
+mirror-roomy w roomy =
+    record {
+      in-day = λ i place. omega arith;
+      room = λ i place. omega (arith, roomy .in-day i place, roomy .room i place);
+    }
+
+-- starts and ends change places
+pub mirror-end : (h : ℕ) (m : ℕ → ℕ) (i : ℕ) → endOf h (mirrorPlan h m) i ≡ h - startOf h m i
+mirror-end h m i = last-first h (λ t. eqb (m t) i)
+
+pub mirror-start : (h : ℕ) (m : ℕ → ℕ) (i : ℕ) → startOf h (mirrorPlan h m) i ≡ h - endOf h m i
+mirror-start h m i = first-last h (λ t. eqb (m t) i)
+
+-- Starts and ends.
+
+-- s is the first minute that m gives to place i
+pub record IsStart (h : ℕ) (m : ℕ → ℕ) (i s : ℕ) : Type 0 where
+  pub below : s < h
+  pub minute : m s ≡ i
+  pub none-before : (t : ℕ) → t < s → m t ≡ i → ⊥
+
+-- e is the last minute that m gives to place i, plus 1
+pub record IsEnd (h : ℕ) (m : ℕ → ℕ) (i e : ℕ) : Type 0 where
+  pub after-one : 1 ≤ e
+  pub within : e ≤ h
+  pub minute : m (e - 1) ≡ i
+  pub none-after : (t : ℕ) → e ≤ t → t < h → m t ≡ i → ⊥
+
+module _ (h : ℕ) (m : ℕ → ℕ) (i : ℕ) where
+  -- the minutes of a place, all of which lie in [a, b), are at most b - a
+  pub minutes-within : (a b : ℕ) → ((t : ℕ) → t < h → m t ≡ i → (a ≤ t) × (t < b)) → minutes h m i ≤ b - a
+  minutes-within a b within = omega (arith, sum-le h _ _ each, count-between h a b)
+    where
+      each : (t : ℕ) → t < h → same (m t) i ≤ cond (leb a t && ltb t b) 1 0
+      each t below =
+          same-cases (m t) i
+          (λ e is. let z = within t below e in omega (arith, between-is a b t (suc t) 1 (z .0) (z .1)))
+          (λ _ is. omega arith)
+
+  -- a place with minutes has a start
+  pub start-is : 1 ≤ minutes h m i → IsStart h m i (startOf h m i)
+  start-is some = record { below = below; minute = eqb-true _ _ (first .passes below); none-before = none }
+    where
+      first : First h (λ t. eqb (m t) i) (startOf h m i)
+      first = first-below h (λ t. eqb (m t) i)
+
+      none : (t : ℕ) → t < startOf h m i → m t ≡ i → ⊥
+      none t l e = first .none-before t l (eq-eqb (m t) i e)
+
+      below : startOf h m i < h
+      below =
+          le-or-lt h (startOf h m i)
+          (λ l. absurd (omega (arith, sum-zero h _ (λ t b. same-ne (m t) i (none t (omega arith))))))
+          (λ l. l)
+
+-- and an end, the mirror of the mirrored start
+pub end-is : (h : ℕ) (m : ℕ → ℕ) (i : ℕ) → 1 ≤ minutes h m i → IsEnd h m i (endOf h m i)
+end-is h m i some =
+    let s = rw (mirror-start h m i) at (start-is h (mirrorPlan h m) i (omega (arith, mirror-minutes h m i))) in
+    let within = last-below h (λ t. eqb (m t) i) .within in
+    let e : h - suc (h - endOf h m i) ≡ endOf h m i - 1 = omega (arith, s .below) in
+    record {
+      after-one = omega (arith, s .below);
+      within = within;
+      minute = rw (← e) (s .minute);
+      none-after = λ t l b q. s .none-before (h - suc t) (omega arith) (mirror-twice h m t b ∙ q);
+    }
+
+-- Plans.
+
+-- a plan for windows is one for those that they lie inside
+pub widen : (w : Windows) (r d : ℕ → ℕ) (m : ℕ → ℕ) → Inside (withWindows w r d) w → Plan (withWindows w r d) m → Plan w m
+widen w r d m narrow plan =
+    record {
+      exact = plan .exact;
+      inside =
+          λ i t place below e.
+          let z = plan .inside i t place below e in
+          (omega (arith, narrow .r i place), omega (arith, narrow .d i place));
+    }
+
+module _ (w : Windows) (m : ℕ → ℕ) (plan : Plan w m) (i : ℕ) (place : i < w .n) (some : 1 ≤ w .p i) where
+  -- a window in a plan has room for its entry's minutes
+  pub plan-room : w .r i + w .p i ≤ w .d i
+  plan-room = omega (arith, plan .exact i place, minutes-within (w .h) m i (w .r i) (w .d i) (λ t. plan .inside i t place))
+
+  -- an entry's start and end in a plan
+  pub plan-start : IsStart (w .h) m i (startOf (w .h) m i)
+  plan-start = start-is (w .h) m i (omega (arith, plan .exact i place))
+
+  pub plan-end : IsEnd (w .h) m i (endOf (w .h) m i)
+  plan-end = end-is (w .h) m i (omega (arith, plan .exact i place))
+
+  -- they lie in the window
+  pub start-released : w .r i ≤ startOf (w .h) m i
+  start-released = plan .inside i (startOf (w .h) m i) place (plan-start .below) (plan-start .minute) .0
+
+  pub end-due : endOf (w .h) m i ≤ w .d i
+  end-due =
+      let one = plan-end .after-one in
+      let below : endOf (w .h) m i - 1 < w .h = omega (arith, plan-end .within) in
+      omega (arith, plan .inside i (endOf (w .h) m i - 1) place below (plan-end .minute) .1)
+
+  -- the minutes lie between them
+  pub minute-between : (t : ℕ) → t < w .h → m t ≡ i → (startOf (w .h) m i ≤ t) × (t < endOf (w .h) m i)
+  minute-between t below e =
+      let early : t < startOf (w .h) m i → ⊥ = λ l. plan-start .none-before t l e in
+      let late : endOf (w .h) m i ≤ t → ⊥ = λ l. plan-end .none-after t l below e in
+      (omega arith, omega arith)
+
+  pub start-end : startOf (w .h) m i + w .p i ≤ endOf (w .h) m i
+  start-end = omega (arith, plan .exact i place, minutes-within (w .h) m i _ _ minute-between)

@@ -1,0 +1,76 @@
+-- The first and the last number below a bound that pass a test; the last is the first of the other way round.
+-- Assumes nothing.
+use mathlib.Core.Path.{_≡_, refl, sym, ap, _∙_}
+use mathlib.Core.Bool.{Bool, true, false, cond, false≢true}
+use Prim.Native.Nat.{ℕ, zero, suc, _-_, _<_, _≤_}
+use native.Mathlib.Omega.{arith}
+use Rattle.jackson.specs.Counting.{firstBelow, lastBelow}
+
+-- t passes and is below n, or is n; nothing below it passes
+pub record First (n : ℕ) (f : ℕ → Bool) (t : ℕ) : Type 0 where
+  pub within : t ≤ n
+  pub passes : t < n → f t ≡ true
+  pub none-before : (i : ℕ) → i < t → f i ≡ true → ⊥
+
+-- e is 0, or e - 1 passes and is below n; nothing from e up to n passes
+pub record Last (n : ℕ) (f : ℕ → Bool) (e : ℕ) : Type 0 where
+  pub within : e ≤ n
+  pub passes : 1 ≤ e → f (e - 1) ≡ true
+  pub none-after : (i : ℕ) → e ≤ i → i < n → f i ≡ true → ⊥
+
+-- what a search for the first answers
+pub first-below : (n : ℕ) (f : ℕ → Bool) → First n f (firstBelow n f)
+unfolding firstBelow
+first-below zero f = record { within = omega arith; passes = λ h. absurd (omega arith); none-before = λ i h _. omega arith }
+first-below (suc n) f = go (f 0) _ refl (first-below n (λ i. f (suc i)))
+  where
+    go : (b : Bool) (t : ℕ) → f 0 ≡ b → First n (λ i. f (suc i)) t → First (suc n) f (cond b 0 (suc t))
+    go true t e rest = record { within = omega arith; passes = λ _. e; none-before = λ i h _. omega arith }
+    go false t e rest =
+        record {
+          within = omega arith;
+          passes = λ h. rest .passes (omega arith);
+          none-before = elim [ zero ↦ λ h p. false≢true (sym e ∙ p) | suc i ↦ λ h p. rest .none-before i (omega arith) p ];
+        }
+
+-- a search for the last looks at the tests below n alone
+last-cong : (n : ℕ) (f g : ℕ → Bool) → ((i : ℕ) → i < n → f i ≡ g i) → lastBelow n f ≡ lastBelow n g
+unfolding lastBelow
+last-cong zero f g h = refl
+last-cong (suc n) f g h = rw (h n (omega arith), last-cong n f g (λ i l. h i (omega arith)))
+
+-- the same numbers the other way round: a search for the last is one for the first
+pub last-first : (h : ℕ) (f : ℕ → Bool) → lastBelow h (λ t. f (h - suc t)) ≡ h - firstBelow h f
+unfolding firstBelow lastBelow
+last-first zero f = refl
+last-first (suc h) f =
+    let step : (t : ℕ) → t < h → f (suc h - suc t) ≡ f (suc (h - suc t)) = λ t l. ap f (omega arith) in
+    let end : suc h - suc h ≡ 0 = omega arith in
+    rw end (go (f 0) _ _ (last-cong h _ _ step ∙ last-first h (λ t. f (suc t))))
+  where
+    go : (b : Bool) (x y : ℕ) → x ≡ h - y → _≡_ {A = ℕ} (cond b (suc h) x) (suc h - cond b 0 (suc y))
+    go true x y e = omega arith
+    go false x y e = omega arith
+
+-- a number's place the other way round, taken twice
+pub turn-back : (h t : ℕ) → t < h → h - suc (h - suc t) ≡ t
+turn-back h t l = omega arith
+
+module _ (h : ℕ) (f : ℕ → Bool) where
+  last-turned : lastBelow h f ≡ h - firstBelow h (λ t. f (h - suc t))
+  last-turned = last-cong h _ _ (λ t l. ap f (sym (turn-back h t l))) ∙ last-first h (λ t. f (h - suc t))
+
+  pub first-last : firstBelow h (λ t. f (h - suc t)) ≡ h - lastBelow h f
+  first-last = omega (arith, last-turned, first-below h (λ t. f (h - suc t)) .within)
+
+  -- what a search for the last answers
+  pub last-below : Last h f (lastBelow h f)
+  last-below =
+      let t = firstBelow h (λ t. f (h - suc t)) in
+      let first = first-below h (λ t. f (h - suc t)) in
+      let e : h - suc t ≡ lastBelow h f - 1 = omega (arith, last-turned) in
+      record {
+        within = omega (arith, last-turned);
+        passes = λ l. rw (← e) (first .passes (omega (arith, last-turned)));
+        none-after = λ i k l p. first .none-before (h - suc i) (omega (arith, last-turned)) (rw (turn-back h i l) p);
+      }

@@ -1,0 +1,2 @@
+-- Copying the windows of a list into arrays.
+-- Assumes nothing.

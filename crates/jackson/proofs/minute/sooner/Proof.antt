@@ -1,0 +1,73 @@
+-- The better of place i and the best so far is the definition's, in each case.
+-- Assumes nothing.
+use borrow.Author.Needs.{needs}
+use mathlib.Core.Path.{sym, _∙_}
+use borrow.Author.Tests.{lt-ltb, le-ltb}
+use Rattle.jackson.proofs.ScanSteps.{unfit, first, wins, stays}
+use Rattle.jackson.proofs.minute.sooner.Statement.{statement}
+use Rattle.jackson.proofs.minute.sooner.Tie as tie
+
+mul-is-ready : tie.Need-mul-is-ready
+mul-is-ready c = search needs
+
+element-copy-out-is-ready : tie.Need-element-copy-out-is-ready
+element-copy-out-is-ready c = search needs
+
+mul-is-ready-2 : tie.Need-mul-is-ready-2
+mul-is-ready-2 c = search needs
+
+element-copy-out-is-ready-2 : tie.Need-element-copy-out-is-ready-2
+element-copy-out-is-ready-2 c = search needs
+
+is-ready-requires : tie.Need-is-ready-requires
+is-ready-requires c κs = search needs
+
+returns : tie.Need-returns
+returns c = unfit _ _ _ _ _ (sym (c .before .is-ready .ensures) ∙ c .if1 .taken)
+
+cast-result : tie.Need-cast-result
+cast-result c = search needs
+
+returns-2 : tie.Need-returns-2
+returns-2 c = first _ _ _ _ _ (sym (c .before .before .is-ready .ensures) ∙ c .before .if1 .left) (c .if2 .taken)
+
+mul-if3 : tie.Need-mul-if3
+mul-if3 c = search needs
+
+element-copy-out-if3 : tie.Need-element-copy-out-if3
+element-copy-out-if3 c = search needs
+
+mul-if3-2 : tie.Need-mul-if3-2
+mul-if3-2 c = search (needs, c .before .before .before .before .before .before .pre .1 (c .before .if2 .left))
+
+element-copy-out-if3-2 : tie.Need-element-copy-out-if3-2
+element-copy-out-if3-2 c = search (needs, c .before .before .before .before .before .before .pre .1 (c .before .if2 .left))
+
+cast-result-2 : tie.Need-cast-result-2
+cast-result-2 c = search needs
+
+returns-3 : tie.Need-returns-3
+returns-3 c = wins _ _ _ _ _ (sym (c .before .before .before .before .before .is-ready .ensures) ∙ c .before .before .before .before .if1 .left) (c .before .before .before .if2 .left) (lt-ltb _ _ (c .if3 .taken))
+
+returns-4 : tie.Need-returns-4
+returns-4 c = stays _ _ _ _ _ (c .before .before .before .if2 .left) (le-ltb _ _ (c .if3 .left))
+
+pub sooner-spec : {M : Type 1} → statement M
+sooner-spec =
+    tie.close
+    (tie.spec
+    mul-is-ready
+    element-copy-out-is-ready
+    mul-is-ready-2
+    element-copy-out-is-ready-2
+    is-ready-requires
+    returns
+    cast-result
+    returns-2
+    mul-if3
+    element-copy-out-if3
+    mul-if3-2
+    element-copy-out-if3-2
+    cast-result-2
+    returns-3
+    returns-4)

@@ -1,0 +1,96 @@
+// Starting a day and filling a plan buffer.
+use crate::interval::overload_in;
+use crate::spread::untested_windows;
+use crate::types::Day;
+use crate::types::DayAnswer;
+use crate::types::WindowSet;
+use list::types::DayList;
+use list::types::Refusal;
+use list::types::Verdict;
+ghost use mathlib.Core.Path.{_≡_};
+ghost use mathlib.Core.List.{_++_};
+ghost use Prim.Native.Nat.{_≤_};
+ghost use lib.ListN.{length, drop};
+ghost use Rattle.list.specs.DayLists.{emptyList};
+ghost use Rattle.jackson.specs.Counting.{listOf};
+ghost use Rattle.jackson.specs.Windows.{windowsOf, windowsIn};
+ghost use Rattle.jackson.specs.Minutes.{stateOf, morning, placeAt};
+ghost use Rattle.jackson.specs.Calls.{Starts, Fills};
+
+// A day's first state.
+fn first_minute(windows: WindowSet) -> Day
+    ensures { λ day. ⌜ stateOf day ≡ morning (windowsIn windows) ⌝ }
+{
+    Day {
+        windows: windows,
+        t: 0,
+        last: 255,
+    }
+}
+
+// The windows of the empty list.
+fn no_windows() -> WindowSet
+    ensures { λ w. ⌜ windowsIn w ≡ windowsOf emptyList ⌝ }
+{
+    WindowSet {
+        h: 0,
+        n: 0,
+        r: [0; 64],
+        d: [0; 64],
+        p: [0; 64],
+    }
+}
+
+// Starts the day of a list: the value check, then the day's first state.
+pub fn start_day(list: DayList) -> DayAnswer
+    ensures { λ a. ⌜ Starts list a ⌝ }
+{
+    let verdict = list::check(list);
+    let Verdict::Accepted = verdict else {
+        return DayAnswer {
+            verdict: verdict,
+            day: first_minute(no_windows()),
+        };
+    };
+    DayAnswer {
+        verdict: verdict,
+        day: first_minute(untested_windows(list)),
+    }
+}
+
+// Stores the places of the next h minutes.
+fn store_places(day: Day, h: usize, plan: &mut [u8])
+    requires { ⌜ h ≤ length (now plan) ⌝ }
+    ensures { λ _. ⌜ now (plan .exit) ≡ listOf h (placeAt (stateOf day)) ++ drop h (now (plan .entry)) ⌝ }
+{
+    let mut today = day;
+    let mut i: usize = 0;
+    while i < h {
+        let minute = today.minute();
+        plan[i] = minute.place;
+        today = minute.day;
+        i += 1;
+    }
+}
+
+// Fills a plan buffer with Jackson's schedule of the windows as given: the value check, then rows 11 and 9.
+pub fn schedule(list: DayList, plan: &mut [u8]) -> Verdict
+    ensures { λ v. ⌜ Fills list (now (plan .entry)) v (now (plan .exit)) ⌝ }
+{
+    let started = start_day(list);
+    let verdict = started.verdict;
+    let Verdict::Accepted = verdict else {
+        return verdict;
+    };
+    let day = started.day;
+    let h = list.frame.h as usize;
+    if plan.len() < h {
+        return Verdict::Refused(Refusal::PlanBufferShort(h));
+    }
+    let test = overload_in(day.windows);
+    let Verdict::Accepted = test else {
+        return test;
+    };
+    store_places(day, h, plan);
+    Verdict::Accepted
+}

@@ -1,0 +1,166 @@
+// Overloaded intervals.
+use crate::spread::held;
+use crate::spread::untested_windows;
+use crate::types::WindowSet;
+use list::types::DayList;
+use list::types::Refusal;
+use list::types::Verdict;
+ghost use mathlib.Core.Path.{_≡_};
+ghost use mathlib.Core.Bool.{_&&_, cond};
+ghost use Prim.Native.Nat.{_<_, _≤_};
+ghost use lib.Dec.{leb};
+ghost use lib.ListN.{getD};
+ghost use Rattle.list.specs.Refusals.{verdictOf};
+ghost use Rattle.jackson.specs.Counting.{better, smaller, larger};
+ghost use Rattle.jackson.specs.Windows.{columns, windowsIn};
+ghost use Rattle.jackson.specs.Intervals.{work, overloaded, leftOf, leftEnd, rightOf, rightEnd, overloadOf};
+ghost use Rattle.jackson.specs.Calls.{Tests};
+
+// An entry's part in the work of [a, b).
+fn share(a: u16, b: u16, r: u16, d: u16, p: u16) -> u16
+    ensures { λ x. ⌜ x ≡ cond (leb a r && leb d b) p 0 ⌝ }
+{
+    if r < a {
+        return 0;
+    }
+    if b < d {
+        return 0;
+    }
+    p
+}
+
+// The work of [a, b).
+fn work_in(count: usize, r: &[u16; 64], d: &[u16; 64], p: &[u16; 64], a: u16, b: u16) -> u32
+    requires { ⌜ count ≤ 64 ⌝ }
+    ensures { λ x. ⌜ x ≡ work (columns 0 count (now (r .entry)) (now (d .entry)) (now (p .entry))) a b ⌝ }
+{
+    let mut sum: u32 = 0;
+    let mut i: usize = 0;
+    while i < count {
+        sum += share(a, b, r[i], d[i], p[i]) as u32;
+        i += 1;
+    }
+    sum
+}
+
+// Whether [a, b) is an interval with more work than minutes.
+fn is_overloaded(count: usize, r: &[u16; 64], d: &[u16; 64], p: &[u16; 64], a: u16, b: u16) -> bool
+    requires { ⌜ count ≤ 64 ⌝ }
+    ensures { λ x. ⌜ x ≡ overloaded (columns 0 count (now (r .entry)) (now (d .entry)) (now (p .entry))) a b ⌝ }
+{
+    if b <= a {
+        return false;
+    }
+    ((b - a) as u32) < work_in(count, r, d, p, a, b)
+}
+
+// The better of place i and the best so far, count for none: the larger left end of an overloaded interval that ends at b, else the lower place.
+fn larger_left(
+    count: usize,
+    r: &[u16; 64],
+    d: &[u16; 64],
+    p: &[u16; 64],
+    b: u16,
+    i: usize,
+    k: usize,
+) -> usize
+    requires { ⌜ count ≤ 64 ⌝ }
+    requires { ⌜ i < count ⌝ }
+    requires { ⌜ k ≤ count ⌝ }
+    ensures { λ x. ⌜ x ≡ better count (leftOf (columns 0 count (now (r .entry)) (now (d .entry)) (now (p .entry))) b) (larger (λ j. getD (now (r .entry)) j 0)) i k ⌝ }
+{
+    if k < count {
+        if r[i] <= r[k] {
+            return k;
+        }
+    }
+    if is_overloaded(count, r, d, p, r[i], b) {
+        i
+    } else {
+        k
+    }
+}
+
+// The place whose r is the largest left end of an overloaded interval that ends at b, count for none.
+fn left_end(count: usize, r: &[u16; 64], d: &[u16; 64], p: &[u16; 64], b: u16) -> usize
+    requires { ⌜ count ≤ 64 ⌝ }
+    ensures { λ k. ⌜ k ≡ leftEnd (columns 0 count (now (r .entry)) (now (d .entry)) (now (p .entry))) b ⌝ }
+{
+    let mut k: usize = count;
+    let mut i: usize = 0;
+    while i < count {
+        k = larger_left(count, r, d, p, b, i, k);
+        i += 1;
+    }
+    k
+}
+
+// The better of place i and the best so far, count for none: the smaller right end of an overloaded interval, else the lower place.
+fn smaller_right(
+    count: usize,
+    r: &[u16; 64],
+    d: &[u16; 64],
+    p: &[u16; 64],
+    i: usize,
+    k: usize,
+) -> usize
+    requires { ⌜ count ≤ 64 ⌝ }
+    requires { ⌜ i < count ⌝ }
+    requires { ⌜ k ≤ count ⌝ }
+    ensures { λ x. ⌜ x ≡ better count (rightOf (columns 0 count (now (r .entry)) (now (d .entry)) (now (p .entry)))) (smaller (λ j. getD (now (d .entry)) j 0)) i k ⌝ }
+{
+    if k < count {
+        if d[k] <= d[i] {
+            return k;
+        }
+    }
+    if left_end(count, r, d, p, d[i]) < count {
+        i
+    } else {
+        k
+    }
+}
+
+// The place whose d is the smallest right end of an overloaded interval, count for none.
+fn right_end(count: usize, r: &[u16; 64], d: &[u16; 64], p: &[u16; 64]) -> usize
+    requires { ⌜ count ≤ 64 ⌝ }
+    ensures { λ k. ⌜ k ≡ rightEnd (columns 0 count (now (r .entry)) (now (d .entry)) (now (p .entry))) ⌝ }
+{
+    let mut k: usize = count;
+    let mut i: usize = 0;
+    while i < count {
+        k = smaller_right(count, r, d, p, i, k);
+        i += 1;
+    }
+    k
+}
+
+// Row 9 for windows, whatever they are: the overloaded interval with the smallest b, and with it the largest a, and its work.
+pub fn overload_in(windows: WindowSet) -> Verdict
+    ensures { λ v. ⌜ verdictOf v ≡ overloadOf (windowsIn windows) ⌝ }
+{
+    let count = held(windows.n);
+    let r = windows.r;
+    let d = windows.d;
+    let p = windows.p;
+    let j = right_end(count, &r, &d, &p);
+    if count <= j {
+        return Verdict::Accepted;
+    }
+    let b = d[j];
+    let i = left_end(count, &r, &d, &p, b);
+    let a = r[i];
+    let work = work_in(count, &r, &d, &p, a, b);
+    Verdict::Refused(Refusal::Overloaded(a, b, work))
+}
+
+// The overload test of a list: the value check, then row 9.
+pub fn overload(list: DayList) -> Verdict
+    ensures { λ v. ⌜ Tests list v ⌝ }
+{
+    let verdict = list::check(list);
+    let Verdict::Accepted = verdict else {
+        return verdict;
+    };
+    overload_in(untested_windows(list))
+}

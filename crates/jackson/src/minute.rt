@@ -1,0 +1,120 @@
+// Jackson's minute.
+use crate::spread::held;
+use crate::types::Day;
+use crate::types::Minute;
+use crate::types::WindowSet;
+ghost use mathlib.Core.Path.{_≡_};
+ghost use mathlib.Core.Bool.{_&&_};
+ghost use Prim.Native.Nat.{_-_, _<_, _≤_};
+ghost use lib.Dec.{leb, ltb};
+ghost use lib.ListN.{getD};
+ghost use Rattle.jackson.specs.Counting.{better, smaller};
+ghost use Rattle.jackson.specs.Windows.{windowsIn};
+ghost use Rattle.jackson.specs.Plans.{idle};
+ghost use Rattle.jackson.specs.Minutes.{ready, earliest, chosen, stateOf, after, arrived};
+ghost use Rattle.jackson.specs.Calls.{Turns};
+
+// An entry has its r reached and minutes left.
+fn is_ready(t: u16, r: u16, left: u16) -> bool
+    ensures { λ b. ⌜ b ≡ leb r t && ltb 0 left ⌝ }
+{
+    if r <= t { 0 < left } else { false }
+}
+
+// The better of place i and the best so far, 255 for none: the ready one with the smaller d, else the lower.
+fn sooner(i: usize, k: u8, t: u16, r: &[u16; 64], d: &[u16; 64], left: &[u16; 64]) -> u8
+    requires { ⌜ i < 64 ⌝ }
+    requires { ⌜ ((k ≡ idle → ⊥) → k < 64) ⌝ }
+    ensures { λ x. ⌜ x ≡ better idle (ready (arrived 64 t (now (r .entry)) (now (d .entry)) (now (left .entry)))) (smaller (λ j. getD (now (d .entry)) j 0)) i k ⌝ }
+{
+    if !is_ready(t, r[i], left[i]) {
+        return k;
+    }
+    if k == 255 {
+        return i as u8;
+    }
+    if d[i] < d[k as usize] {
+        return i as u8;
+    }
+    k
+}
+
+// The ready place with the smallest d, the lowest among equals, 255 for none.
+fn earliest_ready(count: usize, t: u16, r: &[u16; 64], d: &[u16; 64], left: &[u16; 64]) -> u8
+    requires { ⌜ count ≤ 64 ⌝ }
+    ensures { λ k. ⌜ k ≡ earliest (arrived count t (now (r .entry)) (now (d .entry)) (now (left .entry))) ⌝ }
+{
+    let mut k: u8 = 255;
+    let mut i: usize = 0;
+    while i < count {
+        k = sooner(i, k, t, r, d, left);
+        i += 1;
+    }
+    k
+}
+
+// The place that has minute t, 255 for none.
+fn choice(windows: WindowSet, t: u16, last: u8) -> u8
+    ensures { λ k. ⌜ k ≡ chosen (record { windows = windowsIn windows; t = t; last = last }) ⌝ }
+{
+    let count = held(windows.n);
+    let r = windows.r;
+    let d = windows.d;
+    let left = windows.p;
+    let k = earliest_ready(count, t, &r, &d, &left);
+    let running = last as usize;
+    if count <= running {
+        return k;
+    }
+    if !is_ready(t, r[running], left[running]) {
+        return k;
+    }
+    if d[k as usize] < d[running] {
+        return k;
+    }
+    last
+}
+
+fn one_less(x: u16) -> u16
+    ensures { λ y. ⌜ y ≡ x - 1 ⌝ }
+{
+    if x == 0 { 0 } else { x - 1 }
+}
+
+// The day after place k, or none, had its minute.
+fn advanced(day: Day, k: u8) -> Day
+    requires { ⌜ day .t < 65535 ⌝ }
+    ensures { λ next. ⌜ stateOf next ≡ after (stateOf day) k ⌝ }
+{
+    let mut windows = day.windows;
+    let place = k as usize;
+    if place < 64 {
+        windows.p[place] = one_less(windows.p[place]);
+    }
+    Day {
+        windows: windows,
+        t: day.t + 1,
+        last: k,
+    }
+}
+
+impl Day {
+    // Gives the minute to an entry or to none, with the day after it. A day past its end is idle and stays as it is.
+    pub fn minute(self) -> Minute
+        ensures { λ m. ⌜ Turns self m ⌝ }
+    {
+        let t = self.t;
+        let windows = self.windows;
+        if windows.h <= t {
+            return Minute {
+                place: 255,
+                day: self,
+            };
+        }
+        let k = choice(windows, t, self.last);
+        Minute {
+            place: k,
+            day: advanced(self, k),
+        }
+    }
+}

@@ -1,0 +1,45 @@
+// The windows of a list, in arrays by place.
+use crate::types::WindowSet;
+use list::types::DayList;
+ghost use mathlib.Core.Path.{_≡_};
+ghost use Prim.Native.Nat.{min};
+ghost use lib.ListN.{replicate};
+ghost use Rattle.jackson.specs.Windows.{windowsOf, windowsIn};
+
+// How many of n places the arrays have.
+pub(crate) fn held(n: u8) -> usize
+    ensures { λ k. ⌜ k ≡ min n 64 ⌝ }
+{
+    if n < 64 { n as usize } else { 64 }
+}
+
+fn zeros() -> [u16; 64]
+    ensures { λ xs. ⌜ xs ≡ replicate 64 0 ⌝ }
+{
+    [0; 64]
+}
+
+// The windows of a list value, which is not tested. Places from n on are 0.
+pub fn untested_windows(list: DayList) -> WindowSet
+    ensures { λ w. ⌜ windowsIn w ≡ windowsOf list ⌝ }
+{
+    let n = list.n;
+    let count = held(n);
+    let mut r = zeros();
+    let mut d = zeros();
+    let mut p = zeros();
+    let mut i: usize = 0;
+    while i < count {
+        r[i] = list.entries[i].r;
+        d[i] = list.entries[i].d;
+        p[i] = list.entries[i].p;
+        i += 1;
+    }
+    WindowSet {
+        h: list.frame.h,
+        n: n,
+        r: r,
+        d: d,
+        p: p,
+    }
+}
