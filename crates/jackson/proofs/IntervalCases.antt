@@ -1,13 +1,21 @@
 -- The work of an interval and the search for the interval shown, in each case that the code meets.
 -- Assumes nothing.
-use mathlib.Core.Path.{_≡_, refl, ap₂}
-use mathlib.Core.Bool.{cond, _&&_}
-use Prim.Native.Nat.{ℕ, _+_, _*_, _<_, _≤_}
+use mathlib.Core.Path.{_≡_, refl, sym, _∙_, ap₂}
+use mathlib.Core.Bool.{Bool, true, false, cond, _&&_}
+use mathlib.Core.List.{List, [], _∷_}
+use Prim.Native.Nat.{ℕ, _+_, _*_, _-_, _<_, _≤_, min}
 use native.Mathlib.Numerals.{add-one}
 use native.Mathlib.Omega.{arith}
-use borrow.Author.Tests.{le-leb, lt-leb}
-use lib.Dec.{leb}
-use Rattle.jackson.specs.Counting.{sum}
+use borrow.Author.Tests.{le-leb, lt-leb, lt-ltb, le-ltb, ltb-true}
+use lib.Dec.{leb, ltb}
+use lib.ListN.{getD}
+use Rattle.list.specs.Outcomes.{code, answered, refused}
+use Rattle.jackson.specs.Counting.{sum, better, smaller, larger}
+use Rattle.jackson.specs.Windows.{Windows, columns, windowsIn}
+use Rattle.jackson.specs.Intervals.{work, overloaded, leftOf, leftEnd, rightOf, rightEnd, overloadOf}
+use Rattle.jackson.specs.declared.types.WindowSet.{WindowSet}
+use Rattle.jackson.proofs.Scans.{smaller-ranks, best-below}
+use Rattle.jackson.proofs.ScanSteps.{unfit, first, wins, stays}
 
 module _ (a b r d p : ℕ) where
   -- an entry sticks out to the left, or to the right, or is counted
@@ -46,3 +54,65 @@ module _ (f : ℕ → ℕ) (n : ℕ) where
   sum-done s i so h =
       let z : i ≡ n = omega (arith, so .passed) in
       rw (← z) (so .is)
+
+module _ (n : ℕ) (r d p : List ℕ) where
+  abbrev held : Windows
+  held = columns 0 n r d p
+
+  -- the test of an interval
+  pub no-interval : (a b : ℕ) → b ≤ a → false ≡ overloaded held a b
+  no-interval a b h = rw (le-ltb a b h) refl
+
+  pub by-work : (a b x : ℕ) → a < b → x ≡ work held a b → ltb (b - a) x ≡ overloaded held a b
+  by-work a b x h e = rw (lt-ltb a b h, e) refl
+
+  -- a step of the search for the left end: x says whether place i has one
+  module _ (b i k : ℕ) where
+    pub left-stays : k < n → getD r i 0 ≤ getD r k 0 → k ≡ better n (leftOf held b) (larger (held .r)) i k
+    left-stays g h = stays n (leftOf held b) (larger (held .r)) i k (λ z. omega (arith, z)) (le-ltb (getD r k 0) (getD r i 0) h)
+
+    module _ (x : Bool) (says : x ≡ overloaded held (getD r i 0) b) where
+      pub left-unfit : x ≡ false → k ≡ better n (leftOf held b) (larger (held .r)) i k
+      left-unfit e = unfit n (leftOf held b) (larger (held .r)) i k (sym says ∙ e)
+
+      pub left-first : x ≡ true → k ≤ n → n ≤ k → i ≡ better n (leftOf held b) (larger (held .r)) i k
+      left-first e g h = first n (leftOf held b) (larger (held .r)) i k (sym says ∙ e) (omega arith)
+
+      pub left-larger : x ≡ true → k < n → getD r k 0 < getD r i 0 → i ≡ better n (leftOf held b) (larger (held .r)) i k
+      left-larger e g h =
+          wins n (leftOf held b) (larger (held .r)) i k (sym says ∙ e) (λ z. omega (arith, z)) (lt-ltb (getD r k 0) (getD r i 0) h)
+
+  -- a step of the search for the right end: x is the left end found for place i
+  module _ (i k : ℕ) where
+    pub right-stays : k < n → getD d k 0 ≤ getD d i 0 → k ≡ better n (rightOf held) (smaller (held .d)) i k
+    right-stays g h = stays n (rightOf held) (smaller (held .d)) i k (λ z. omega (arith, z)) (le-ltb (getD d i 0) (getD d k 0) h)
+
+    module _ (x : ℕ) (says : x ≡ leftEnd held (getD d i 0)) where
+      pub right-unfit : n ≤ x → k ≡ better n (rightOf held) (smaller (held .d)) i k
+      right-unfit h = unfit n (rightOf held) (smaller (held .d)) i k (rw (← says) (le-ltb x n h))
+
+      pub right-first : x < n → k ≤ n → n ≤ k → i ≡ better n (rightOf held) (smaller (held .d)) i k
+      right-first h g e = first n (rightOf held) (smaller (held .d)) i k (rw (← says) (lt-ltb x n h)) (omega arith)
+
+      pub right-smaller : x < n → k < n → getD d i 0 < getD d k 0 → i ≡ better n (rightOf held) (smaller (held .d)) i k
+      right-smaller h g e =
+          wins n (rightOf held) (smaller (held .d)) i k (rw (← says) (lt-ltb x n h)) (λ z. omega (arith, z)) (lt-ltb (getD d i 0) (getD d k 0) e)
+
+-- the whole test: j is the right end's place, i the left end's, of the n places that the arrays hold
+module _ (s : WindowSet) (n : ℕ) (holds : n ≡ min (s .n) 64) (j : ℕ) (right : j ≡ rightEnd (columns 0 n (s .r) (s .d) (s .p))) where
+  pub none-overloaded : n ≤ j → answered tt ≡ overloadOf (windowsIn s)
+  unfolding overloadOf rightEnd leftEnd work
+  none-overloaded h = rw (← holds, ← right, le-ltb j n h) refl
+
+  pub left-in : j < n → leftEnd (columns 0 n (s .r) (s .d) (s .p)) (getD (s .d) j 0) < n
+  unfolding rightEnd
+  left-in h =
+      let w = columns 0 n (s .r) (s .d) (s .p) in
+      let found = best-below n (rightOf w) (smaller (w .d)) (smaller-ranks (w .d)) n (omega arith) (rw (← right) h) in
+      ltb-true _ _ (rw (← right) at (found .passes))
+
+  pub overload-shown : (i x : ℕ) → j < n → i ≡ leftEnd (columns 0 n (s .r) (s .d) (s .p)) (getD (s .d) j 0)
+                     → x ≡ work (columns 0 n (s .r) (s .d) (s .p)) (getD (s .r) i 0) (getD (s .d) j 0)
+                     → refused (code 9 (getD (s .r) i 0 ∷ getD (s .d) j 0 ∷ x ∷ [])) ≡ overloadOf (windowsIn s)
+  unfolding overloadOf rightEnd leftEnd work
+  overload-shown i x h left sum = rw (← holds, ← right, lt-ltb j n h, ← left, sum) refl

@@ -9,6 +9,8 @@ pub mod Runs
 pub mod Endpoints
 pub mod Choices
 pub mod ShownInterval
+pub mod Schedules
+pub mod Law
 mod ScanSteps
 mod MinuteCases
 mod IntervalCases

@@ -1,6 +1,6 @@
 -- Facts about plans alone: their mirrors, their starts and ends, wider windows, and the room that a plan needs.
 -- Assumes nothing.
-use mathlib.Core.Path.{_≡_, ap, _∙_, fun-ext}
+use mathlib.Core.Path.{_≡_, sym, ap, _∙_, fun-ext}
 use mathlib.Core.Bool.{cond, _&&_}
 use Prim.Native.Nat.{ℕ, suc, _+_, _-_, _<_, _≤_}
 use native.Mathlib.Omega.{arith}
@@ -10,7 +10,7 @@ use Rattle.jackson.specs.Counting.{same}
 use Rattle.jackson.specs.Windows.{Windows, Roomy, Inside, withWindows}
 use Rattle.jackson.specs.Plans.{minutes, Plan, startOf, endOf}
 use Rattle.jackson.specs.Mirrors.{mirror, mirrorPlan}
-use Rattle.jackson.proofs.Sums.{le-or-lt, same-cases, same-ne, between-is, sum-le, sum-zero, sum-reverse, count-between}
+use Rattle.jackson.proofs.Sums.{le-or-lt, same-cases, same-ne, between-is, sum-le, sum-cong, sum-zero, sum-reverse, count-between}
 use Rattle.jackson.proofs.Searches.{First, first-below, last-below, last-first, first-last, turn-back}
 
 -- Mirrors.
@@ -117,6 +117,14 @@ end-is h m i some =
     }
 
 -- Plans.
+
+-- what agrees with a plan in the day's minutes is one
+pub plan-same : (w : Windows) (m x : ℕ → ℕ) → ((t : ℕ) → t < w .h → x t ≡ m t) → Plan w m → Plan w x
+plan-same w m x agrees plan =
+    record {
+      exact = λ i place. sum-cong (w .h) _ _ (λ t below. ap (λ (k : ℕ). same k i) (agrees t below)) ∙ plan .exact i place;
+      inside = λ i t place below e. plan .inside i t place below (sym (agrees t below) ∙ e);
+    }
 
 -- a plan for windows is one for those that they lie inside
 pub widen : (w : Windows) (r d : ℕ → ℕ) (m : ℕ → ℕ) → Inside (withWindows w r d) w → Plan (withWindows w r d) m → Plan w m

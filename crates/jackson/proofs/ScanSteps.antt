@@ -1,13 +1,13 @@
 -- One step of a scan: which of place i and the best so far is the better, in each case that the code meets.
 -- Assumes nothing.
 use mathlib.Core.Path.{_≡_, refl, _∙_, ap}
-use mathlib.Core.Bool.{Bool, true, false, cond, _&&_, _||_}
-use Prim.Native.Nat.{ℕ, zero, suc, _+_, _<_, _≤_}
+use mathlib.Core.Bool.{Bool, true, false}
+use Prim.Native.Nat.{ℕ, _+_, _<_, _≤_}
 use native.Mathlib.Numerals.{add-one}
 use native.Mathlib.Omega.{arith}
 use borrow.Author.Tests.{eq-eqb, ne-eqb}
-use lib.Dec.{eqb}
 use Rattle.jackson.specs.Counting.{better, best}
+use Rattle.jackson.proofs.Scans.{Ranks, best-cases}
 
 module _ (none : ℕ) (f : ℕ → Bool) (before : ℕ → ℕ → Bool) (i k : ℕ) where
   -- i fails the test
@@ -30,32 +30,35 @@ module _ (none : ℕ) (f : ℕ → Bool) (before : ℕ → ℕ → Bool) (i k : 
       go true e = rw (e, ne-eqb k none z, h) refl
       go false e = rw e refl
 
-module _ (none : ℕ) (f : ℕ → Bool) (before : ℕ → ℕ → Bool) where
-  -- a scan's start and its next step
-  pub scan-start : none ≡ best none 0 f before
+-- a scan over n places has come to i, with k the best so far
+pub record Searched (none : ℕ) (f : ℕ → Bool) (before : ℕ → ℕ → Bool) (n k i : ℕ) : Type 0 where
+  pub held : n ≤ 64
+  pub passed : i ≤ n
+  pub is : k ≡ best none i f before
+
+module _ {none : ℕ} {f : ℕ → Bool} {before : ℕ → ℕ → Bool} {n : ℕ} where
+  pub search-start : n ≤ 64 → Searched none f before n none 0
   unfolding best
-  scan-start = refl
+  search-start h = record { held = h; passed = omega arith; is = refl }
 
-  pub scan-next : (i k k′ : ℕ) → k ≡ best none i f before → k′ ≡ better none f before i k → k′ ≡ best none (i + 1) f before
+  pub search-next : {i k : ℕ} (k′ : ℕ) → Searched none f before n k i → i < n → k′ ≡ better none f before i k → Searched none f before n k′ (i + 1)
   unfolding best
-  scan-next i k k′ e h = rw add-one (h ∙ ap (better none f before i) e)
+  search-next {i} {k} k′ so h e =
+      record { held = so .held; passed = omega (arith, h); is = rw add-one (e ∙ ap (better none f before i) (so .is)) }
 
-  -- what a scan finds is a number below its bound
-  pub found-below : (n : ℕ) → (best none n f before ≡ none → ⊥) → best none n f before < n
-  unfolding best
-  found-below zero h = absurd (h refl)
-  found-below (suc n) h = go (f n && (eqb (best none n f before) none || before n (best none n f before))) h (found-below n)
-    where
-      go : (t : Bool) → (cond t n (best none n f before) ≡ none → ⊥) → ((best none n f before ≡ none → ⊥) → best none n f before < n)
-         → cond t n (best none n f before) < suc n
-      go true h more = omega arith
-      go false h more = omega (arith, more h)
+  pub search-done : {i k : ℕ} → Searched none f before n k i → n ≤ i → k ≡ best none n f before
+  search-done {i} {k} so h =
+      let z : i ≡ n = omega (arith, so .passed) in
+      rw (← z) (so .is)
 
-  -- what a scan has found by i, of the n numbers that it goes over
-  pub found-so-far : (i k n : ℕ) → k ≡ best none i f before → i ≤ n → n ≤ 64 → (k ≡ none → ⊥) → k < 64
-  found-so-far i k n e h g z = omega (arith, e, found-below i (λ q. z (e ∙ q)))
+  -- what a scan finds is one of its places
+  pub search-found : {i k : ℕ} → Ranks before → n ≤ none → Searched none f before n k i → (k ≡ none → ⊥) → k < n
+  search-found {i} {k} ranks h so z =
+      best-cases none f before ranks i (omega (arith, so .passed)) (k < n) (λ e _. absurd (z (so .is ∙ e)))
+      (λ found. omega (arith, so .is, so .passed, found .below))
 
-  pub scan-done : (i k n : ℕ) → k ≡ best none i f before → i ≤ n → n ≤ i → k ≡ best none n f before
-  scan-done i k n e h g =
-      let z : i ≡ n = omega arith in
-      rw (← z) e
+-- where n stands for none, it finds n at most
+module _ {f : ℕ → Bool} {before : ℕ → ℕ → Bool} {n i k : ℕ} where
+  pub search-in : Ranks before → Searched n f before n k i → k ≤ n
+  search-in ranks so =
+      best-cases n f before ranks i (so .passed) (k ≤ n) (λ e _. omega (arith, so .is, e)) (λ found. omega (arith, so .is, so .passed, found .below))

@@ -1,38 +1,40 @@
+-- The scan finds the definition's left end. The loop's invariant is the best so far, the measure what is left of the places.
+-- Assumes nothing.
+use borrow.Author.Needs.{needs}
+use Prim.Native.Nat.{ℕ, _-_}
+use lib.ListN.{getD}
+use Rattle.jackson.specs.Counting.{larger}
+use Rattle.jackson.specs.Windows.{columns}
+use Rattle.jackson.specs.Intervals.{leftOf, leftEnd}
+use Rattle.jackson.proofs.Scans.{larger-ranks}
+use Rattle.jackson.proofs.ScanSteps.{Searched, search-start, search-next, search-done, search-in}
 use Rattle.jackson.proofs.interval.left_end.Statement.{statement}
 use Rattle.jackson.proofs.interval.left_end.Tie as tie
-use Rattle.jackson.proofs.interval.left_end.Reads as reads
-use Rattle.jackson.proofs.interval.left_end.Lts as lts
-use Rattle.jackson.proofs.interval.larger_left.Reads as larger-left-reads
 
 abbrev Inv-loop : tie.InvT-loop
-Inv-loop count r d p b k₀ i₀ k i = ?
+Inv-loop count r d p b k₀ i₀ k i = Searched count (leftOf (columns 0 count r d p) b) (larger (λ (j : ℕ). getD r j 0)) count k i
 
 abbrev μ-loop : tie.MeasureT-loop
-μ-loop count r d p b k₀ i₀ k i = ?
+μ-loop count r d p b k₀ i₀ k i = count - i
 
--- src/interval.rt:91:5
 loop-holds : tie.Need-loop-holds Inv-loop μ-loop
-loop-holds c = ?
+loop-holds c = search-start (c .pre)
 
--- src/interval.rt:92:9
 larger-left-requires : tie.Need-larger-left-requires Inv-loop μ-loop
-larger-left-requires c κs = ?
+larger-left-requires c κs = (c .before .loop .inv .held, (c .loop-test .taken, search-in (larger-ranks (λ (j : ℕ). getD (c .before .before .args .r .now) j 0)) (c .before .loop .inv)))
 
--- src/interval.rt:93:9
 add-i : tie.Need-add-i Inv-loop μ-loop
-add-i c = ?
+add-i c = search needs
 
--- src/interval.rt:91:5
 loop-less : tie.Need-loop-less Inv-loop μ-loop
-loop-less c = ?
+loop-less c = search needs
 
--- src/interval.rt:91:5
 loop-again : tie.Need-loop-again Inv-loop μ-loop
-loop-again c = ?
+loop-again c = search-next _ (c .before .before .loop .inv) (c .before .loop-test .taken) (c .larger-left .ensures)
 
--- src/interval.rt:85:1
 returns : tie.Need-returns Inv-loop μ-loop
-returns c = ?
+unfolding leftEnd
+returns c = search-done (c .before .loop .inv) (c .loop-test .left)
 
 pub left-end-spec : {M : Type 1} → statement M
 left-end-spec =

@@ -1,38 +1,40 @@
+-- The scan finds the definition's right end. The loop's invariant is the best so far, the measure what is left of the places.
+-- Assumes nothing.
+use borrow.Author.Needs.{needs}
+use Prim.Native.Nat.{ℕ, _-_}
+use lib.ListN.{getD}
+use Rattle.jackson.specs.Counting.{smaller}
+use Rattle.jackson.specs.Windows.{columns}
+use Rattle.jackson.specs.Intervals.{rightOf, rightEnd}
+use Rattle.jackson.proofs.Scans.{smaller-ranks}
+use Rattle.jackson.proofs.ScanSteps.{Searched, search-start, search-next, search-done, search-in}
 use Rattle.jackson.proofs.interval.right_end.Statement.{statement}
 use Rattle.jackson.proofs.interval.right_end.Tie as tie
-use Rattle.jackson.proofs.interval.right_end.Reads as reads
-use Rattle.jackson.proofs.interval.right_end.Lts as lts
-use Rattle.jackson.proofs.interval.smaller_right.Reads as smaller-right-reads
 
 abbrev Inv-loop : tie.InvT-loop
-Inv-loop count r d p k₀ i₀ k i = ?
+Inv-loop count r d p k₀ i₀ k i = Searched count (rightOf (columns 0 count r d p)) (smaller (λ (j : ℕ). getD d j 0)) count k i
 
 abbrev μ-loop : tie.MeasureT-loop
-μ-loop count r d p k₀ i₀ k i = ?
+μ-loop count r d p k₀ i₀ k i = count - i
 
--- src/interval.rt:131:5
 loop-holds : tie.Need-loop-holds Inv-loop μ-loop
-loop-holds c = ?
+loop-holds c = search-start (c .pre)
 
--- src/interval.rt:132:9
 smaller-right-requires : tie.Need-smaller-right-requires Inv-loop μ-loop
-smaller-right-requires c κs = ?
+smaller-right-requires c κs = (c .before .loop .inv .held, (c .loop-test .taken, search-in (smaller-ranks (λ (j : ℕ). getD (c .before .before .args .d .now) j 0)) (c .before .loop .inv)))
 
--- src/interval.rt:133:9
 add-i : tie.Need-add-i Inv-loop μ-loop
-add-i c = ?
+add-i c = search needs
 
--- src/interval.rt:131:5
 loop-less : tie.Need-loop-less Inv-loop μ-loop
-loop-less c = ?
+loop-less c = search needs
 
--- src/interval.rt:131:5
 loop-again : tie.Need-loop-again Inv-loop μ-loop
-loop-again c = ?
+loop-again c = search-next _ (c .before .before .loop .inv) (c .before .loop-test .taken) (c .smaller-right .ensures)
 
--- src/interval.rt:125:1
 returns : tie.Need-returns Inv-loop μ-loop
-returns c = ?
+unfolding rightEnd
+returns c = search-done (c .before .loop .inv) (c .loop-test .left)
 
 pub right-end-spec : {M : Type 1} → statement M
 right-end-spec =

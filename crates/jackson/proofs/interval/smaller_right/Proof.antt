@@ -1,49 +1,42 @@
+-- The better of place i and the best so far is the definition's, in each case.
+-- Assumes nothing.
 use borrow.Author.Needs.{needs}
+use mathlib.Core.Logic.{⊎-elim}
+use Rattle.jackson.proofs.IntervalCases.{right-stays, right-smaller, right-first, right-unfit}
 use Rattle.jackson.proofs.interval.smaller_right.Statement.{statement}
 use Rattle.jackson.proofs.interval.smaller_right.Tie as tie
-use Rattle.jackson.proofs.interval.smaller_right.Reads as reads
-use Rattle.jackson.proofs.interval.smaller_right.Lts as lts
-use Rattle.jackson.proofs.interval.left_end.Reads as left-end-reads
 
--- src/interval.rt:113:12
 mul-if2 : tie.Need-mul-if2
 mul-if2 c = search needs
 
--- src/interval.rt:113:12
 element-copy-out-if2 : tie.Need-element-copy-out-if2
 element-copy-out-if2 c = search needs
 
--- src/interval.rt:113:20
 mul-if2-2 : tie.Need-mul-if2-2
 mul-if2-2 c = search needs
 
--- src/interval.rt:113:20
 element-copy-out-if2-2 : tie.Need-element-copy-out-if2-2
 element-copy-out-if2-2 c = search needs
 
--- src/interval.rt:114:13
 returns : tie.Need-returns
-returns c = ?
+returns c = right-stays (c .before .before .before .before .args .count) (c .before .before .before .before .args .r .now) (c .before .before .before .before .args .d .now) (c .before .before .before .before .args .p .now) (c .before .before .before .before .args .i) (c .before .before .before .before .args .k) (c .before .before .before .if1 .taken) (c .if2 .taken)
 
--- src/interval.rt:117:33
 mul-left-end : tie.Need-mul-left-end
 mul-left-end c = search needs
 
--- src/interval.rt:117:33
 element-copy-out-left-end : tie.Need-element-copy-out-left-end
 element-copy-out-left-end c = search needs
 
--- src/interval.rt:117:8
 left-end-requires : tie.Need-left-end-requires
 left-end-requires c κs = search needs
 
--- src/interval.rt:99:1
 returns-2 : tie.Need-returns-2
-returns-2 c = ?
+returns-2 c = ⊎-elim (λ w. right-smaller (c .before .before .before .before .args .count) (c .before .before .before .before .args .r .now) (c .before .before .before .before .args .d .now) (c .before .before .before .before .args .p .now) (c .before .before .before .before .args .i) (c .before .before .before .before .args .k) _ (c .before .left-end .ensures) (c .if3 .taken) (w .0 .taken) (w .3 .left))
+    (λ w. right-first (c .before .before .before .before .args .count) (c .before .before .before .before .args .r .now) (c .before .before .before .before .args .d .now) (c .before .before .before .before .args .p .now) (c .before .before .before .before .args .i) (c .before .before .before .before .args .k) _ (c .before .left-end .ensures) (c .if3 .taken) (c .before .before .before .before .pre .1 .1) (w .left))
+    (c .before .before .before .if1 .came)
 
--- src/interval.rt:99:1
 returns-3 : tie.Need-returns-3
-returns-3 c = ?
+returns-3 c = right-unfit (c .before .before .before .before .args .count) (c .before .before .before .before .args .r .now) (c .before .before .before .before .args .d .now) (c .before .before .before .before .args .p .now) (c .before .before .before .before .args .i) (c .before .before .before .before .args .k) _ (c .before .left-end .ensures) (c .if3 .left)
 
 pub smaller-right-spec : {M : Type 1} → statement M
 smaller-right-spec =

@@ -1,37 +1,37 @@
+-- The day after its minute is the definition's, whether a place had it or none.
+-- Assumes nothing.
 use borrow.Author.Needs.{needs}
+use mathlib.Core.Logic.{⊎-elim}
+use mathlib.Core.Path.{_≡_}
+use native.Mathlib.Omega.{arith}
+use lib.ListN.{length}
+use Rattle.list.proofs.Walk.{length-mapped}
+use Rattle.jackson.proofs.MinuteCases.{after-place, after-none}
 use Rattle.jackson.proofs.minute.advanced.Statement.{statement}
 use Rattle.jackson.proofs.minute.advanced.Tie as tie
-use Rattle.jackson.proofs.minute.advanced.Reads as reads
-use Rattle.jackson.proofs.minute.advanced.Lts as lts
-use Rattle.jackson.proofs.minute.one_less.Reads as one-less-reads
 
--- src/minute.rt:92:37
 mul-one-less : tie.Need-mul-one-less
 mul-one-less c = search needs
 
--- src/minute.rt:92:37
 element-copy-out-one-less : tie.Need-element-copy-out-one-less
 element-copy-out-one-less c = search needs
 
--- src/minute.rt:92:28
 one-less-requires : tie.Need-one-less-requires
 one-less-requires c κs = search needs
 
--- src/minute.rt:92:9
 mul-windows : tie.Need-mul-windows
 mul-windows c = search needs
 
--- src/minute.rt:92:9
 element-write-windows : tie.Need-element-write-windows
 element-write-windows c = search needs
 
--- src/minute.rt:96:12
 add-t15 : tie.Need-add-t15
 add-t15 c = search needs
 
--- src/minute.rt:85:1
 returns : tie.Need-returns
-returns c = ?
+returns c = ⊎-elim (λ w. rw (w .3) (after-place (c .before .before .before .args .day) (c .before .before .before .args .k) _ (w .2 .ensures)))
+    (λ w. rw (w .1) (after-none (c .before .before .before .args .day) (c .before .before .before .args .k) (let long : length (c .before .before .before .args .day .windows .p) ≡ 64 = search (needs, length-mapped) in omega (arith, long, w .0 .left))))
+    (c .before .if1 .came)
 
 pub advanced-spec : {M : Type 1} → statement M
 advanced-spec =

@@ -1,9 +1,7 @@
 -- The better of place i and the best so far is the definition's, in each case.
 -- Assumes nothing.
 use borrow.Author.Needs.{needs}
-use mathlib.Core.Path.{sym, _∙_}
-use borrow.Author.Tests.{lt-ltb, le-ltb}
-use Rattle.jackson.proofs.ScanSteps.{unfit, first, wins, stays}
+use Rattle.jackson.proofs.MinuteCases.{not-ready, first-ready, smaller-deadline, no-smaller}
 use Rattle.jackson.proofs.minute.sooner.Statement.{statement}
 use Rattle.jackson.proofs.minute.sooner.Tie as tie
 
@@ -23,13 +21,13 @@ is-ready-requires : tie.Need-is-ready-requires
 is-ready-requires c κs = search needs
 
 returns : tie.Need-returns
-returns c = unfit _ _ _ _ _ (sym (c .before .is-ready .ensures) ∙ c .if1 .taken)
+returns c = not-ready (c .before .before .before .before .args .i) (c .before .before .before .before .args .k) (c .before .before .before .before .args .t) (c .before .before .before .before .args .r .now) (c .before .before .before .before .args .d .now) (c .before .before .before .before .args .left .now) (c .before .is-ready .result) (c .before .is-ready .ensures) (c .if1 .taken)
 
 cast-result : tie.Need-cast-result
 cast-result c = search needs
 
 returns-2 : tie.Need-returns-2
-returns-2 c = first _ _ _ _ _ (sym (c .before .before .is-ready .ensures) ∙ c .before .if1 .left) (c .if2 .taken)
+returns-2 c = first-ready (c .before .before .before .before .before .args .i) (c .before .before .before .before .before .args .k) (c .before .before .before .before .before .args .t) (c .before .before .before .before .before .args .r .now) (c .before .before .before .before .before .args .d .now) (c .before .before .before .before .before .args .left .now) (c .before .before .is-ready .result) (c .before .before .is-ready .ensures) (c .before .if1 .left) (c .if2 .taken)
 
 mul-if3 : tie.Need-mul-if3
 mul-if3 c = search needs
@@ -47,10 +45,10 @@ cast-result-2 : tie.Need-cast-result-2
 cast-result-2 c = search needs
 
 returns-3 : tie.Need-returns-3
-returns-3 c = wins _ _ _ _ _ (sym (c .before .before .before .before .before .is-ready .ensures) ∙ c .before .before .before .before .if1 .left) (c .before .before .before .if2 .left) (lt-ltb _ _ (c .if3 .taken))
+returns-3 c = smaller-deadline (c .before .before .before .before .before .before .before .before .args .i) (c .before .before .before .before .before .before .before .before .args .k) (c .before .before .before .before .before .before .before .before .args .t) (c .before .before .before .before .before .before .before .before .args .r .now) (c .before .before .before .before .before .before .before .before .args .d .now) (c .before .before .before .before .before .before .before .before .args .left .now) (c .before .before .before .before .before .is-ready .result) (c .before .before .before .before .before .is-ready .ensures) (c .before .before .before .before .if1 .left) (c .before .before .before .if2 .left) (c .if3 .taken)
 
 returns-4 : tie.Need-returns-4
-returns-4 c = stays _ _ _ _ _ (c .before .before .before .if2 .left) (le-ltb _ _ (c .if3 .left))
+returns-4 c = no-smaller (c .before .before .before .before .before .before .before .before .args .i) (c .before .before .before .before .before .before .before .before .args .k) (c .before .before .before .before .before .before .before .before .args .t) (c .before .before .before .before .before .before .before .before .args .r .now) (c .before .before .before .before .before .before .before .before .args .d .now) (c .before .before .before .before .before .before .before .before .args .left .now) (c .before .before .before .before .before .is-ready .result) (c .before .before .before .before .before .is-ready .ensures) (c .before .before .before .if2 .left) (c .if3 .left)
 
 pub sooner-spec : {M : Type 1} → statement M
 sooner-spec =

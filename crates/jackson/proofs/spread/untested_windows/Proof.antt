@@ -1,99 +1,84 @@
+-- The arrays hold the list's windows. The loop's invariant is `Copied`, the measure what is left of the places.
+-- Assumes nothing.
+use borrow.Author.Needs.{needs}
+use mathlib.Core.Path.{_≡_}
+use Prim.Native.Nat.{_-_}
+use native.Mathlib.Omega.{arith}
+use lib.ListN.{length}
+use Rattle.list.proofs.Walk.{length-mapped}
+use Rattle.jackson.proofs.SpreadCases.{Copied, copy-start, copy-next, copy-done}
 use Rattle.jackson.proofs.spread.untested_windows.Statement.{statement}
 use Rattle.jackson.proofs.spread.untested_windows.Tie as tie
-use Rattle.jackson.proofs.spread.untested_windows.Reads as reads
-use Rattle.jackson.proofs.spread.untested_windows.Lts as lts
-use Rattle.jackson.proofs.spread.held.Reads as held-reads
-use Rattle.jackson.proofs.spread.zeros.Reads as zeros-reads
 
 abbrev Inv-loop : tie.InvT-loop
-Inv-loop list n count r₀ d₀ p₀ i₀ r d p i = ?
+Inv-loop list n count r₀ d₀ p₀ i₀ r d p i = Copied (list .entries) count r d p i
 
 abbrev μ-loop : tie.MeasureT-loop
-μ-loop list n count r₀ d₀ p₀ i₀ r d p i = ?
+μ-loop list n count r₀ d₀ p₀ i₀ r d p i = count - i
 
--- src/spread.rt:27:9
 held-requires : tie.Need-held-requires Inv-loop μ-loop
-held-requires c κs = ?
+held-requires c κs = search needs
 
--- src/spread.rt:28:17
 zeros-requires : tie.Need-zeros-requires Inv-loop μ-loop
-zeros-requires c κs = ?
+zeros-requires c κs = search needs
 
--- src/spread.rt:29:17
 zeros-requires-2 : tie.Need-zeros-requires-2 Inv-loop μ-loop
-zeros-requires-2 c κs = ?
+zeros-requires-2 c κs = search needs
 
--- src/spread.rt:30:17
 zeros-requires-3 : tie.Need-zeros-requires-3 Inv-loop μ-loop
-zeros-requires-3 c κs = ?
+zeros-requires-3 c κs = search needs
 
--- src/spread.rt:32:5
 loop-holds : tie.Need-loop-holds Inv-loop μ-loop
-loop-holds c = ?
+loop-holds c = rw (c .zeros3 .ensures, c .before .zeros2 .ensures, c .before .before .zeros .ensures) (copy-start _ _ (omega (arith, c .before .before .before .held .ensures)))
 
--- src/spread.rt:33:16
 mul-r : tie.Need-mul-r Inv-loop μ-loop
-mul-r c = ?
+mul-r c = search needs
 
--- src/spread.rt:33:16
 element-copy-out-r : tie.Need-element-copy-out-r Inv-loop μ-loop
-element-copy-out-r c = ?
+element-copy-out-r c = search needs
 
--- src/spread.rt:33:9
 mul-r-2 : tie.Need-mul-r-2 Inv-loop μ-loop
-mul-r-2 c = ?
+mul-r-2 c = search needs
 
--- src/spread.rt:33:9
 array-write-r : tie.Need-array-write-r Inv-loop μ-loop
-array-write-r c = ?
+array-write-r c = search needs
 
--- src/spread.rt:34:16
 mul-d : tie.Need-mul-d Inv-loop μ-loop
-mul-d c = ?
+mul-d c = search needs
 
--- src/spread.rt:34:16
 element-copy-out-d : tie.Need-element-copy-out-d Inv-loop μ-loop
-element-copy-out-d c = ?
+element-copy-out-d c = search needs
 
--- src/spread.rt:34:9
 mul-d-2 : tie.Need-mul-d-2 Inv-loop μ-loop
-mul-d-2 c = ?
+mul-d-2 c = search needs
 
--- src/spread.rt:34:9
 array-write-d : tie.Need-array-write-d Inv-loop μ-loop
-array-write-d c = ?
+array-write-d c = search needs
 
--- src/spread.rt:35:16
 mul-p : tie.Need-mul-p Inv-loop μ-loop
-mul-p c = ?
+mul-p c = search needs
 
--- src/spread.rt:35:16
 element-copy-out-p : tie.Need-element-copy-out-p Inv-loop μ-loop
-element-copy-out-p c = ?
+element-copy-out-p c = search needs
 
--- src/spread.rt:35:9
 mul-p-2 : tie.Need-mul-p-2 Inv-loop μ-loop
-mul-p-2 c = ?
+mul-p-2 c = search needs
 
--- src/spread.rt:35:9
 array-write-p : tie.Need-array-write-p Inv-loop μ-loop
-array-write-p c = ?
+array-write-p c = search needs
 
--- src/spread.rt:36:9
 add-i : tie.Need-add-i Inv-loop μ-loop
-add-i c = ?
+add-i c = search needs
 
--- src/spread.rt:32:5
 loop-less : tie.Need-loop-less Inv-loop μ-loop
-loop-less c = ?
+loop-less c = search needs
 
--- src/spread.rt:32:5
 loop-again : tie.Need-loop-again Inv-loop μ-loop
-loop-again c = ?
+loop-again c = copy-next _ _ _ _ _ _ (c .before .loop .inv) (c .loop-test .taken)
 
--- src/spread.rt:23:1
 returns : tie.Need-returns Inv-loop μ-loop
-returns c = ?
+returns c = let long : length (c .before .before .before .before .before .before .args .t1 .entries) ≡ 64 = search (needs, length-mapped) in
+    copy-done (c .before .before .before .before .before .before .args .t1) long _ _ _ _ _ (c .before .before .before .before .before .held .ensures) (c .before .loop .inv) (c .loop-test .left)
 
 pub untested-windows-spec : {M : Type 1} → statement M
 untested-windows-spec =
