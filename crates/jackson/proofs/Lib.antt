@@ -15,3 +15,4 @@ mod ScanSteps
 mod MinuteCases
 mod IntervalCases
 mod SpreadCases
+mod CallCases

@@ -1,61 +1,48 @@
+-- Filling a plan buffer answers the value check, then rows 11 and 9, and stores the schedule only if none holds.
+-- Assumes nothing.
 use borrow.Author.Needs.{needs}
+use Rattle.jackson.proofs.CallCases.{not-filled, too-short, not-planned, planned}
 use Rattle.jackson.proofs.fill.schedule.Statement.{statement}
 use Rattle.jackson.proofs.fill.schedule.Tie as tie
-use Rattle.jackson.proofs.fill.schedule.Reads as reads
-use Rattle.jackson.proofs.fill.schedule.Lts as lts
-use Rattle.jackson.proofs.fill.start_day.Reads as start-day-reads
-use Rattle.jackson.proofs.fill.store_places.Reads as store-places-reads
-use Rattle.jackson.proofs.interval.overload_in.Reads as overload-in-reads
 
--- src/fill.rt:80:9
 start-day-requires : tie.Need-start-day-requires
 start-day-requires c κs = search needs
 
 enum-told : tie.Need-enum-told
 enum-told c = search needs
 
--- src/fill.rt:83:9
 enum-told-2 : tie.Need-enum-told-2
 enum-told-2 c = search needs
 
--- src/fill.rt:83:9
 returns : tie.Need-returns
-returns c = ?
+returns c = not-filled (c .before .before .before .before .args .list) (c .before .before .before .before .args .plan .now) (c .before .before .start-day .result) (c .before .before .start-day .ensures) _ (c .enum-told2 .given .1)
 
--- src/fill.rt:86:13
 cast-h : tie.Need-cast-h
 cast-h c = search needs
 
--- src/fill.rt:88:9
 returns-2 : tie.Need-returns-2
-returns-2 c = ?
+returns-2 c = too-short (c .before .before .before .before .before .before .before .args .list) (c .before .before .before .before .before .before .before .args .plan .now) (c .before .before .before .before .before .start-day .result) (c .before .before .before .before .before .start-day .ensures) (c .before .before .before .enum-told .given .1) (c .if1 .taken)
 
--- src/fill.rt:90:9
 overload-in-requires : tie.Need-overload-in-requires
 overload-in-requires c κs = search needs
 
 enum-told-3 : tie.Need-enum-told-3
 enum-told-3 c = search needs
 
--- src/fill.rt:92:9
 enum-told-4 : tie.Need-enum-told-4
 enum-told-4 c = search needs
 
--- src/fill.rt:92:9
 returns-3 : tie.Need-returns-3
-returns-3 c = ?
+returns-3 c = not-planned (c .before .before .before .before .before .before .before .before .before .before .args .list) (c .before .before .before .before .before .before .before .before .before .before .args .plan .now) (c .before .before .before .before .before .before .before .before .start-day .result) (c .before .before .before .before .before .before .before .before .start-day .ensures) (c .before .before .before .before .before .before .enum-told .given .1) (c .before .before .before .if1 .left) (c .before .before .overload-in .result) (c .before .before .overload-in .ensures) _ (c .enum-told4 .given .1)
 
--- src/fill.rt:94:5
 store-places-requires : tie.Need-store-places-requires
 store-places-requires c κs = search needs
 
--- src/fill.rt:77:1
 same-length : tie.Need-same-length
 same-length c = search needs
 
--- src/fill.rt:77:1
 returns-4 : tie.Need-returns-4
-returns-4 c = ?
+returns-4 c = planned (c .before .before .before .before .before .before .before .before .before .before .before .before .before .before .args .list) (c .before .before .before .before .before .before .before .before .before .before .before .before .before .before .args .plan .now) (c .before .before .before .before .before .before .before .before .before .before .before .before .start-day .result) (c .before .before .before .before .before .before .before .before .before .before .before .before .start-day .ensures) (c .before .before .before .before .before .before .before .before .before .before .enum-told .given .1) (c .before .before .before .before .before .before .before .if1 .left) (c .before .before .before .before .before .before .overload-in .result) (c .before .before .before .before .before .before .overload-in .ensures) _ (c .before .before .before .before .enum-told3 .given .1) (c .before .before .store-places .ensures)
 
 pub schedule-spec : {M : Type 1} → statement M
 schedule-spec =

@@ -1,46 +1,42 @@
+-- The places are stored minute by minute. The loop's invariant is `Stored`, the measure what is left of h.
+-- Assumes nothing.
+use borrow.Author.Needs.{needs}
+use mathlib.Core.Path.{refl}
+use Prim.Native.Nat.{_-_}
+use Rattle.jackson.specs.Minutes.{stateOf}
+use Rattle.jackson.proofs.CallCases.{Stored, store-start, store-next, store-done, store-long}
 use Rattle.jackson.proofs.fill.store_places.Statement.{statement}
 use Rattle.jackson.proofs.fill.store_places.Tie as tie
-use Rattle.jackson.proofs.fill.store_places.Reads as reads
-use Rattle.jackson.proofs.fill.store_places.Lts as lts
-use Rattle.jackson.proofs.types.Day.minute.Reads as minute-reads
 
 abbrev Inv-loop : tie.InvT-loop
-Inv-loop h plan₀ today₀ i₀ plan today i = ?
+Inv-loop h plan₀ today₀ i₀ plan today i = Stored (stateOf today₀) h plan₀ plan today i
 
 abbrev μ-loop : tie.MeasureT-loop
-μ-loop h plan₀ today₀ i₀ plan today i = ?
+μ-loop h plan₀ today₀ i₀ plan today i = h - i
 
--- src/fill.rt:68:5
 loop-holds : tie.Need-loop-holds Inv-loop μ-loop
-loop-holds c = ?
+loop-holds c = store-start _ _ _ _ (c .before .pre) refl
 
--- src/fill.rt:69:13
 minute-requires : tie.Need-minute-requires Inv-loop μ-loop
-minute-requires c κs = ?
+minute-requires c κs = search needs
 
--- src/fill.rt:70:9
 slice-write-plan : tie.Need-slice-write-plan Inv-loop μ-loop
-slice-write-plan c = ?
+slice-write-plan c = let long = store-long _ _ _ _ _ _ (c .before .before .loop .inv) in let room = c .before .before .loop .inv .room in search (needs, long, room)
 
--- src/fill.rt:72:9
 add-i : tie.Need-add-i Inv-loop μ-loop
-add-i c = ?
+add-i c = search needs
 
--- src/fill.rt:68:5
 loop-less : tie.Need-loop-less Inv-loop μ-loop
-loop-less c = ?
+loop-less c = search needs
 
--- src/fill.rt:68:5
 loop-again : tie.Need-loop-again Inv-loop μ-loop
-loop-again c = ?
+loop-again c = store-next _ _ _ _ _ _ _ _ (c .before .before .before .loop .inv) (c .before .before .loop-test .taken) (c .before .minute .ensures)
 
--- src/fill.rt:62:1
 same-length : tie.Need-same-length Inv-loop μ-loop
-same-length c = ?
+same-length c = store-long _ _ _ _ _ _ (c .before .loop .inv)
 
--- src/fill.rt:62:1
 returns : tie.Need-returns Inv-loop μ-loop
-returns c = ?
+returns c = store-done _ _ _ _ _ _ (c .before .loop .inv) (c .loop-test .left)
 
 pub store-places-spec : {M : Type 1} → statement M
 store-places-spec =

@@ -1,0 +1,153 @@
+-- The public calls in each case that the code meets.
+-- Assumes nothing.
+use mathlib.Core.Path.{_≡_, refl, sym, _∙_, ap}
+use mathlib.Core.List.{List, _++_}
+use Prim.Native.Nat.{ℕ, suc, _+_, _<_, _≤_}
+use native.Mathlib.Numerals.{add-one}
+use native.Mathlib.Omega.{arith}
+use borrow.Author.Tests.{lt-ltb, le-ltb}
+use lib.ListN.{length, getD, set, drop}
+use lib.Seq.{drop-cons, set-at, append-snoc, length-front, length-take-le}
+use Rattle.list.specs.Outcomes.{answered, refused}
+use Rattle.list.specs.Refusals.{codeOf, verdictOf}
+use Rattle.list.specs.Checks.{checkOf}
+use Rattle.list.specs.DayLists.{emptyList}
+use Rattle.list.specs.declared.types.Refusal.{Refusal}
+use Rattle.list.specs.declared.types.Refusal.the-variants.{PlanBufferShort}
+use Rattle.list.specs.declared.types.Verdict.{Verdict}
+use Rattle.list.specs.declared.types.Verdict.the-variants.{Accepted, Refused}
+use Rattle.list.specs.declared.types.DayList.{DayList}
+use Rattle.jackson.specs.Counting.{listOf}
+use Rattle.jackson.specs.Windows.{windowsOf, windowsIn}
+use Rattle.jackson.specs.Minutes.{State, stateOf, morning, chosen, after, minuteOf, later, placeAt, schedule}
+use Rattle.jackson.specs.Intervals.{overloadOf}
+use Rattle.jackson.specs.Calls.{Turns, Starts, Tests, Fills, testOf, scheduleOf}
+use Rattle.jackson.specs.declared.types.WindowSet.{WindowSet}
+use Rattle.jackson.specs.declared.types.Day.{Day}
+use Rattle.jackson.specs.declared.types.DayAnswer.{DayAnswer}
+use Rattle.jackson.proofs.Schedules.{minute-on, minute-over, list-length}
+use Rattle.jackson.proofs.Law.{test-decides, schedule-decides}
+
+-- a minute of a day past its end, and of one that goes on
+module _ (day : Day) where
+  pub turn-over : day .windows .h ≤ day .t → Turns day (record { place = 255; day = day })
+  turn-over h =
+      let e = minute-over (stateOf day) h in
+      record { place = rw e refl; next = rw e refl }
+
+  pub turn-on : (next : Day) (k : ℕ) → day .t < day .windows .h → k ≡ chosen (stateOf day) → stateOf next ≡ after (stateOf day) k
+              → Turns day (record { place = k; day = next })
+  turn-on next k h place step =
+      let e = minute-on (stateOf day) h in
+      record { place = rw e place; next = rw e (rw (← place) step) }
+
+-- a check that was passed, and one that was not
+module _ (l : DayList) (v : Verdict) (checked : verdictOf v ≡ checkOf l) where
+  passed : v ≡ Accepted → checkOf l ≡ answered tt
+  passed e = sym checked ∙ ap verdictOf e
+
+  not-passed : (x : Refusal) → v ≡ Refused x → checkOf l ≡ refused (codeOf x)
+  not-passed x e = sym checked ∙ ap verdictOf e
+
+-- starting a day
+module _ (l : DayList) (v : Verdict) (checked : verdictOf v ≡ checkOf l) (day : Day) (w : WindowSet) (begins : stateOf day ≡ morning (windowsIn w)) where
+  pub not-started : (x : Refusal) → v ≡ Refused x → windowsIn w ≡ windowsOf emptyList → Starts l (record { verdict = v; day = day })
+  not-started x e empty = record { outcome = checked; beside = rw (not-passed l v checked x e) (begins ∙ ap morning empty) }
+
+  pub started : v ≡ Accepted → windowsIn w ≡ windowsOf l → Starts l (record { verdict = v; day = day })
+  started e windows = record { outcome = checked; beside = rw (passed l v checked e) (begins ∙ ap morning windows) }
+
+-- the overload test
+module _ (l : DayList) (v : Verdict) (checked : verdictOf v ≡ checkOf l) where
+  pub not-tested : (x : Refusal) → v ≡ Refused x → Tests l v
+  unfolding testOf
+  not-tested x e = record { outcome = rw (not-passed l v checked x e) (ap verdictOf e); decides = test-decides l }
+
+  pub tested : (u : Verdict) (w : WindowSet) → v ≡ Accepted → windowsIn w ≡ windowsOf l → verdictOf u ≡ overloadOf (windowsIn w) → Tests l u
+  unfolding testOf
+  tested u w e windows test = record { outcome = rw (passed l v checked e) (test ∙ ap overloadOf windows); decides = test-decides l }
+
+-- the first i of h places are stored, and the day has gone i minutes on from s
+pub record Stored (s : State) (h : ℕ) (old new : List ℕ) (day : Day) (i : ℕ) : Type 0 where
+  pub room : h ≤ length old
+  pub passed : i ≤ h
+  pub now : stateOf day ≡ later i s
+  pub bytes : new ≡ listOf i (placeAt s) ++ drop i old
+
+module _ (s : State) (h : ℕ) (old : List ℕ) where
+  pub store-start : (day : Day) → h ≤ length old → s ≡ stateOf day → Stored s h old old day 0
+  unfolding later listOf
+  store-start day room e = record { room = room; passed = omega arith; now = sym e; bytes = refl }
+
+  store-one : (i x : ℕ) → i < length old → x ≡ placeAt s i
+            → set (listOf i (placeAt s) ++ drop i old) i x ≡ listOf (i + 1) (placeAt s) ++ drop (i + 1) old
+  unfolding listOf
+  store-one i x h e =
+      rw (add-one, drop-cons old i 0 h, e)
+      (set-at (listOf i (placeAt s)) (getD old i 0) (drop (suc i) old) (placeAt s i) i (list-length i (placeAt s))
+      ∙ sym (append-snoc (listOf i (placeAt s)) (placeAt s i) (drop (suc i) old)))
+
+  pub store-next : (new : List ℕ) (day next : Day) (i x : ℕ) → Stored s h old new day i → i < h → Turns day (record { place = x; day = next })
+                 → Stored s h old (set new i x) next (i + 1)
+  unfolding later
+  store-next new day next i x so below turn =
+      record {
+        room = so .room;
+        passed = omega (arith, below);
+        now = rw add-one (turn .next ∙ ap (λ (z : State). minuteOf z .next) (so .now));
+        bytes = rw (so .bytes) (store-one i x (omega (arith, below, so .room)) (turn .place ∙ ap (λ (z : State). minuteOf z .place) (so .now)));
+      }
+
+  pub store-done : (new : List ℕ) (day : Day) (i : ℕ) → Stored s h old new day i → h ≤ i → new ≡ listOf h (placeAt s) ++ drop h old
+  store-done new day i so end =
+      let z : i ≡ h = omega (arith, so .passed) in
+      rw (← z) (so .bytes)
+
+  pub store-long : (new : List ℕ) (day : Day) (i : ℕ) → Stored s h old new day i → length new ≡ length old
+  store-long new day i so =
+      let fits : i ≤ length old = omega (arith, so .passed, so .room) in
+      rw (so .bytes) (length-front old (listOf i (placeAt s)) i (list-length i (placeAt s) ∙ sym (length-take-le i old fits)))
+
+-- filling a plan buffer
+module _ (l : DayList) (old : List ℕ) (a : DayAnswer) (starts : Starts l a) where
+  pub not-filled : (x : Refusal) → a .verdict ≡ Refused x → Fills l old (a .verdict) old
+  unfolding scheduleOf
+  not-filled x e =
+      let z = not-passed l (a .verdict) (starts .outcome) x e in
+      record { outcome = rw z (ap verdictOf e); buffer = rw z refl; decides = schedule-decides l (length old) }
+
+  module _ (e : a .verdict ≡ Accepted) where
+    well-formed : checkOf l ≡ answered tt
+    well-formed = passed l (a .verdict) (starts .outcome) e
+
+    begins : stateOf (a .day) ≡ morning (windowsOf l)
+    begins = rw well-formed at (starts .beside)
+
+    tests : overloadOf (windowsIn (a .day .windows)) ≡ overloadOf (windowsOf l)
+    tests = ap (λ (s : State). overloadOf (s .windows)) begins
+
+    pub too-short : length old < l .frame .h → Fills l old (Refused (PlanBufferShort (l .frame .h))) old
+    unfolding scheduleOf
+    too-short h =
+        let z = lt-ltb (length old) (l .frame .h) h in
+        record { outcome = rw (well-formed, z) refl; buffer = rw (well-formed, z) refl; decides = schedule-decides l (length old) }
+
+    module _ (h : l .frame .h ≤ length old) (u : Verdict) (test : verdictOf u ≡ overloadOf (windowsIn (a .day .windows))) where
+      pub not-planned : (x : Refusal) → u ≡ Refused x → Fills l old u old
+      unfolding scheduleOf
+      not-planned x r =
+          let z = le-ltb (length old) (l .frame .h) h in
+          let nine : overloadOf (windowsOf l) ≡ refused (codeOf x) = sym tests ∙ sym test ∙ ap verdictOf r in
+          record { outcome = rw (well-formed, z) (test ∙ tests); buffer = rw (well-formed, z, nine) refl; decides = schedule-decides l (length old) }
+
+      pub planned : (new : List ℕ) → u ≡ Accepted → new ≡ listOf (l .frame .h) (placeAt (stateOf (a .day))) ++ drop (l .frame .h) old
+                  → Fills l old Accepted new
+      unfolding scheduleOf schedule
+      planned new r bytes =
+          let z = le-ltb (length old) (l .frame .h) h in
+          let fine : overloadOf (windowsOf l) ≡ answered tt = sym tests ∙ sym test ∙ ap verdictOf r in
+          record {
+            outcome = rw (well-formed, z) (sym fine);
+            buffer = rw (well-formed, z, fine) (rw (← begins) bytes);
+            decides = schedule-decides l (length old);
+          }
