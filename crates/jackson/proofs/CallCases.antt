@@ -26,7 +26,7 @@ use Rattle.jackson.specs.declared.types.WindowSet.{WindowSet}
 use Rattle.jackson.specs.declared.types.Day.{Day}
 use Rattle.jackson.specs.declared.types.DayAnswer.{DayAnswer}
 use Rattle.jackson.proofs.Schedules.{minute-on, minute-over, list-length}
-use Rattle.jackson.proofs.Law.{test-decides, schedule-decides}
+use Rattle.jackson.proofs.ListLaws.{test-decides, schedule-decides}
 
 -- a minute of a day past its end, and of one that goes on
 module _ (day : Day) where
@@ -36,7 +36,7 @@ module _ (day : Day) where
       record { place = rw e refl; next = rw e refl }
 
   pub turn-on : (next : Day) (k : ℕ) → day .t < day .windows .h → k ≡ chosen (stateOf day) → stateOf next ≡ after (stateOf day) k
-              → Turns day (record { place = k; day = next })
+      → Turns day (record { place = k; day = next })
   turn-on next k h place step =
       let e = minute-on (stateOf day) h in
       record { place = rw e place; next = rw e (rw (← place) step) }
@@ -80,7 +80,7 @@ module _ (s : State) (h : ℕ) (old : List ℕ) where
   store-start day room e = record { room = room; passed = omega arith; now = sym e; bytes = refl }
 
   store-one : (i x : ℕ) → i < length old → x ≡ placeAt s i
-            → set (listOf i (placeAt s) ++ drop i old) i x ≡ listOf (i + 1) (placeAt s) ++ drop (i + 1) old
+      → set (listOf i (placeAt s) ++ drop i old) i x ≡ listOf (i + 1) (placeAt s) ++ drop (i + 1) old
   unfolding listOf
   store-one i x h e =
       rw (add-one, drop-cons old i 0 h, e)
@@ -88,7 +88,7 @@ module _ (s : State) (h : ℕ) (old : List ℕ) where
       ∙ sym (append-snoc (listOf i (placeAt s)) (placeAt s i) (drop (suc i) old)))
 
   pub store-next : (new : List ℕ) (day next : Day) (i x : ℕ) → Stored s h old new day i → i < h → Turns day (record { place = x; day = next })
-                 → Stored s h old (set new i x) next (i + 1)
+      → Stored s h old (set new i x) next (i + 1)
   unfolding later
   store-next new day next i x so below turn =
       record {
@@ -141,7 +141,7 @@ module _ (l : DayList) (old : List ℕ) (a : DayAnswer) (starts : Starts l a) wh
           record { outcome = rw (well-formed, z) (test ∙ tests); buffer = rw (well-formed, z, nine) refl; decides = schedule-decides l (length old) }
 
       pub planned : (new : List ℕ) → u ≡ Accepted → new ≡ listOf (l .frame .h) (placeAt (stateOf (a .day))) ++ drop (l .frame .h) old
-                  → Fills l old Accepted new
+          → Fills l old Accepted new
       unfolding scheduleOf schedule
       planned new r bytes =
           let z = le-ltb (length old) (l .frame .h) h in

@@ -112,7 +112,7 @@ module _ (s : WindowSet) (n : ℕ) (holds : n ≡ min (s .n) 64) (j : ℕ) (righ
       ltb-true _ _ (rw (← right) at (found .passes))
 
   pub overload-shown : (i x : ℕ) → j < n → i ≡ leftEnd (columns 0 n (s .r) (s .d) (s .p)) (getD (s .d) j 0)
-                     → x ≡ work (columns 0 n (s .r) (s .d) (s .p)) (getD (s .r) i 0) (getD (s .d) j 0)
-                     → refused (code 9 (getD (s .r) i 0 ∷ getD (s .d) j 0 ∷ x ∷ [])) ≡ overloadOf (windowsIn s)
+      → x ≡ work (columns 0 n (s .r) (s .d) (s .p)) (getD (s .r) i 0) (getD (s .d) j 0)
+      → refused (code 9 (getD (s .r) i 0 ∷ getD (s .d) j 0 ∷ x ∷ [])) ≡ overloadOf (windowsIn s)
   unfolding overloadOf rightEnd leftEnd work
   overload-shown i x h left sum = rw (← holds, ← right, lt-ltb j n h, ← left, sum) refl

@@ -11,6 +11,8 @@ pub mod Choices
 pub mod ShownInterval
 pub mod Schedules
 pub mod Law
+pub mod ListLaws
+pub mod Alike
 mod ScanSteps
 mod MinuteCases
 mod IntervalCases

@@ -24,8 +24,8 @@ module _ (field : Entry → ℕ) (es : List Entry) where
       record {
         long = length-replicate {A = ℕ} 64 0;
         is = λ j. le-or-lt 64 j
-             (λ h. List·getD-eq-default (replicate 64 0) 0 {n = j} (rw (length-replicate {A = ℕ} 64 0) h) ∙ sym z)
-             (λ h. getD-replicate 64 j 0 0 h ∙ sym z);
+            (λ h. List·getD-eq-default (replicate 64 0) 0 {n = j} (rw (length-replicate {A = ℕ} 64 0) h) ∙ sym z)
+            (λ h. getD-replicate 64 j 0 0 h ∙ sym z);
       }
 
   -- places other than i have the same entry, or none, before and after
@@ -43,8 +43,8 @@ module _ (field : Entry → ℕ) (es : List Entry) where
       record {
         long = length-set xs i x ∙ so .long;
         is = λ j. same-cases i j
-             (λ z _. rw (← z) (getD-set-same xs i x 0 (omega (arith, so .long)) ∙ e ∙ ap field (sym (getD-take (i + 1) es i blank (omega arith)))))
-             (λ z _. getD-set-other xs i j x 0 (λ q. z (sym q)) ∙ so .is j ∙ ap field (others i j z));
+            (λ z _. rw (← z) (getD-set-same xs i x 0 (omega (arith, so .long)) ∙ e ∙ ap field (sym (getD-take (i + 1) es i blank (omega arith)))))
+            (λ z _. getD-set-other xs i j x 0 (λ q. z (sym q)) ∙ so .is j ∙ ap field (others i j z));
       }
 
 -- the windows of the first i entries are copied, of n
@@ -67,7 +67,7 @@ module _ (es : List Entry) (n : ℕ) where
       }
 
   pub copy-next : (r d p : List ℕ) (i : ℕ) → Copied es n r d p i → i < n
-                → Copied es n (set r i (getD es i blank .r)) (set d i (getD es i blank .d)) (set p i (getD es i blank .p)) (i + 1)
+      → Copied es n (set r i (getD es i blank .r)) (set d i (getD es i blank .d)) (set p i (getD es i blank .p)) (i + 1)
   copy-next r d p i so h =
       record {
         held = so .held;
@@ -90,7 +90,7 @@ module _ (l : DayList) (long : length (l .entries) ≡ 64) where
       rw z (take-all 64 (l .entries) (omega (arith, long)) ∙ sym (take-all (l .n) (l .entries) (omega (arith, long)))))
 
   pub copy-done : (r d p : List ℕ) (n i : ℕ) → n ≡ min (l .n) 64 → Copied (l .entries) n r d p i → n ≤ i
-                → columns (l .frame .h) (min (l .n) 64) r d p ≡ windowsOf l
+      → columns (l .frame .h) (min (l .n) 64) r d p ≡ windowsOf l
   copy-done r d p n i e so h =
       let held = columns (l .frame .h) (min (l .n) 64) r d p in
       let z : i ≡ min (l .n) 64 = omega (arith, e, so .passed) in

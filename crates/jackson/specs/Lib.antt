@@ -2,7 +2,8 @@ pub mod Counting
 pub mod Windows
 pub mod Plans
 pub mod Mirrors
+pub mod Intervals
+pub mod Existence
 pub mod Minutes
 pub mod Rules
-pub mod Intervals
 pub mod Calls

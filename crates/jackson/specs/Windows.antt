@@ -1,5 +1,6 @@
 -- "A set of windows has one for each entry." The rules speak of windows by the entry's place, as functions of it.
 use Prim.Native.Nat.{ℕ, _+_, _<_, _≤_, min, max}
+use mathlib.Core.Path.{_≡_}
 use mathlib.Core.List.{List}
 use lib.ListN.{length, getD}
 use Rattle.list.specs.DayLists.{entriesOf, blank}
@@ -24,6 +25,14 @@ windowsOf l =
       d = λ i. getD (entriesOf l) i blank .d;
       p = λ i. getD (entriesOf l) i blank .p;
     }
+
+-- serials, seals and kinds count for nothing: the frame, the number of entries, and each one's r, d and p do
+pub record SameNumbers (a b : DayList) : Type 0 where
+  pub frame : a .frame ≡ b .frame
+  pub n : length (entriesOf a) ≡ length (entriesOf b)
+  pub r : (i : ℕ) → i < length (entriesOf a) → getD (entriesOf a) i blank .r ≡ getD (entriesOf b) i blank .r
+  pub d : (i : ℕ) → i < length (entriesOf a) → getD (entriesOf a) i blank .d ≡ getD (entriesOf b) i blank .d
+  pub p : (i : ℕ) → i < length (entriesOf a) → getD (entriesOf a) i blank .p ≡ getD (entriesOf b) i blank .p
 
 -- the windows that arrays hold
 abbrev pub columns : ℕ → ℕ → List ℕ → List ℕ → List ℕ → Windows

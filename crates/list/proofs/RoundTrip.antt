@@ -66,7 +66,7 @@ module _ (l : DayList) (room : ℕ) where
   write-says : Says Answer Anything (writeOf l room)
   unfolding writeOf
   write-says =
-      by-step (λ _. SoundList l) Anything Answer (checkOf l) _ (check-says l)
+      by-step (λ _. SoundList l) Anything Answer (checkOf l) _ (check-says l Anything tt tt (λ _. tt) (λ _. tt))
       (λ _ s. by-row Answer Anything (ltb room (length (bytesOf l))) _ _ (λ t. tt) (λ t. (well-formed l s, refl)))
 
 -- "a well-formed list survives writing and reading": from the bytes that the writer answers, an equal list is read

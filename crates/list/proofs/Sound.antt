@@ -73,13 +73,14 @@ Every P [] = Unit {0}
 Every P (e ∷ es) = P e × Every P es
 
 module _ (f : Frame) where
-  -- what follows from sound entries, an answer of their check says
-  checked-say : (Q : Type 0) (i : ℕ) (es : List Entry) → (Every (Sound f) es → Q) → Says (λ _. Q) Anything (entriesFault f i es)
+  -- what follows from sound entries, an answer of their check says; a refusal says whatever holds of rows 6 and 7 at every place
+  checked-say : (R : Code → Type 0) → ((at : ℕ) → R (code 6 (at ∷ []))) → ((at : ℕ) → R (code 7 (at ∷ [])))
+      → (Q : Type 0) (i : ℕ) (es : List Entry) → (Every (Sound f) es → Q) → Says (λ _. Q) R (entriesFault f i es)
   unfolding entriesFault
-  checked-say Q i [] q = q tt
-  checked-say Q i (e ∷ es) q =
-      by-step (λ _. Sound f e) Anything (λ _. Q) (entryFault f i e) _ (fault-says f i e Anything tt tt)
-      (λ _ s. checked-say Q (i + 1) es (λ more. q (s, more)))
+  checked-say R six seven Q i [] q = q tt
+  checked-say R six seven Q i (e ∷ es) q =
+      by-step (λ _. Sound f e) R (λ _. Q) (entryFault f i e) _ (fault-says f i e R (six i) (seven i))
+      (λ _ s. checked-say R six seven Q (i + 1) es (λ more. q (s, more)))
 
   checked-passes : (i : ℕ) (es : List Entry) → Every (Sound f) es → entriesFault f i es ≡ answered tt
   unfolding entriesFault
@@ -92,16 +93,21 @@ pub record SoundList (l : DayList) : Type 0 where
   pub entries : Every (Sound (l .frame)) (entriesOf l)
 
 module _ (l : DayList) where
-  -- what the value check says
-  pub check-says : Says (λ _. SoundList l) Anything (checkOf l)
+  -- what the value check says: of a refusal, whatever holds of rows 2, 3, 6 and 7
+  pub check-says : (R : Code → Type 0)
+      → R (code 2 (0 ∷ []))
+      → R (code 3 (0 ∷ []))
+      → ((at : ℕ) → R (code 6 (at ∷ [])))
+      → ((at : ℕ) → R (code 7 (at ∷ [])))
+      → Says (λ _. SoundList l) R (checkOf l)
   unfolding checkOf
-  check-says =
-      by-step (λ _. Header (l .frame) (l .n)) Anything (λ _. SoundList l) (headerFault 0 (l .frame) (l .n)) _ (header-says 0 (l .frame) (l .n) Anything tt tt)
-      (λ _ h. checked-say (l .frame) (SoundList l) 0 (entriesOf l) (λ s. record { header = h; entries = s }))
+  check-says R two three six seven =
+      by-step (λ _. Header (l .frame) (l .n)) R (λ _. SoundList l) (headerFault 0 (l .frame) (l .n)) _ (header-says 0 (l .frame) (l .n) R two three)
+      (λ _ h. checked-say (l .frame) R six seven (SoundList l) 0 (entriesOf l) (λ s. record { header = h; entries = s }))
 
   -- a list is well-formed exactly if it is sound
   pub sound-list : WellFormed l → SoundList l
-  sound-list w = rw w at check-says
+  sound-list w = rw w at (check-says Anything tt tt (λ _. tt) (λ _. tt))
 
   pub well-formed : SoundList l → WellFormed l
   unfolding checkOf

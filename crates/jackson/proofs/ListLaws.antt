@@ -1,0 +1,115 @@
+-- The law for lists: the windows of a well-formed list have room, so it holds of them; and what the public calls' outcomes decide.
+-- Assumes nothing.
+use mathlib.Core.Path.{_≡_, refl}
+use mathlib.Core.List.{List, [], _∷_}
+use Prim.Native.Nat.{ℕ, zero, suc, _<_, _≤_}
+use native.Mathlib.Omega.{arith}
+use lib.Dec.{ltb}
+use lib.ListN.{length, getD, length-take, List·getD-eq-default}
+use Rattle.list.specs.Outcomes.{Code, Outcome, answered, refused, andThen}
+use Rattle.list.specs.Checks.{checkOf, WellFormed}
+use Rattle.list.specs.DayLists.{entriesOf, blank}
+use Rattle.list.specs.declared.types.Entry.{Entry}
+use Rattle.list.specs.declared.types.DayList.{DayList}
+use Rattle.list.proofs.Inversion.{Says, by-row}
+use Rattle.list.proofs.Sound.{Sound, Every, SoundList, check-says, sound-list}
+use Rattle.jackson.specs.Windows.{windowsOf, Roomy}
+use Rattle.jackson.specs.Plans.{PlanBytes}
+use Rattle.jackson.specs.Mirrors.{mirror}
+use Rattle.jackson.specs.Intervals.{overloadOf}
+use Rattle.jackson.specs.Existence.{Planned, PlanLaw}
+use Rattle.jackson.specs.Minutes.{schedule}
+use Rattle.jackson.specs.Rules.{ScheduleLaw}
+use Rattle.jackson.specs.Calls.{testOf, scheduleOf, Decides}
+use Rattle.jackson.proofs.Sums.{le-or-lt}
+use Rattle.jackson.proofs.PlanFacts.{mirror-mirror}
+use Rattle.jackson.proofs.Law.{plan-law, schedule-law}
+
+-- what holds of every entry holds of the one at any place
+every-at : (P : Entry → Type 0) (es : List Entry) → Every P es → (i : ℕ) → i < length es → P (getD es i blank)
+every-at P [] all i h = absurd (omega arith)
+every-at P (e ∷ es) all zero h = all .0
+every-at P (e ∷ es) all (suc i) h = every-at P es (all .1) i (omega arith)
+
+-- past the entries that count all is blank
+pub past-end : (l : DayList) (i : ℕ) → length (entriesOf l) ≤ i → getD (entriesOf l) i blank ≡ blank
+past-end l i h = List·getD-eq-default (entriesOf l) blank h
+
+module _ (l : DayList) (formed : WellFormed l) where
+  sound-at : (i : ℕ) → i < windowsOf l .n → Sound (l .frame) (getD (entriesOf l) i blank)
+  sound-at = every-at (Sound (l .frame)) (entriesOf l) (sound-list l formed .entries)
+
+  -- the windows of a well-formed list have room
+  pub list-roomy : Roomy (windowsOf l)
+  list-roomy = record { in-day = λ i h. sound-at i h .in-day; room = λ i h. sound-at i h .room }
+
+  -- it has at most 64 entries
+  pub list-few : windowsOf l .n ≤ 64
+  list-few = omega (arith, length-take (l .n) (l .entries), sound-list l formed .header .room)
+
+  -- each needs some minutes
+  pub list-minutes : (i : ℕ) → i < windowsOf l .n → 1 ≤ windowsOf l .p i
+  list-minutes i h = sound-at i h .some-minutes
+
+  -- every window, those past the entries too, lies in the day
+  pub list-in-day : (i : ℕ) → (windowsOf l .r i ≤ windowsOf l .h) × (windowsOf l .d i ≤ windowsOf l .h)
+  list-in-day i =
+      le-or-lt (windowsOf l .n) i
+      (λ h. rw (past-end l i h) (omega arith))
+      (λ h. let s = sound-at i h in (omega arith, s .in-day))
+
+  -- so the windows are the mirror of their mirror
+  pub list-mirror : mirror (mirror (windowsOf l)) ≡ windowsOf l
+  list-mirror = mirror-mirror (windowsOf l) (λ i. list-in-day i .0) (λ i. list-in-day i .1)
+
+  -- the law holds of them
+  pub list-law : PlanLaw (windowsOf l)
+  list-law = plan-law (windowsOf l) list-roomy (omega (arith, list-few))
+
+  pub list-schedule-law : ScheduleLaw (windowsOf l)
+  list-schedule-law = schedule-law (windowsOf l) list-roomy (omega (arith, list-few))
+
+-- What the calls' outcomes decide.
+
+-- a refusal that is not row 9
+abbrev NotNine : Code → Type 0
+NotNine k = k .number ≡ 9 → ⊥
+
+module _ (l : DayList) where
+  -- by an answer the schedule is a plan, by row 9 there is none
+  abbrev Tells : Outcome (Unit {0}) → Type 0
+  Tells = Says (λ _. PlanBytes (windowsOf l) (schedule (windowsOf l))) (λ k. k .number ≡ 9 → Planned (windowsOf l) → ⊥)
+
+  tells-decides : (o : Outcome (Unit {0})) → Tells o → Decides l o
+  tells-decides o tells =
+      record {
+        plan = λ e. rw e at tells;
+        no-plan = λ xs m e plan. (rw e at tells) refl (m, plan);
+      }
+
+  -- the overload test of a well-formed list tells that
+  overload-tells : WellFormed l → Tells (overloadOf (windowsOf l))
+  overload-tells formed = go (overloadOf (windowsOf l)) refl
+    where
+      go : (o : Outcome (Unit {0})) → overloadOf (windowsOf l) ≡ o → Tells o
+      go (answered t) e = list-schedule-law l formed .plan .0 (list-law l formed .accepted .1 e)
+      go (refused k) e = λ _. list-law l formed .turned-back .1 (k, e)
+
+  -- and what tells it of well-formed lists does of all, once the value check comes first
+  checked-tells : (o : Outcome (Unit {0})) → (WellFormed l → Tells o) → Tells (andThen (checkOf l) (λ _. o))
+  checked-tells o rest =
+      go (checkOf l) refl (check-says l NotNine (λ z. omega arith) (λ z. omega arith) (λ _ z. omega arith) (λ _ z. omega arith))
+    where
+      go : (c : Outcome (Unit {0})) → checkOf l ≡ c → Says (λ _. SoundList l) NotNine c → Tells (andThen c (λ _. o))
+      go (answered t) e _ = rest e
+      go (refused k) e other = λ nine. absurd (other nine)
+
+  pub test-decides : Decides l (testOf l)
+  unfolding testOf
+  test-decides = tells-decides _ (checked-tells _ overload-tells)
+
+  pub schedule-decides : (room : ℕ) → Decides l (scheduleOf l room)
+  unfolding scheduleOf
+  schedule-decides room =
+      tells-decides _
+      (checked-tells _ (λ formed. by-row _ _ (ltb room (l .frame .h)) _ _ (λ _ z. absurd (omega arith)) (λ _. overload-tells formed)))
