@@ -5,7 +5,7 @@ use mathlib.Core.List.{List, [], _∷_}
 use Prim.Native.Nat.{ℕ}
 use lib.ListN.{length}
 use Rattle.list.specs.Outcomes.{answered, refused}
-use Rattle.list.specs.Refusals.{codeOf, listAnswerOf, writeAnswerOf}
+use Rattle.list.specs.Refusals.{codeOf, verdictOf, listAnswerOf, writeAnswerOf}
 use Rattle.list.specs.Reading.{readOf}
 use Rattle.list.specs.Writing.{writeOf}
 use Rattle.list.specs.Promises.{Reads, Writes}
@@ -16,9 +16,10 @@ use Rattle.list.specs.declared.types.Verdict.the-variants.{Accepted, Refused}
 use Rattle.list.specs.declared.types.ReadAnswer.{ReadAnswer}
 use Rattle.list.specs.declared.types.WriteAnswer.{WriteAnswer}
 use Rattle.list.specs.declared.types.WriteAnswer.the-variants.{Written, NotWritten}
+use Rattle.jackson.specs.Calls.{Tests, Fills}
 use Rattle.codes.specs.Numbers.{three}
 use Rattle.abi.specs.Flat.{flatOf, valueOf}
-use Rattle.abi.specs.Calls.{ReadCall, WriteCall}
+use Rattle.abi.specs.Calls.{answerWith, ReadCall, WriteCall, OverloadCall, ScheduleCall}
 use Rattle.abi.specs.declared.Answer.{Answer}
 
 -- an answer made of a refusal
@@ -49,3 +50,12 @@ module _ (xs old new : List ℕ) (l : DayList) (a : WriteAnswer) (p : l ≡ valu
   write-refused x b v q =
       let o : writeOf (valueOf xs) (length old) ≡ refused (codeOf x) = sym (of-value .outcome) ∙ ap writeAnswerOf v in
       record { answer = rw o q; buffer = of-value .buffer }
+
+module _ (xs : List ℕ) (l : DayList) (p : l ≡ valueOf xs) (v : Verdict) (b : Answer) (q : b ≡ answerWith (λ _. []) (verdictOf v)) where
+  pub overload-said : Tests l v → OverloadCall xs b
+  overload-said w = rw (← p) (q ∙ ap (answerWith (λ _. [])) (w .outcome))
+
+  pub schedule-said : (old new : List ℕ) → Fills l old v new → ScheduleCall xs old b new
+  schedule-said old new w =
+      let f : Fills (valueOf xs) old v new = subst (λ (k : DayList). Fills k old v new) p w in
+      record { answer = q ∙ ap (answerWith (λ _. [])) (f .outcome); buffer = f .buffer }

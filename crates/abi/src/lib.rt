@@ -1,7 +1,7 @@
 // The planner's calls for programs in other languages: byte slices and numbers only.
 // Promises: each call answers 0 or a refusal's number of document 01, with its values, and leaves in its buffers what
 // specs/Calls.antt says, whatever the bytes and numbers are. What it cannot check are the pointers themselves: a caller lends
-// `bytes` and `out` with their lengths, and `fields` with 450 numbers. Uses the crates list and codes.
+// `bytes`, `out` and `plan` with their lengths, and `fields` with 450 numbers. Uses the crates list, jackson and codes.
 mod flat;
 
 use flat::flat_of;
@@ -10,9 +10,10 @@ use list::types::Refusal;
 use list::types::Verdict;
 use list::types::WriteAnswer;
 ghost use mathlib.Core.Path.{_≡_};
-ghost use Rattle.list.specs.Refusals.{codeOf};
+ghost use mathlib.Core.List.{[]};
+ghost use Rattle.list.specs.Refusals.{codeOf, verdictOf};
 ghost use Rattle.codes.specs.Numbers.{three};
-ghost use Rattle.abi.specs.Calls.{ReadCall, WriteCall};
+ghost use Rattle.abi.specs.Calls.{answerWith, ReadCall, WriteCall, OverloadCall, ScheduleCall};
 
 // What a call answers: 0 or a refusal's number, and three values, 0 where there are fewer.
 #[repr(C)]
@@ -29,6 +30,18 @@ fn refused_as(x: Refusal) -> Answer
     Answer {
         number: code.number as u64,
         values: values,
+    }
+}
+
+fn verdict_as(v: Verdict) -> Answer
+    ensures { λ a. ⌜ a ≡ answerWith (λ _. []) (verdictOf v) ⌝ }
+{
+    match v {
+        Verdict::Accepted => Answer {
+            number: 0,
+            values: [0, 0, 0],
+        },
+        Verdict::Refused(x) => refused_as(x),
     }
 }
 
@@ -65,4 +78,21 @@ pub extern "C" fn dock_write(fields: &[u32; 450], out: &mut [u8]) -> Answer
         },
         WriteAnswer::NotWritten(x) => refused_as(x),
     }
+}
+
+// Tests the list value that `fields` says for an overloaded interval.
+#[no_mangle]
+pub extern "C" fn dock_overload(fields: &[u32; 450]) -> Answer
+    ensures { λ a. ⌜ OverloadCall (now (fields .entry)) a ⌝ }
+{
+    verdict_as(jackson::overload(list_in(fields)))
+}
+
+// Fills `plan` with Jackson's schedule of the list value that `fields` says, its windows as given. Refused: `plan` keeps its bytes.
+#[no_mangle]
+pub extern "C" fn dock_schedule(fields: &[u32; 450], plan: &mut [u8]) -> Answer
+    ensures { λ a. ⌜ ScheduleCall (now (fields .entry)) (now (plan .entry)) a (now (plan .exit)) ⌝ }
+{
+    let verdict = jackson::schedule(list_in(fields), plan);
+    verdict_as(verdict)
 }

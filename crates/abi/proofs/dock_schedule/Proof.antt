@@ -1,0 +1,25 @@
+-- `dock_schedule` meets its contract.
+-- Assumes nothing.
+use borrow.Author.Needs.{needs}
+use Rattle.abi.proofs.CallCases.{schedule-said}
+use Rattle.abi.proofs.dock_schedule.Statement.{statement}
+use Rattle.abi.proofs.dock_schedule.Tie as tie
+
+list-in-requires : tie.Need-list-in-requires
+list-in-requires c κs = search needs
+
+schedule-requires : tie.Need-schedule-requires
+schedule-requires c κs = search needs
+
+verdict-as-requires : tie.Need-verdict-as-requires
+verdict-as-requires c κs = search needs
+
+same-length : tie.Need-same-length
+same-length c = search needs
+
+returns : tie.Need-returns
+returns c = schedule-said (c .before .before .before .before .before .before .before .args .fields .now) (c .before .before .before .before .before .list-in .result) (c .before .before .before .before .before .list-in .ensures) (c .before .before .before .schedule .result) (c .verdict-as .result) (c .verdict-as .ensures) (c .before .before .before .before .before .before .before .args .plan .now) _ (c .before .before .before .schedule .ensures)
+
+pub dock-schedule-spec : {M : Type 1} → statement M
+dock-schedule-spec =
+    tie.close (tie.spec list-in-requires schedule-requires verdict-as-requires same-length returns)
