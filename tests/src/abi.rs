@@ -6,6 +6,8 @@ use crate::flat::Fields;
 extern "C" {
     fn dock_read(bytes: *const u8, len: usize, fields: *mut Fields) -> Answer;
     fn dock_write(fields: *const Fields, out: *mut u8, len: usize) -> Answer;
+    fn dock_overload(fields: *const Fields) -> Answer;
+    fn dock_schedule(fields: *const Fields, plan: *mut u8, len: usize) -> Answer;
 }
 
 /// What a call answers: 0 or a refusal's number, and three values, 0 where there are fewer.
@@ -21,7 +23,7 @@ pub fn untouched_fields() -> Fields {
     std::array::from_fn(|i| 0xF1E1_D000 + i as u32)
 }
 
-/// What `out` holds before a call.
+/// What `out` and `plan` hold before a call: no byte of it is a place or 255.
 pub fn untouched_bytes(room: usize) -> Vec<u8> {
     (0..room).map(|place| 0x80 | (place % 101) as u8).collect()
 }
@@ -34,16 +36,38 @@ pub fn read(bytes: &[u8]) -> (Answer, Fields) {
     (answer, fields)
 }
 
-/// Bytes before and behind those that are lent to the writer, which it has no business with.
+/// Bytes before and behind those that are lent to a call, which it has no business with.
 const MARGIN: [u8; 16] = [0xEE; 16];
 
-/// Writes a list through the library into `room` bytes, and gives all of them back.
-pub fn write(fields: &Fields, room: usize) -> (Answer, Vec<u8>) {
+/// Lends `room` bytes to a call, and gives all of them back.
+fn lending(room: usize, call: impl FnOnce(&mut [u8]) -> Answer) -> (Answer, Vec<u8>) {
     let mut memory = [&MARGIN[..], &untouched_bytes(room), &MARGIN].concat();
     let out = &mut memory[MARGIN.len()..][..room];
-    // SAFETY: the library reads one array and writes `room` bytes, all of them lent here.
-    let answer = unsafe { dock_write(fields, out.as_mut_ptr(), room) };
+    let answer = call(out);
     let out = out.to_vec();
     assert!(memory.starts_with(&MARGIN) && memory.ends_with(&MARGIN), "bytes written that were not lent");
     (answer, out)
+}
+
+/// Writes a list through the library into `room` bytes, and gives all of them back.
+pub fn write(fields: &Fields, room: usize) -> (Answer, Vec<u8>) {
+    // SAFETY: the library reads one array and writes the bytes of `out`, all of them lent here.
+    lending(room, |out| unsafe { dock_write(fields, out.as_mut_ptr(), out.len()) })
+}
+
+/// Tests a list for overload through the library.
+pub fn overload(fields: &Fields) -> Answer {
+    // SAFETY: the library reads one array, which is lent here.
+    unsafe { dock_overload(fields) }
+}
+
+/// Plans a list through the library into `room` bytes, and gives all of them back.
+pub fn schedule(fields: &Fields, room: usize) -> (Answer, Vec<u8>) {
+    lending(room, |plan| schedule_into(fields, plan))
+}
+
+/// Plans a list through the library into these bytes, whatever they hold.
+pub fn schedule_into(fields: &Fields, plan: &mut [u8]) -> Answer {
+    // SAFETY: the library reads one array and writes the bytes of `plan`, all of them lent here.
+    unsafe { dock_schedule(fields, plan.as_mut_ptr(), plan.len()) }
 }

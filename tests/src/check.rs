@@ -1,13 +1,16 @@
-//! Holds the static library against the second reader and writer, call by call.
+//! Holds the static library against the second reader, writer and planner, call by call.
 
 use crate::abi::{self, Answer};
-use crate::day::{Day, Refusal};
+use crate::day::{Day, Interval, Refusal};
 use crate::flat::{self, Fields};
-use crate::{reader, writer};
+use crate::{brute, planner, reader, writer};
+
+/// The answer of a call that succeeds and has nothing to count.
+const ACCEPTED: Answer = Answer { number: 0, values: [0; 3] };
 
 fn refusing(refusal: &Refusal) -> Answer {
-    let (number, carries) = refusal.code();
-    Answer { number: u64::from(number), values: [carries, 0, 0] }
+    let (number, values) = refusal.code();
+    Answer { number: u64::from(number), values }
 }
 
 /// The number of an answer, 0 for a success.
@@ -22,7 +25,7 @@ pub fn read(bytes: &[u8]) -> Result<Day, Refusal> {
     let expected = reader::read(bytes);
     let (answer, fields) = abi::read(bytes);
     let (wanted, wanted_fields) = match &expected {
-        Ok(day) => (Answer { number: 0, values: [0; 3] }, flat::of_day(day)),
+        Ok(day) => (ACCEPTED, flat::of_day(day)),
         Err(refusal) => (refusing(refusal), abi::untouched_fields()),
     };
     assert_eq!(answer, wanted, "answer to {bytes:02X?}");
@@ -44,7 +47,7 @@ pub fn accepted(bytes: &[u8]) -> Day {
 #[track_caller]
 pub fn refused(bytes: &[u8], number: u32, carries: usize) {
     let refusal = read(bytes).expect_err("must be refused");
-    assert_eq!(refusal.code(), (number, carries as u64), "refusal of {bytes:02X?}");
+    assert_eq!(refusal.code(), (number, [carries as u64, 0, 0]), "refusal of {bytes:02X?}");
 }
 
 /// Writes with both programs into `room` bytes. Answer and bytes must be alike: the form at the start, and
@@ -76,5 +79,72 @@ pub fn written(fields: &Fields, room: usize) -> Vec<u8> {
 #[track_caller]
 pub fn not_written(fields: &Fields, room: usize, number: u32, carries: usize) {
     let refusal = write(fields, room).expect_err("must not be written");
-    assert_eq!(refusal.code(), (number, carries as u64));
+    assert_eq!(refusal.code(), (number, [carries as u64, 0, 0]));
+}
+
+/// Tests a value for overload with both programs. The answers must be alike.
+#[track_caller]
+pub fn overload(fields: &Fields) -> Result<(), Refusal> {
+    let expected = planner::overload(&flat::value(fields));
+    let wanted = expected.as_ref().map_or_else(refusing, |()| ACCEPTED);
+    assert_eq!(abi::overload(fields), wanted, "overload test of {:?}", &fields[..]);
+    expected
+}
+
+/// Plans a value with both programs into `room` bytes. Answer and bytes must be alike: the schedule at the
+/// start, and all else as it was.
+#[track_caller]
+pub fn schedule(fields: &Fields, room: usize) -> Result<Vec<u8>, Refusal> {
+    let expected = planner::schedule(&flat::value(fields), room);
+    let (answer, out) = abi::schedule(fields, room);
+    let mut wanted_out = abi::untouched_bytes(room);
+    let wanted = match &expected {
+        Ok(plan) => {
+            wanted_out[..plan.len()].copy_from_slice(plan);
+            ACCEPTED
+        }
+        Err(refusal) => refusing(refusal),
+    };
+    assert_eq!(answer, wanted, "answer to {:?} and {room} bytes", &fields[..]);
+    assert_eq!(out, wanted_out, "bytes after planning {:?}", &fields[..]);
+    expected
+}
+
+/// Plans a list that must be planned, in as many bytes as it has minutes and in some more, and gives its
+/// schedule, which must be a plan.
+#[track_caller]
+pub fn planned(day: &Day) -> Vec<u8> {
+    let fields = flat::of_day(day);
+    let h = usize::from(day.h);
+    assert_eq!(overload(&fields), Ok(()), "nothing is overloaded in {day:?}");
+    let plan = schedule(&fields, h).unwrap_or_else(|refusal| panic!("{refusal:?} of {day:?}"));
+    assert_eq!(schedule(&fields, h + 9).as_deref(), Ok(&plan[..]), "in a longer buffer");
+    assert!(brute::is_plan(day, &plan), "{plan:?} is no plan of {day:?}");
+    plan
+}
+
+/// Plans a list that must be refused with 9, and gives the interval shown, the same by both calls.
+#[track_caller]
+pub fn overloaded(day: &Day) -> Interval {
+    let fields = flat::of_day(day);
+    let refusal = overload(&fields).expect_err("must be overloaded");
+    assert_eq!(schedule(&fields, usize::from(day.h)), Err(refusal), "by the other call");
+    match refusal {
+        Refusal::Overloaded(interval) => interval,
+        _ => panic!("{refusal:?} of {day:?}"),
+    }
+}
+
+/// Plans a value into `room` bytes that must be refused with this number, carrying this value.
+#[track_caller]
+pub fn not_planned(fields: &Fields, room: usize, number: u32, carries: usize) {
+    let refusal = schedule(fields, room).expect_err("must not be planned");
+    assert_eq!(refusal.code(), (number, [carries as u64, 0, 0]));
+}
+
+/// Tests a value for overload that must be refused with this number, carrying this value.
+#[track_caller]
+pub fn not_tested(fields: &Fields, number: u32, carries: usize) {
+    let refusal = overload(fields).expect_err("must be refused");
+    assert_eq!(refusal.code(), (number, [carries as u64, 0, 0]));
 }

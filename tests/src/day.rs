@@ -18,7 +18,15 @@ pub struct Day {
     pub entries: Vec<Entry>,
 }
 
-/// The rows of document 01's table that reading and writing know, with what each carries.
+/// An interval [a, b) and its work.
+#[derive(Clone, Copy, Debug, PartialEq, Eq)]
+pub struct Interval {
+    pub a: u16,
+    pub b: u16,
+    pub work: u64,
+}
+
+/// The rows of document 01's table that reading, writing and planning know, with what each carries.
 #[derive(Clone, Copy, Debug, PartialEq, Eq)]
 pub enum Refusal {
     Missing { length: usize },
@@ -29,12 +37,14 @@ pub enum Refusal {
     NoMinutes { place: usize },
     Window { place: usize },
     LeftOver { first: usize },
+    Overloaded(Interval),
+    ShortPlan { h: u16 },
     ShortBuffer { needed: usize },
 }
 
 impl Refusal {
-    /// The refusal's number and the value that it carries.
-    pub fn code(self) -> (u32, u64) {
+    /// The refusal's number and the values that it carries, 0 where there are fewer than three.
+    pub fn code(self) -> (u32, [u64; 3]) {
         let (number, carries) = match self {
             Refusal::Missing { length } => (1, length),
             Refusal::DayLength => (2, 0),
@@ -44,9 +54,11 @@ impl Refusal {
             Refusal::NoMinutes { place } => (6, place),
             Refusal::Window { place } => (7, place),
             Refusal::LeftOver { first } => (8, first),
+            Refusal::Overloaded(Interval { a, b, work }) => return (9, [u64::from(a), u64::from(b), work]),
+            Refusal::ShortPlan { h } => (11, usize::from(h)),
             Refusal::ShortBuffer { needed } => (12, needed),
         };
-        (number, carries as u64)
+        (number, [carries as u64, 0, 0])
     }
 }
 

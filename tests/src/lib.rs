@@ -1,10 +1,15 @@
-//! What the tests of the dock planner stand on: the calls of the static library, a second reader and
-//! writer of the day's list written straight from document 01, and random lists to try both on.
+//! What the tests of the dock planner stand on: the calls of the static library, a second reader, writer
+//! and planner of the day's list written straight from document 01, all plans of small days found by
+//! trying everything, and random lists to try these on.
 
 pub mod abi;
+pub mod brute;
 pub mod check;
 pub mod day;
 pub mod flat;
+pub mod jackson;
+pub mod overload;
+pub mod planner;
 pub mod random;
 pub mod reader;
 pub mod samples;

@@ -62,12 +62,70 @@ pub fn any_day(random: &mut Random) -> Day {
     day
 }
 
-fn entry(random: &mut Random, h: u16) -> Entry {
+/// A well-formed entry of a day of `h` minutes.
+pub fn entry(random: &mut Random, h: u16) -> Entry {
     let d = if random.once_in(3) { h } else { random.within(1, h) };
     let r = if random.once_in(3) { 0 } else { random.within(0, d - 1) };
     let p = if random.once_in(3) { d - r } else { random.within(1, d - r) };
     let seal = if random.once_in(2) { None } else { Some(random.wide()) };
     Entry { serial: random.wide(), seal, r, d, p, whole: random.once_in(2) }
+}
+
+/// A well-formed list of at most 8 minutes and 5 entries, with a plan or without one.
+pub fn small_day(random: &mut Random) -> Day {
+    let h = random.within(1, 8);
+    let n = random.below(6);
+    if random.once_in(4) {
+        return Day { h, entries: (0..n).map(|_| entry(random, h)).collect() };
+    }
+    let idle = random.pick(&[0, 2, 9]);
+    let mut day = planned_day(random, h, n, idle, &[1, 2, 4, 8]);
+    if random.once_in(2) {
+        work_more(random, &mut day);
+    }
+    day
+}
+
+/// A list of `n` entries, or as many as there are minutes, that has a plan. One is made up, idle once in
+/// `idle` minutes and never if that is 0, and each window is drawn around its entry's minutes: to the next
+/// multiples of one of `grids`, so that many windows end together.
+pub fn planned_day(random: &mut Random, h: u16, n: usize, idle: usize, grids: &[u16]) -> Day {
+    let n = n.min(usize::from(h));
+    let mut entries: Vec<Entry> = (0..n).map(|_| entry(random, 1)).collect();
+    let mut minutes = vec![vec![]; n];
+    let mut turn = n;
+    for minute in 0..h {
+        let now = usize::from(minute) * n / usize::from(h);
+        if n > 0 && turn != now {
+            turn = now;
+            minutes[now].push(minute); // each entry has a minute at least
+        } else if n > 0 && (idle == 0 || !random.once_in(idle)) {
+            let long = random.below(n.div_ceil(8)) * 8; // an eighth of the entries have minutes all day long
+            let near = (now + random.below(5)).saturating_sub(2).min(n - 1);
+            minutes[if random.once_in(3) { long } else { near }].push(minute);
+        }
+    }
+    for place in (1..n).rev() {
+        minutes.swap(place, random.below(place + 1));
+    }
+    for (entry, minutes) in entries.iter_mut().zip(minutes) {
+        let grid = random.pick(grids);
+        let end = minutes[minutes.len() - 1] + 1;
+        entry.r = minutes[0] / grid * grid;
+        entry.d = (end.div_ceil(grid) * grid).min(h);
+        entry.p = minutes.len() as u16;
+    }
+    Day { h, entries }
+}
+
+/// Gives more work to an entry whose window has room for it, if there is one.
+pub fn work_more(random: &mut Random, day: &mut Day) {
+    let mut roomy: Vec<_> = day.entries.iter_mut().filter(|entry| entry.p < entry.d - entry.r).collect();
+    if !roomy.is_empty() {
+        let chosen = random.below(roomy.len());
+        let entry = &mut roomy[chosen];
+        entry.p = random.within(entry.p + 1, entry.d - entry.r);
+    }
 }
 
 /// The bytes of a random list with one to three damages.

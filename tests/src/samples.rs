@@ -1,6 +1,7 @@
 //! Inputs and lists that several tests share, and what is needed to write others down.
 
 use crate::day::{Day, Entry, LONGEST_DAY, MOST_ENTRIES};
+use crate::jackson::IDLE;
 use crate::writer;
 
 /// Bytes written as in document 01: hexadecimal, with blanks and bars anywhere.
@@ -8,6 +9,18 @@ pub fn hex(text: &str) -> Vec<u8> {
     let digits: Vec<u32> = text.chars().filter_map(|digit| digit.to_digit(16)).collect();
     assert_eq!(digits.len() % 2, 0, "a byte has two digits");
     digits.chunks(2).map(|pair| (pair[0] << 4 | pair[1]) as u8).collect()
+}
+
+/// A plan written down minute by minute: a place, or `-` for an idle minute.
+pub fn plan(minutes: &str) -> Vec<u8> {
+    let minute = |word| if word == "-" { IDLE } else { str::parse(word).expect("a place") };
+    minutes.split_whitespace().map(minute).collect()
+}
+
+/// A day of `h` minutes with r, d and p of each entry: all of them pause, with serials that differ.
+pub fn windows(h: u16, entries: &[(u16, u16, u16)]) -> Day {
+    let entry = |(serial, &(r, d, p))| Entry { serial, seal: None, r, d, p, whole: false };
+    Day { h, entries: (101..).zip(entries).map(entry).collect() }
 }
 
 /// Document 01's sample input.

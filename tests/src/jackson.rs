@@ -1,0 +1,36 @@
+//! Jackson's preemptive schedule, minute by minute, from document 01's section "Jackson's minute".
+
+use crate::day::Day;
+
+/// The byte of a minute that no entry has.
+pub const IDLE: u8 = 255;
+
+/// The schedule of the windows as they are given. "A plan is H bytes: the place, or 255 for idle."
+pub fn schedule(day: &Day) -> Vec<u8> {
+    let mut left: Vec<u16> = day.entries.iter().map(|entry| entry.p).collect();
+    let mut before = None;
+    let mut plan = Vec::with_capacity(usize::from(day.h));
+    for minute in 0..day.h {
+        before = taken(day, &left, minute, before);
+        if let Some(place) = before {
+            left[place] -= 1;
+        }
+        plan.push(before.map_or(IDLE, |place| place as u8));
+    }
+    plan
+}
+
+/// The place that has this minute, where `left` are the minutes that each entry has left and `before` had
+/// the minute before.
+fn taken(day: &Day, left: &[u16], minute: u16, before: Option<usize>) -> Option<usize> {
+    let d = |place: usize| day.entries[place].d;
+    // "among entries with r reached and minutes left, take the smallest d", of equals the first
+    let ready = |&place: &usize| day.entries[place].r <= minute && left[place] > 0;
+    let smallest = (0..day.entries.len()).filter(ready).min_by_key(|&place| d(place))?;
+    // "The entry that had the minute before, if it has minutes left, goes on unless another d is strictly
+    // smaller. Otherwise the lowest place among equals is taken."
+    match before {
+        Some(running) if left[running] > 0 && d(smallest) >= d(running) => Some(running),
+        _ => Some(smallest),
+    }
+}

@@ -1,0 +1,147 @@
+//! What planning does not look at: serials, seals, kinds, and all places from n on. Only H, n and the windows
+//! and minutes of the first n entries make the plan and the interval.
+
+use dock_tests::abi::{self, Answer};
+use dock_tests::check::{overloaded, planned};
+use dock_tests::day::{Day, Interval};
+use dock_tests::flat::{self, Fields, WIDTH};
+use dock_tests::random::{self, Random};
+use dock_tests::samples::{plan, windows};
+
+/// The numbers of a place that are not its window or its minutes.
+const SERIAL: usize = 0;
+const STANDS: usize = 1;
+const SEAL: usize = 2;
+const WHOLE: usize = 6;
+
+/// What both calls say of a value, and what the plan's buffer then holds.
+fn said(fields: &Fields) -> (Answer, Answer, Vec<u8>) {
+    let (answer, bytes) = abi::schedule(fields, fields[0] as usize + 5);
+    (abi::overload(fields), answer, bytes)
+}
+
+/// Random days with a plan and without: small ones and long ones.
+fn days(random: &mut Random, mut each: impl FnMut(&mut Random, &Day)) {
+    for turn in 0..600 {
+        let mut day = match turn % 3 {
+            0 => random::small_day(random),
+            1 => random::any_day(random),
+            _ => random::planned_day(random, 300, 20, 5, &[1, 10, 60]),
+        };
+        if turn % 2 == 0 {
+            random::work_more(random, &mut day);
+        }
+        each(random, &day);
+    }
+}
+
+/// Changes these numbers of every entry of random days, to any value: both calls must say the same as before.
+fn never_looked_at(seed: u64, numbers: &[usize]) {
+    let mut seen = [0; 2];
+    days(&mut Random::new(seed), |random, day| {
+        let fields = flat::of_day(day);
+        let before = said(&fields);
+        seen[usize::from(before.0.number == 9)] += 1;
+        for _ in 0..3 {
+            let mut other = fields;
+            for place in 0..day.entries.len() {
+                for number in numbers {
+                    other[2 + WIDTH * place + number] = random.any() as u32 >> random.below(32);
+                }
+            }
+            assert!(said(&other) == before, "{numbers:?} of {day:?}");
+        }
+    });
+    assert!(seen[0] > 100 && seen[1] > 100, "planned, overloaded: {seen:?}");
+}
+
+#[test]
+fn serials_are_never_looked_at() {
+    never_looked_at(21, &[SERIAL]);
+}
+
+#[test]
+fn seals_are_never_looked_at() {
+    never_looked_at(22, &[STANDS, SEAL]);
+}
+
+#[test]
+fn kinds_are_never_looked_at() {
+    never_looked_at(23, &[WHOLE]);
+}
+
+#[test]
+fn serials_seals_and_kinds_together_are_never_looked_at() {
+    never_looked_at(24, &[SERIAL, STANDS, SEAL, WHOLE]);
+}
+
+#[test]
+fn places_from_n_on_are_never_looked_at() {
+    let mut seen = [0; 2];
+    days(&mut Random::new(25), |random, day| {
+        let fields = flat::of_day(day);
+        let before = said(&fields);
+        seen[usize::from(before.0.number == 9)] += 1;
+        let used = 2 + WIDTH * day.entries.len();
+        for kind in 0..4 {
+            let mut other = fields;
+            other[used..].fill_with(|| match kind {
+                0 => u32::MAX,
+                1 => random.any() as u32,
+                2 => random.below(usize::from(day.h) + 1) as u32,
+                _ => 1,
+            });
+            assert!(said(&other) == before, "junk after {day:?}");
+        }
+    });
+    assert!(seen[0] > 100 && seen[1] > 100, "planned, overloaded: {seen:?}");
+}
+
+/// A right entry behind the list is none of it: it would have had minutes, or made an overload.
+#[test]
+fn a_right_entry_at_place_n_is_not_planned() {
+    let mut fields = flat::of_day(&windows(4, &[(0, 4, 2), (1, 3, 1), (0, 1, 1)]));
+    fields[1] = 2;
+    let (answer, bytes) = abi::schedule(&fields, 4);
+    assert_eq!((answer.number, bytes), (0, plan("0 1 0 -")));
+    let mut fields = flat::of_day(&windows(10, &[(2, 5, 2), (2, 5, 2)]));
+    assert_eq!(abi::overload(&fields).number, 9);
+    fields[1] = 1;
+    assert_eq!(abi::overload(&fields).number, 0);
+    let (answer, bytes) = abi::schedule(&fields, 10);
+    assert_eq!((answer.number, bytes), (0, plan("- - 0 0 - - - - - -")));
+}
+
+#[test]
+fn an_empty_list_before_sixty_four_places_of_junk() {
+    for junk in [1, 3, 65_535, u32::MAX] {
+        let mut fields = [junk; flat::SIZE];
+        (fields[0], fields[1]) = (3, 0);
+        assert_eq!(abi::overload(&fields), Answer { number: 0, values: [0; 3] });
+        let (answer, bytes) = abi::schedule(&fields, 3);
+        assert_eq!((answer.number, bytes), (0, plan("- - -")));
+    }
+}
+
+/// The same day with all entries whole.
+fn whole(mut day: Day) -> Day {
+    day.entries.iter_mut().for_each(|entry| entry.whole = true);
+    day
+}
+
+/// "A plan may break a whole entry": a whole entry is interrupted like any other.
+#[test]
+fn a_whole_entry_is_interrupted_too() {
+    assert_eq!(planned(&whole(windows(4, &[(0, 4, 2), (1, 3, 1)]))), plan("0 1 0 -"));
+    assert_eq!(planned(&whole(windows(6, &[(1, 5, 2), (0, 6, 3)]))), plan("1 0 0 1 1 -"));
+}
+
+/// The windows are planned as they are given: no whole entry's window is narrowed first, and a list that
+/// narrowing would refuse has its plan.
+#[test]
+fn windows_of_whole_entries_are_not_narrowed() {
+    assert_eq!(planned(&whole(windows(5, &[(1, 5, 2), (1, 3, 1), (0, 5, 2)]))), plan("2 1 0 0 2"));
+    assert_eq!(planned(&whole(windows(3, &[(0, 3, 2), (1, 2, 1)]))), plan("0 1 0"));
+    let refused = whole(windows(3, &[(0, 2, 2), (1, 3, 2)]));
+    assert_eq!(overloaded(&refused), Interval { a: 0, b: 3, work: 4 });
+}

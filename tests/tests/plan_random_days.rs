@@ -1,0 +1,140 @@
+//! Random days, fixed by their seeds: small ones against all their plans, full ones against the second
+//! planner, and values that may break any rule.
+
+use dock_tests::brute;
+use dock_tests::check::{self, number};
+use dock_tests::day::{Day, LONGEST_DAY, MOST_ENTRIES};
+use dock_tests::jackson::IDLE;
+use dock_tests::random::{self, Random};
+
+/// How many entries a plan breaks.
+fn broken(day: &Day, plan: &[u8]) -> usize {
+    let pieces = |place: usize| {
+        let minutes = brute::minutes_of(plan, place);
+        1 + minutes.windows(2).filter(|pair| pair[0] + 1 != pair[1]).count()
+    };
+    (0..day.entries.len()).filter(|&place| pieces(place) > 1).count()
+}
+
+fn kinds(day: &Day) -> (bool, bool) {
+    (day.entries.iter().any(|entry| entry.whole), day.entries.iter().any(|entry| !entry.whole))
+}
+
+/// "A plan exists exactly when no interval is overloaded", with up to 8 minutes and 5 entries of both kinds:
+/// trying everything finds a plan exactly if both calls accept. The schedule is a plan and the second
+/// planner's, and so is the interval shown, which is also the right one of all overloaded ones.
+#[test]
+fn twenty_thousand_small_days_against_all_their_plans() {
+    let mut random = Random::new(11);
+    let (mut planned, mut overloaded, mut broke, mut both) = (0, 0, 0, 0);
+    for _ in 0..20_000 {
+        let day = random::small_day(&mut random);
+        if brute::has_plan(&day) {
+            broke += usize::from(broken(&day, &check::planned(&day)) > 0);
+            planned += 1;
+        } else {
+            let shown = check::overloaded(&day);
+            let all = brute::overloaded_intervals(&day);
+            let right = all.iter().min_by_key(|interval| (interval.b, u16::MAX - interval.a));
+            assert_eq!(right, Some(&shown), "interval of {day:?}");
+            overloaded += 1;
+        }
+        both += usize::from(kinds(&day) == (true, true));
+    }
+    assert!(planned > 5_000 && overloaded > 5_000, "{planned} planned, {overloaded} overloaded");
+    assert!(broke > 500 && both > 5_000, "{broke} with a broken entry, {both} with both kinds");
+}
+
+/// All plans of a day, with at most 6 minutes and 4 entries: the schedule is one of them.
+#[test]
+fn the_schedule_is_one_of_all_the_plans_of_a_small_day() {
+    let mut random = Random::new(12);
+    let mut several = 0;
+    for _ in 0..1_000 {
+        let h = random.within(1, 6);
+        let n = random.below(5);
+        let day = random::planned_day(&mut random, h, n, 3, &[1, 2, 6]);
+        let plans = brute::plans(&day);
+        assert!(plans.iter().all(|plan| brute::is_plan(&day, plan)));
+        assert!(plans.contains(&check::planned(&day)), "schedule of {day:?}");
+        several += usize::from(plans.len() > 1);
+    }
+    assert!(several > 200, "{several} days with more than one plan");
+}
+
+/// A full day: 1,440 minutes and 64 entries.
+fn full_day(random: &mut Random, idle: usize, grids: &[u16]) -> Day {
+    random::planned_day(random, LONGEST_DAY, MOST_ENTRIES, idle, grids)
+}
+
+#[test]
+fn full_loose_days_against_the_second_planner() {
+    let mut random = Random::new(13);
+    for _ in 0..200 {
+        let idle = random.pick(&[1, 2, 4]);
+        let day = full_day(&mut random, idle, &[60, 240, 720, 1440]);
+        let plan = check::planned(&day);
+        assert!(plan.contains(&IDLE), "a loose day has an idle minute");
+        assert_eq!(day.entries.len(), MOST_ENTRIES);
+    }
+}
+
+#[test]
+fn full_tight_days_against_the_second_planner() {
+    let mut random = Random::new(14);
+    let mut broke = 0;
+    for _ in 0..200 {
+        let day = full_day(&mut random, 0, &[1, 5, 15, 60]);
+        let plan = check::planned(&day);
+        assert!(!plan.contains(&IDLE), "a tight day has no idle minute");
+        broke += broken(&day, &plan);
+    }
+    assert!(broke > 1_000, "{broke} broken entries");
+}
+
+/// A tight day with more work than minutes: in all, and often in an interval inside it too.
+#[test]
+fn full_overloaded_days_against_the_second_planner() {
+    let mut random = Random::new(15);
+    let mut inner = 0;
+    for _ in 0..200 {
+        let mut day = full_day(&mut random, 0, &[1, 5, 15, 60]);
+        for _ in 0..=random.below(20) {
+            random::work_more(&mut random, &mut day);
+        }
+        let shown = check::overloaded(&day);
+        inner += usize::from(shown.b - shown.a < LONGEST_DAY);
+    }
+    assert!(inner > 100, "{inner} intervals shorter than the day");
+}
+
+/// Windows drawn without a plan in mind: 64 of them are always overloaded, with much work.
+#[test]
+fn full_days_of_any_windows_against_the_second_planner() {
+    let mut random = Random::new(16);
+    for _ in 0..200 {
+        let entries = (0..MOST_ENTRIES).map(|_| random::entry(&mut random, LONGEST_DAY)).collect();
+        let shown = check::overloaded(&Day { h: LONGEST_DAY, entries });
+        assert!(shown.work > u64::from(shown.b - shown.a));
+    }
+}
+
+/// The rows in their order, 2, 3, 6, 7, 11, 9, on values that may break any of them.
+#[test]
+fn thirty_thousand_wild_values() {
+    let mut random = Random::new(17);
+    let mut seen = [0; 13];
+    for _ in 0..30_000 {
+        let fields = random::wild_fields(&mut random);
+        let h = fields[0].min(2_000) as usize;
+        let any = random.below(2_000);
+        let room = random.pick(&[0, h.saturating_sub(1), h, h, h + 1, 2_000, any]);
+        let test = number(&check::overload(&fields));
+        let plan = number(&check::schedule(&fields, room));
+        assert!(plan == test || plan == 11 && (test == 0 || test == 9), "{plan} and {test}");
+        seen[plan] += 1;
+    }
+    for expected in [0, 2, 3, 6, 7, 9, 11] {
+        assert!(seen[expected] > 300, "too few of an answer: {seen:?}");
+    }
+}
