@@ -6,8 +6,8 @@ use Prim.Native.Nat.{ℕ, suc, _+_, _<_, _≤_}
 use native.Mathlib.Numerals.{add-one}
 use native.Mathlib.Omega.{arith}
 use borrow.Author.Tests.{lt-ltb, le-ltb}
-use lib.ListN.{length, getD, set, drop}
-use lib.Seq.{drop-cons, set-at, append-snoc, length-front, length-take-le}
+use lib.ListN.{length, getD, set, take, drop}
+use lib.Seq.{take-append-seam, drop-cons, set-at, append-snoc, length-front, length-take-le}
 use Rattle.list.specs.Outcomes.{answered, refused}
 use Rattle.list.specs.Refusals.{codeOf, verdictOf}
 use Rattle.list.specs.Checks.{checkOf}
@@ -21,7 +21,9 @@ use Rattle.jackson.specs.Counting.{listOf}
 use Rattle.jackson.specs.Windows.{windowsOf, windowsIn}
 use Rattle.jackson.specs.Minutes.{State, stateOf, morning, chosen, after, minuteOf, later, placeAt, schedule}
 use Rattle.jackson.specs.Intervals.{overloadOf}
-use Rattle.jackson.specs.Calls.{Turns, Starts, Tests, Fills, testOf, scheduleOf}
+use Rattle.list.specs.Outcomes.{Outcome}
+use Rattle.jackson.specs.Plans.{PlanBytes}
+use Rattle.jackson.specs.Calls.{Turns, Starts, Tests, Fills, Decides, testOf, scheduleOf, planAfter}
 use Rattle.jackson.specs.declared.types.WindowSet.{WindowSet}
 use Rattle.jackson.specs.declared.types.Day.{Day}
 use Rattle.jackson.specs.declared.types.DayAnswer.{DayAnswer}
@@ -57,15 +59,18 @@ module _ (l : DayList) (v : Verdict) (checked : verdictOf v ≡ checkOf l) (day 
   pub started : v ≡ Accepted → windowsIn w ≡ windowsOf l → Starts l (record { verdict = v; day = day })
   started e windows = record { outcome = checked; beside = rw (passed l v checked e) (begins ∙ ap morning windows) }
 
+tests-of : (l : DayList) (v : Verdict) → verdictOf v ≡ testOf l → Tests l v
+tests-of l v e = record { outcome = e; decides = rw e (test-decides l) }
+
 -- the overload test
 module _ (l : DayList) (v : Verdict) (checked : verdictOf v ≡ checkOf l) where
   pub not-tested : (x : Refusal) → v ≡ Refused x → Tests l v
   unfolding testOf
-  not-tested x e = record { outcome = rw (not-passed l v checked x e) (ap verdictOf e); decides = test-decides l }
+  not-tested x e = tests-of l v (rw (not-passed l v checked x e) (ap verdictOf e))
 
   pub tested : (u : Verdict) (w : WindowSet) → v ≡ Accepted → windowsIn w ≡ windowsOf l → verdictOf u ≡ overloadOf (windowsIn w) → Tests l u
   unfolding testOf
-  tested u w e windows test = record { outcome = rw (passed l v checked e) (test ∙ ap overloadOf windows); decides = test-decides l }
+  tested u w e windows test = tests-of l u (rw (passed l v checked e) (test ∙ ap overloadOf windows))
 
 -- the first i of h places are stored, and the day has gone i minutes on from s
 pub record Stored (s : State) (h : ℕ) (old new : List ℕ) (day : Day) (i : ℕ) : Type 0 where
@@ -108,13 +113,32 @@ module _ (s : State) (h : ℕ) (old : List ℕ) where
       let fits : i ≤ length old = omega (arith, so .passed, so .room) in
       rw (so .bytes) (length-front old (listOf i (placeAt s)) i (list-length i (placeAt s) ∙ sym (length-take-le i old fits)))
 
+fills-of : (l : DayList) (old : List ℕ) (v : Verdict) (new : List ℕ) → verdictOf v ≡ scheduleOf l (length old)
+    → new ≡ planAfter (scheduleOf l (length old)) l old → Fills l old v new
+unfolding schedule
+fills-of l old v new e b =
+    record {
+      outcome = e;
+      buffer = b;
+      decides = rw e (schedule-decides l (length old));
+      plan = λ yes′. go (sym e ∙ yes′);
+    }
+  where
+    go : scheduleOf l (length old) ≡ answered tt → PlanBytes (windowsOf l) (take (l .frame .h) new)
+    go z =
+        let w = windowsOf l in
+        let front : take (l .frame .h) (schedule w ++ drop (l .frame .h) old) ≡ schedule w =
+            ap (λ (k : ℕ). take k (schedule w ++ drop (l .frame .h) old)) (sym (list-length (l .frame .h) (placeAt (morning w))))
+            ∙ take-append-seam (schedule w) (drop (l .frame .h) old) in
+        rw (b, z) (rw front (schedule-decides l (length old) .plan z))
+
 -- filling a plan buffer
 module _ (l : DayList) (old : List ℕ) (a : DayAnswer) (starts : Starts l a) where
   pub not-filled : (x : Refusal) → a .verdict ≡ Refused x → Fills l old (a .verdict) old
   unfolding scheduleOf
   not-filled x e =
       let z = not-passed l (a .verdict) (starts .outcome) x e in
-      record { outcome = rw z (ap verdictOf e); buffer = rw z refl; decides = schedule-decides l (length old) }
+      fills-of l old _ _ (rw z (ap verdictOf e)) (rw z refl)
 
   module _ (e : a .verdict ≡ Accepted) where
     well-formed : checkOf l ≡ answered tt
@@ -130,7 +154,7 @@ module _ (l : DayList) (old : List ℕ) (a : DayAnswer) (starts : Starts l a) wh
     unfolding scheduleOf
     too-short h =
         let z = lt-ltb (length old) (l .frame .h) h in
-        record { outcome = rw (well-formed, z) refl; buffer = rw (well-formed, z) refl; decides = schedule-decides l (length old) }
+        fills-of l old _ _ (rw (well-formed, z) refl) (rw (well-formed, z) refl)
 
     module _ (h : l .frame .h ≤ length old) (u : Verdict) (test : verdictOf u ≡ overloadOf (windowsIn (a .day .windows))) where
       pub not-planned : (x : Refusal) → u ≡ Refused x → Fills l old u old
@@ -138,7 +162,7 @@ module _ (l : DayList) (old : List ℕ) (a : DayAnswer) (starts : Starts l a) wh
       not-planned x r =
           let z = le-ltb (length old) (l .frame .h) h in
           let nine : overloadOf (windowsOf l) ≡ refused (codeOf x) = sym tests ∙ sym test ∙ ap verdictOf r in
-          record { outcome = rw (well-formed, z) (test ∙ tests); buffer = rw (well-formed, z, nine) refl; decides = schedule-decides l (length old) }
+          fills-of l old _ _ (rw (well-formed, z) (test ∙ tests)) (rw (well-formed, z, nine) refl)
 
       pub planned : (new : List ℕ) → u ≡ Accepted → new ≡ listOf (l .frame .h) (placeAt (stateOf (a .day))) ++ drop (l .frame .h) old
           → Fills l old Accepted new
@@ -146,8 +170,4 @@ module _ (l : DayList) (old : List ℕ) (a : DayAnswer) (starts : Starts l a) wh
       planned new r bytes =
           let z = le-ltb (length old) (l .frame .h) h in
           let fine : overloadOf (windowsOf l) ≡ answered tt = sym tests ∙ sym test ∙ ap verdictOf r in
-          record {
-            outcome = rw (well-formed, z) (sym fine);
-            buffer = rw (well-formed, z, fine) (rw (← begins) bytes);
-            decides = schedule-decides l (length old);
-          }
+          fills-of l old _ _ (rw (well-formed, z) (sym fine)) (rw (well-formed, z, fine) (rw (← begins) bytes))

@@ -17,7 +17,7 @@ use Rattle.jackson.proofs.Counted.{counted, counted-is, counted-le, cou
 pub fits-none : (w : Windows) → Fits w → (a b : ℕ) → Overloaded w a b → ⊥
 fits-none w fits a b o = omega (arith, fits a b, o .exceeds)
 
-module _ (w : Windows) (room : (i : ℕ) → i < w .n → w .r i + w .p i ≤ w .d i) where
+module _ (w : Windows) (room : (i : ℕ) → i < w .n → 1 ≤ w .p i → w .r i + w .p i ≤ w .d i) where
   module _ (a b : ℕ) where
     -- whether the entry at place i adds to the work of [a, b)
     abbrev adds : ℕ → Bool
@@ -48,7 +48,8 @@ module _ (w : Windows) (room : (i : ℕ) → i < w .n → w .r i + w .p i ≤ w 
           let some : 1 ≤ counted w a b j = ltb-true _ _ (first .passes) in
           let u = counted-in w a b j some in
           let v = counted-in w a b k (ltb-true _ _ (last .passes)) in
-          let filled : w .r j < w .d j = omega (arith, room j (first .below), counted-le w a b j (w .p j) (λ r d. omega arith)) in
+          let needs : 1 ≤ w .p j = omega (arith, counted-le w a b j (w .p j) (λ r d. omega arith)) in
+          let filled : w .r j < w .d j = omega (arith, room j (first .below) needs) in
           record {
             earliest = (j, first .below, refl);
             latest = (k, last .below, refl);

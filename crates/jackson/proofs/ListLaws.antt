@@ -41,7 +41,7 @@ module _ (l : DayList) (formed : WellFormed l) where
 
   -- the windows of a well-formed list have room
   pub list-roomy : Roomy (windowsOf l)
-  list-roomy = record { in-day = λ i h. sound-at i h .in-day; room = λ i h. sound-at i h .room }
+  list-roomy = record { in-day = λ i h _. sound-at i h .in-day; room = λ i h _. sound-at i h .room }
 
   -- it has at most 64 entries
   pub list-few : windowsOf l .n ≤ 64
@@ -60,7 +60,7 @@ module _ (l : DayList) (formed : WellFormed l) where
 
   -- so the windows are the mirror of their mirror
   pub list-mirror : mirror (mirror (windowsOf l)) ≡ windowsOf l
-  list-mirror = mirror-mirror (windowsOf l) (λ i. list-in-day i .0) (λ i. list-in-day i .1)
+  list-mirror = mirror-mirror (windowsOf l) (λ i _. list-in-day i .0) (λ i _. list-in-day i .1)
 
   -- the law holds of them
   pub list-law : PlanLaw (windowsOf l)

@@ -4,7 +4,7 @@ use mathlib.Core.Path.{_≡_, sym, ap, _∙_, fun-ext}
 use mathlib.Core.Bool.{cond, _&&_}
 use Prim.Native.Nat.{ℕ, suc, _+_, _-_, _<_, _≤_}
 use native.Mathlib.Omega.{arith}
-use borrow.Author.Tests.{eqb-true, eq-eqb}
+use borrow.Author.Tests.{eqb-true, eq-eqb, lt-ltb, le-ltb}
 use lib.Dec.{eqb, leb, ltb}
 use Rattle.jackson.specs.Counting.{same}
 use Rattle.jackson.specs.Windows.{Windows, Roomy, Inside, withWindows}
@@ -24,23 +24,26 @@ pub mirror-plan : (w : Windows) (m : ℕ → ℕ) → Plan w m → Plan (mirror 
 mirror-plan w m plan =
     record {
       exact = λ i place. mirror-minutes (w .h) m i ∙ plan .exact i place;
-      inside = λ i t place below e. let z = plan .inside i (w .h - suc t) place (omega arith) e in (omega arith, omega arith);
+      inside = λ i t place below e. let z = plan .inside i (w .h - suc t) place (omega arith) e in rw (lt-ltb i (w .n) place) (omega arith, omega arith);
     }
 
 -- windows inside the day are the mirror of their mirror
-pub mirror-mirror : (w : Windows) → ((i : ℕ) → w .r i ≤ w .h) → ((i : ℕ) → w .d i ≤ w .h) → mirror (mirror w) ≡ w
+pub mirror-mirror : (w : Windows) → ((i : ℕ) → i < w .n → w .r i ≤ w .h) → ((i : ℕ) → i < w .n → w .d i ≤ w .h) → mirror (mirror w) ≡ w
 mirror-mirror w release deadline =
     λ j.
     record {
       h = w .h;
       n = w .n;
-      r = fun-ext (λ i. twice (w .r i) (release i)) j;
-      d = fun-ext (λ i. twice (w .d i) (deadline i)) j;
+      r = fun-ext (λ i. twice i (w .r i) (w .d i) (release i)) j;
+      d = fun-ext (λ i. twice i (w .d i) (w .r i) (deadline i)) j;
       p = w .p;
     }
   where
-    twice : (x : ℕ) → x ≤ w .h → w .h - (w .h - x) ≡ x
-    twice x h = omega arith
+    back : (x z : ℕ) → x ≤ z → z - (z - x) ≡ x
+    back x z h = omega arith
+
+    twice : (i x y : ℕ) → (i < w .n → x ≤ w .h) → cond (ltb i (w .n)) (w .h - cond (ltb i (w .n)) (w .h - x) y) (cond (ltb i (w .n)) (w .h - y) x) ≡ x
+    twice i x y h = le-or-lt (w .n) i (λ l. rw (le-ltb i (w .n) l)) (λ l. rw (lt-ltb i (w .n) l) (back x (w .h) (h l)))
 
 -- and so is a plan, in the day's minutes
 pub mirror-twice : (h : ℕ) (m : ℕ → ℕ) (t : ℕ) → t < h → mirrorPlan h (mirrorPlan h m) t ≡ m t
@@ -50,8 +53,8 @@ mirror-twice h m t below = ap m (turn-back h t below)
 pub mirror-roomy : (w : Windows) → Roomy w → Roomy (mirror w)
 mirror-roomy w roomy =
     record {
-      in-day = λ i place. omega arith;
-      room = λ i place. omega (arith, roomy .in-day i place, roomy .room i place);
+      in-day = λ i place some. rw (lt-ltb i (w .n) place) (omega arith);
+      room = λ i place some. rw (lt-ltb i (w .n) place) (omega (arith, roomy .in-day i place some, roomy .room i place some));
     }
 
 -- starts and ends change places

@@ -63,15 +63,15 @@ module _ (w : Windows) (t₀ : ℕ) (m : ℕ → ℕ) (left : ℕ → ℕ → �
         omega (arith, rest-fits t h k t (w .d i), work-over rest t (w .d i) i l (omega arith) (omega arith))
 
   -- the run is a plan of the rest of the day from t₀ on
-  pub run-plan : t₀ ≤ w .h → ((i : ℕ) → i < w .n → w .d i ≤ w .h) → Fits (restFrom t₀ w) → Plan (restFrom t₀ w) m
+  pub run-plan : t₀ ≤ w .h → ((i : ℕ) → i < w .n → 1 ≤ w .p i → w .d i ≤ w .h) → Fits (restFrom t₀ w) → Plan (restFrom t₀ w) m
   run-plan started in-day fits =
       record {
-        exact = λ i l. omega (arith, kept i l (w .h) started (omega arith), in-time fits i (w .h) l started (omega arith), in-day i l);
+        exact = λ i l. le-or-lt 1 (w .p i) (λ some. omega (arith, kept i l (w .h) started (omega arith), in-time fits i (w .h) l started (omega arith), in-day i l some)) (λ none. omega (arith, kept i l (w .h) started (omega arith)));
         inside = λ i t l k e. le-or-lt t₀ t
             (λ h. let z = ready i t l h k e in omega (arith, z .released, z .unfinished, in-time fits i t l h (omega arith)))
             (λ h. absurd (omega (arith, run .before t h)));
       }
 
   -- if there is any plan of it, the run is one
-  pub run-planned : t₀ ≤ w .h → ((i : ℕ) → i < w .n → w .d i ≤ w .h) → (x : ℕ → ℕ) → Plan (restFrom t₀ w) x → Plan (restFrom t₀ w) m
+  pub run-planned : t₀ ≤ w .h → ((i : ℕ) → i < w .n → 1 ≤ w .p i → w .d i ≤ w .h) → (x : ℕ → ℕ) → Plan (restFrom t₀ w) x → Plan (restFrom t₀ w) m
   run-planned started in-day x plan = run-plan started in-day (plan-fits (restFrom t₀ w) x plan)

@@ -141,7 +141,7 @@ module _ (s : State) where
 
     -- so it is a plan of the rest of the day, if that fits
     pub run-plans : s .t ≤ s .windows .h
-        → ((i : ℕ) → i < s .windows .n → s .windows .d i ≤ s .windows .h)
+        → ((i : ℕ) → i < s .windows .n → 1 ≤ s .windows .p i → s .windows .d i ≤ s .windows .h)
         → Fits (restFrom (s .t) (s .windows))
         → Plan (restFrom (s .t) (s .windows)) runPlace
     run-plans = run-plan (s .windows) (s .t) runPlace runLeft run-follows
@@ -161,7 +161,7 @@ module _ (w : Windows) (few : w .n ≤ 255) where
       inl
 
   -- the schedule is a plan, if the day fits
-  pub schedule-bytes : ((i : ℕ) → i < w .n → w .d i ≤ w .h) → Fits w → PlanBytes w (schedule w)
+  pub schedule-bytes : ((i : ℕ) → i < w .n → 1 ≤ w .p i → w .d i ≤ w .h) → Fits w → PlanBytes w (schedule w)
   unfolding schedule
   schedule-bytes in-day fits =
       record {

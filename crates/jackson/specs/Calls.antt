@@ -54,10 +54,11 @@ pub record Decides (l : DayList) (o : Outcome (Unit {0})) : Type 0 where
 -- what the overload test answers
 pub record Tests (l : DayList) (v : Verdict) : Type 0 where
   pub outcome : verdictOf v ≡ testOf l
-  pub decides : Decides l (testOf l)
+  pub decides : Decides l (verdictOf v)
 
 -- what filling a plan buffer that held old answers, and what the buffer holds then
 pub record Fills (l : DayList) (old : List ℕ) (v : Verdict) (new : List ℕ) : Type 0 where
   pub outcome : verdictOf v ≡ scheduleOf l (length old)
   pub buffer : new ≡ planAfter (scheduleOf l (length old)) l old
-  pub decides : Decides l (scheduleOf l (length old))
+  pub decides : Decides l (verdictOf v)
+  pub plan : verdictOf v ≡ answered tt → PlanBytes (windowsOf l) (take (l .frame .h) new)

@@ -44,8 +44,8 @@ windowsIn s = columns (s .h) (min (s .n) 64) (s .r) (s .d) (s .p)
 
 -- "A window [r, d) lies in 0 to H and holds at least p minutes."
 pub record Roomy (w : Windows) : Type 0 where
-  pub in-day : (i : ℕ) → i < w .n → w .d i ≤ w .h
-  pub room : (i : ℕ) → i < w .n → w .r i + w .p i ≤ w .d i
+  pub in-day : (i : ℕ) → i < w .n → 1 ≤ w .p i → w .d i ≤ w .h
+  pub room : (i : ℕ) → i < w .n → 1 ≤ w .p i → w .r i + w .p i ≤ w .d i
 
 -- "It lies inside another if each of its r is at least, and each of its d at most, the other's."
 pub record Inside (v w : Windows) : Type 0 where
