@@ -7,7 +7,7 @@ use Rattle.list.specs.Outcomes.{Outcome, answered, refused}
 use Rattle.list.specs.Reading.{readOf}
 use Rattle.list.specs.Writing.{writeOf, bufferAfter}
 use Rattle.list.specs.declared.types.DayList.{DayList}
-use Rattle.jackson.specs.Calls.{testOf, scheduleOf, planAfter}
+use Rattle.jackson.specs.Calls.{testOf, fillOf, planAfter}
 use Rattle.codes.specs.Numbers.{three}
 use Rattle.abi.specs.Flat.{flatOf, valueOf}
 use Rattle.abi.specs.declared.Answer.{Answer}
@@ -38,5 +38,5 @@ OverloadCall xs a = a ≡ answerWith (λ _. []) (testOf (valueOf xs))
 
 -- what `dock_schedule` answers of the list value that xs say, and leaves in a plan buffer that held old
 pub record ScheduleCall (xs old : List ℕ) (a : Answer) (plan : List ℕ) : Type 0 where
-  pub answer : a ≡ answerWith (λ _. []) (scheduleOf (valueOf xs) (length old))
-  pub buffer : plan ≡ planAfter (scheduleOf (valueOf xs) (length old)) (valueOf xs) old
+  pub answer : a ≡ answerWith (λ _. []) (fillOf (valueOf xs) (length old))
+  pub buffer : plan ≡ planAfter (fillOf (valueOf xs) (length old)) (valueOf xs) old

@@ -14,7 +14,7 @@ use Rattle.list.specs.declared.types.DayList.{DayList}
 use Rattle.jackson.specs.Windows.{windowsOf, SameNumbers}
 use Rattle.jackson.specs.Minutes.{schedule}
 use Rattle.jackson.specs.Intervals.{overloadOf}
-use Rattle.jackson.specs.Calls.{testOf, scheduleOf, planAfter}
+use Rattle.jackson.specs.Calls.{testOf, fillOf, planAfter}
 use Rattle.jackson.proofs.Sums.{le-or-lt}
 use Rattle.jackson.proofs.ListLaws.{past-end}
 
@@ -40,8 +40,8 @@ module _ {a b : DayList} (s : SameList a b) where
   unfolding testOf
   same-test = λ j. andThen (same-check j) (λ _. overloadOf (same-windows j))
 
-  pub same-scheduled : (room : ℕ) → scheduleOf a room ≡ scheduleOf b room
-  unfolding scheduleOf
+  pub same-scheduled : (room : ℕ) → fillOf a room ≡ fillOf b room
+  unfolding fillOf
   same-scheduled room =
       λ j.
       andThen (same-check j)
@@ -51,8 +51,8 @@ module _ {a b : DayList} (s : SameList a b) where
   same-after (answered t) old = λ j. schedule (same-windows j) ++ drop (s .frame j .h) old
   same-after (refused k) old = refl
 
-  pub same-plan : (room : ℕ) (old : List ℕ) → planAfter (scheduleOf a room) a old ≡ planAfter (scheduleOf b room) b old
-  same-plan room old = rw (same-scheduled room) (same-after (scheduleOf b room) old)
+  pub same-plan : (room : ℕ) (old : List ℕ) → planAfter (fillOf a room) a old ≡ planAfter (fillOf b room) b old
+  same-plan room old = rw (same-scheduled room) (same-after (fillOf b room) old)
 
 module _ {a b : DayList} (s : SameNumbers a b) where
   -- one number of each entry, and of the blank ones past the end

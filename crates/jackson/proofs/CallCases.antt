@@ -19,11 +19,11 @@ use Rattle.list.specs.declared.types.Verdict.the-variants.{Accepted, Refused}
 use Rattle.list.specs.declared.types.DayList.{DayList}
 use Rattle.jackson.specs.Counting.{listOf}
 use Rattle.jackson.specs.Windows.{windowsOf, windowsIn}
-use Rattle.jackson.specs.Minutes.{State, stateOf, morning, chosen, after, minuteOf, later, placeAt, schedule}
+use Rattle.jackson.specs.Minutes.{State, stateOf, dayStart, chosen, after, minuteOf, later, placeAt, schedule}
 use Rattle.jackson.specs.Intervals.{overloadOf}
 use Rattle.list.specs.Outcomes.{Outcome}
 use Rattle.jackson.specs.Plans.{PlanBytes}
-use Rattle.jackson.specs.Calls.{Turns, Starts, Tests, Fills, Decides, testOf, scheduleOf, planAfter}
+use Rattle.jackson.specs.Calls.{Advances, Starts, Tests, Fills, Decides, testOf, fillOf, planAfter}
 use Rattle.jackson.specs.declared.types.WindowSet.{WindowSet}
 use Rattle.jackson.specs.declared.types.Day.{Day}
 use Rattle.jackson.specs.declared.types.DayAnswer.{DayAnswer}
@@ -32,14 +32,14 @@ use Rattle.jackson.proofs.ListLaws.{test-decides, schedule-decides}
 
 -- a minute of a day past its end, and of one that goes on
 module _ (day : Day) where
-  pub turn-over : day .windows .h ≤ day .t → Turns day (record { place = 255; day = day })
-  turn-over h =
+  pub advances-over : day .windows .h ≤ day .t → Advances day (record { place = 255; day = day })
+  advances-over h =
       let e = minute-over (stateOf day) h in
       record { place = rw e refl; next = rw e refl }
 
-  pub turn-on : (next : Day) (k : ℕ) → day .t < day .windows .h → k ≡ chosen (stateOf day) → stateOf next ≡ after (stateOf day) k
-      → Turns day (record { place = k; day = next })
-  turn-on next k h place step =
+  pub advances-on : (next : Day) (k : ℕ) → day .t < day .windows .h → k ≡ chosen (stateOf day) → stateOf next ≡ after (stateOf day) k
+      → Advances day (record { place = k; day = next })
+  advances-on next k h place step =
       let e = minute-on (stateOf day) h in
       record { place = rw e place; next = rw e (rw (← place) step) }
 
@@ -52,12 +52,12 @@ module _ (l : DayList) (v : Verdict) (checked : verdictOf v ≡ checkOf l) where
   not-passed x e = sym checked ∙ ap verdictOf e
 
 -- starting a day
-module _ (l : DayList) (v : Verdict) (checked : verdictOf v ≡ checkOf l) (day : Day) (w : WindowSet) (begins : stateOf day ≡ morning (windowsIn w)) where
+module _ (l : DayList) (v : Verdict) (checked : verdictOf v ≡ checkOf l) (day : Day) (w : WindowSet) (begins : stateOf day ≡ dayStart (windowsIn w)) where
   pub not-started : (x : Refusal) → v ≡ Refused x → windowsIn w ≡ windowsOf emptyList → Starts l (record { verdict = v; day = day })
-  not-started x e empty = record { outcome = checked; beside = rw (not-passed l v checked x e) (begins ∙ ap morning empty) }
+  not-started x e empty = record { outcome = checked; beside = rw (not-passed l v checked x e) (begins ∙ ap dayStart empty) }
 
   pub started : v ≡ Accepted → windowsIn w ≡ windowsOf l → Starts l (record { verdict = v; day = day })
-  started e windows = record { outcome = checked; beside = rw (passed l v checked e) (begins ∙ ap morning windows) }
+  started e windows = record { outcome = checked; beside = rw (passed l v checked e) (begins ∙ ap dayStart windows) }
 
 tests-of : (l : DayList) (v : Verdict) → verdictOf v ≡ testOf l → Tests l v
 tests-of l v e = record { outcome = e; decides = rw e (test-decides l) }
@@ -92,7 +92,7 @@ module _ (s : State) (h : ℕ) (old : List ℕ) where
       (set-at (listOf i (placeAt s)) (getD old i 0) (drop (suc i) old) (placeAt s i) i (list-length i (placeAt s))
       ∙ sym (append-snoc (listOf i (placeAt s)) (placeAt s i) (drop (suc i) old)))
 
-  pub store-next : (new : List ℕ) (day next : Day) (i x : ℕ) → Stored s h old new day i → i < h → Turns day (record { place = x; day = next })
+  pub store-next : (new : List ℕ) (day next : Day) (i x : ℕ) → Stored s h old new day i → i < h → Advances day (record { place = x; day = next })
       → Stored s h old (set new i x) next (i + 1)
   unfolding later
   store-next new day next i x so below turn =
@@ -113,8 +113,8 @@ module _ (s : State) (h : ℕ) (old : List ℕ) where
       let fits : i ≤ length old = omega (arith, so .passed, so .room) in
       rw (so .bytes) (length-front old (listOf i (placeAt s)) i (list-length i (placeAt s) ∙ sym (length-take-le i old fits)))
 
-fills-of : (l : DayList) (old : List ℕ) (v : Verdict) (new : List ℕ) → verdictOf v ≡ scheduleOf l (length old)
-    → new ≡ planAfter (scheduleOf l (length old)) l old → Fills l old v new
+fills-of : (l : DayList) (old : List ℕ) (v : Verdict) (new : List ℕ) → verdictOf v ≡ fillOf l (length old)
+    → new ≡ planAfter (fillOf l (length old)) l old → Fills l old v new
 unfolding schedule
 fills-of l old v new e b =
     record {
@@ -124,18 +124,18 @@ fills-of l old v new e b =
       plan = λ yes′. go (sym e ∙ yes′);
     }
   where
-    go : scheduleOf l (length old) ≡ answered tt → PlanBytes (windowsOf l) (take (l .frame .h) new)
+    go : fillOf l (length old) ≡ answered tt → PlanBytes (windowsOf l) (take (l .frame .h) new)
     go z =
         let w = windowsOf l in
         let front : take (l .frame .h) (schedule w ++ drop (l .frame .h) old) ≡ schedule w =
-            ap (λ (k : ℕ). take k (schedule w ++ drop (l .frame .h) old)) (sym (list-length (l .frame .h) (placeAt (morning w))))
-            ∙ take-append-seam (schedule w) (drop (l .frame .h) old) in
+        ap (λ (k : ℕ). take k (schedule w ++ drop (l .frame .h) old)) (sym (list-length (l .frame .h) (placeAt (dayStart w))))
+        ∙ take-append-seam (schedule w) (drop (l .frame .h) old) in
         rw (b, z) (rw front (schedule-decides l (length old) .plan z))
 
 -- filling a plan buffer
 module _ (l : DayList) (old : List ℕ) (a : DayAnswer) (starts : Starts l a) where
   pub not-filled : (x : Refusal) → a .verdict ≡ Refused x → Fills l old (a .verdict) old
-  unfolding scheduleOf
+  unfolding fillOf
   not-filled x e =
       let z = not-passed l (a .verdict) (starts .outcome) x e in
       fills-of l old _ _ (rw z (ap verdictOf e)) (rw z refl)
@@ -144,21 +144,21 @@ module _ (l : DayList) (old : List ℕ) (a : DayAnswer) (starts : Starts l a) wh
     well-formed : checkOf l ≡ answered tt
     well-formed = passed l (a .verdict) (starts .outcome) e
 
-    begins : stateOf (a .day) ≡ morning (windowsOf l)
+    begins : stateOf (a .day) ≡ dayStart (windowsOf l)
     begins = rw well-formed at (starts .beside)
 
     tests : overloadOf (windowsIn (a .day .windows)) ≡ overloadOf (windowsOf l)
     tests = ap (λ (s : State). overloadOf (s .windows)) begins
 
     pub too-short : length old < l .frame .h → Fills l old (Refused (PlanBufferShort (l .frame .h))) old
-    unfolding scheduleOf
+    unfolding fillOf
     too-short h =
         let z = lt-ltb (length old) (l .frame .h) h in
         fills-of l old _ _ (rw (well-formed, z) refl) (rw (well-formed, z) refl)
 
     module _ (h : l .frame .h ≤ length old) (u : Verdict) (test : verdictOf u ≡ overloadOf (windowsIn (a .day .windows))) where
       pub not-planned : (x : Refusal) → u ≡ Refused x → Fills l old u old
-      unfolding scheduleOf
+      unfolding fillOf
       not-planned x r =
           let z = le-ltb (length old) (l .frame .h) h in
           let nine : overloadOf (windowsOf l) ≡ refused (codeOf x) = sym tests ∙ sym test ∙ ap verdictOf r in
@@ -166,7 +166,7 @@ module _ (l : DayList) (old : List ℕ) (a : DayAnswer) (starts : Starts l a) wh
 
       pub planned : (new : List ℕ) → u ≡ Accepted → new ≡ listOf (l .frame .h) (placeAt (stateOf (a .day))) ++ drop (l .frame .h) old
           → Fills l old Accepted new
-      unfolding scheduleOf schedule
+      unfolding fillOf schedule
       planned new r bytes =
           let z = le-ltb (length old) (l .frame .h) h in
           let fine : overloadOf (windowsOf l) ≡ answered tt = sym tests ∙ sym test ∙ ap verdictOf r in

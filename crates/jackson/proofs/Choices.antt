@@ -10,41 +10,41 @@ use borrow.Author.Tests.{leb-true, ltb-true, ltb-false, le-leb, le-ltb, lt-ltb, 
 use lib.Dec.{leb, ltb}
 use Rattle.jackson.specs.Counting.{smaller}
 use Rattle.jackson.specs.Plans.{idle}
-use Rattle.jackson.specs.Minutes.{State, ready, earliest, goesOn, chosen}
+use Rattle.jackson.specs.Minutes.{State, isReady, earliestDeadline, goesOn, chosen}
 use Rattle.jackson.specs.Rules.{Ready, Takes}
 use Rattle.jackson.proofs.Scans.{Best, smaller-ranks, best-cases, best-some, best-smallest}
 
 module _ (s : State) where
   -- the algorithm's test of a place, and the rule's words for it
-  of-test : (i : ℕ) → i < s .windows .n → ready s i ≡ true → Ready (s .windows) (s .t) i
+  of-test : (i : ℕ) → i < s .windows .n → isReady s i ≡ true → Ready (s .windows) (s .t) i
   of-test i h e =
       let z = and-eq-true-iff (leb (s .windows .r i) (s .t)) (ltb 0 (s .windows .p i)) .0 e in
       record { place = h; released = leb-true _ _ (z .0); unfinished = ltb-true _ _ (z .1) }
 
-  to-test : (i : ℕ) → Ready (s .windows) (s .t) i → ready s i ≡ true
+  to-test : (i : ℕ) → Ready (s .windows) (s .t) i → isReady s i ≡ true
   to-test i h = simp (le-leb _ _ (h .released), lt-ltb _ _ (h .unfinished))
 
   -- the algorithm's test whether the entry that had the minute before goes on
-  of-goes-on : goesOn s ≡ true → Ready (s .windows) (s .t) (s .last) × (s .windows .d (s .last) ≤ s .windows .d (earliest s))
+  of-goes-on : goesOn s ≡ true → Ready (s .windows) (s .t) (s .last) × (s .windows .d (s .last) ≤ s .windows .d (earliestDeadline s))
   of-goes-on e =
       let y = and-eq-true-iff (ltb (s .last) (s .windows .n)) _ .0 e in
-      let z = and-eq-true-iff (ready s (s .last)) _ .0 (y .1) in
+      let z = and-eq-true-iff (isReady s (s .last)) _ .0 (y .1) in
       (of-test (s .last) (ltb-true _ _ (y .0)) (z .0), ltb-false _ _ (not-true _ (z .1)))
 
-  to-goes-on : Ready (s .windows) (s .t) (s .last) → s .windows .d (s .last) ≤ s .windows .d (earliest s) → goesOn s ≡ true
+  to-goes-on : Ready (s .windows) (s .t) (s .last) → s .windows .d (s .last) ≤ s .windows .d (earliestDeadline s) → goesOn s ≡ true
   to-goes-on h l = simp (lt-ltb _ _ (h .place), le-leb _ _ (h .released), lt-ltb _ _ (h .unfinished), le-ltb _ _ l)
 
   module _ (few : s .windows .n ≤ 255) where
     -- the scan finds a ready entry's place, if there is one
-    scan-some : (i : ℕ) → Ready (s .windows) (s .t) i → Best (s .windows .n) (ready s) (smaller (s .windows .d)) (earliest s)
+    scan-some : (i : ℕ) → Ready (s .windows) (s .t) i → Best (s .windows .n) (isReady s) (smaller (s .windows .d)) (earliestDeadline s)
     scan-some i h =
-        best-some idle (ready s) (smaller (s .windows .d)) (smaller-ranks (s .windows .d)) (s .windows .n) few i (h .place) (to-test i h)
+        best-some idle (isReady s) (smaller (s .windows .d)) (smaller-ranks (s .windows .d)) (s .windows .n) few i (h .place) (to-test i h)
 
-    least-found : (i : ℕ) → Ready (s .windows) (s .t) i → s .windows .d (earliest s) ≤ s .windows .d i
-    least-found i h = best-smallest (s .windows .n) (ready s) (s .windows .d) (earliest s) (scan-some i h) i (h .place) (to-test i h)
+    least-found : (i : ℕ) → Ready (s .windows) (s .t) i → s .windows .d (earliestDeadline s) ≤ s .windows .d i
+    least-found i h = best-smallest (s .windows .n) (isReady s) (s .windows .d) (earliestDeadline s) (scan-some i h) i (h .place) (to-test i h)
 
     -- ready places below the one found have a larger d
-    larger-below : (i : ℕ) → i < earliest s → Ready (s .windows) (s .t) i → s .windows .d (earliest s) < s .windows .d i
+    larger-below : (i : ℕ) → i < earliestDeadline s → Ready (s .windows) (s .t) i → s .windows .d (earliestDeadline s) < s .windows .d i
     larger-below i l h = ltb-true _ _ (scan-some i h .lowest i l (to-test i h))
 
     -- the entry that had the minute before
@@ -64,9 +64,9 @@ module _ (s : State) where
         }
 
     -- or else the lowest of the ready places with the smallest d
-    takes-earliest : goesOn s ≡ false → Takes s (earliest s)
-    takes-earliest e =
-        best-cases idle (ready s) (smaller (s .windows .d)) (smaller-ranks (s .windows .d)) (s .windows .n) few (Takes s (earliest s))
+    takes-earliest-deadline : goesOn s ≡ false → Takes s (earliestDeadline s)
+    takes-earliest-deadline e =
+        best-cases idle (isReady s) (smaller (s .windows .d)) (smaller-ranks (s .windows .d)) (s .windows .n) few (Takes s (earliestDeadline s))
         (λ q empty.
         record {
           deadline =
@@ -80,7 +80,7 @@ module _ (s : State) where
           idles = λ _. q;
         })
         (λ b.
-        let first = of-test (earliest s) (b .below) (b .passes) in
+        let first = of-test (earliestDeadline s) (b .below) (b .passes) in
         record {
           deadline =
               record {
@@ -88,8 +88,8 @@ module _ (s : State) where
                 least = λ i _ h. least-found i h;
                 none = λ i h _. omega (arith, b .below);
               };
-          goes-on = λ h alone. absurd (true≢false (sym (to-goes-on h (omega (arith, alone (earliest s) first))) ∙ e));
-          lowest = λ i _ _ h q. let above : i < earliest s → ⊥ = λ l. omega (arith, larger-below i l h) in omega arith;
+          goes-on = λ h alone. absurd (true≢false (sym (to-goes-on h (omega (arith, alone (earliestDeadline s) first))) ∙ e));
+          lowest = λ i _ _ h q. let above : i < earliestDeadline s → ⊥ = λ l. omega (arith, larger-below i l h) in omega arith;
           idles = λ h. absurd (omega (arith, b .below));
         })
 
@@ -98,9 +98,9 @@ module _ (s : State) where
     unfolding chosen
     chosen-takes = go (goesOn s) refl
       where
-        go : (t : Bool) → goesOn s ≡ t → Takes s (cond t (s .last) (earliest s))
+        go : (t : Bool) → goesOn s ≡ t → Takes s (cond t (s .last) (earliestDeadline s))
         go true e = takes-last e
-        go false e = takes-earliest e
+        go false e = takes-earliest-deadline e
 
 -- the rule leaves one choice: of two, neither is above the other
 not-above : (s : State) (j k : ℕ) → Takes s j → Takes s k → j ≤ k

@@ -12,7 +12,7 @@ use lib.ListN.{getD}
 use Rattle.list.specs.Outcomes.{code, answered, refused}
 use Rattle.jackson.specs.Counting.{sum, better, smaller, larger}
 use Rattle.jackson.specs.Windows.{Windows, columns, windowsIn}
-use Rattle.jackson.specs.Intervals.{work, overloaded, leftOf, leftEnd, rightOf, rightEnd, overloadOf}
+use Rattle.jackson.specs.Intervals.{work, isOverloaded, leftOf, leftEnd, rightOf, rightEnd, overloadOf}
 use Rattle.jackson.specs.declared.types.WindowSet.{WindowSet}
 use Rattle.jackson.proofs.Scans.{smaller-ranks, best-below}
 use Rattle.jackson.proofs.ScanSteps.{unfit, first, wins, stays}
@@ -60,10 +60,10 @@ module _ (n : ℕ) (r d p : List ℕ) where
   held = columns 0 n r d p
 
   -- the test of an interval
-  pub no-interval : (a b : ℕ) → b ≤ a → false ≡ overloaded held a b
+  pub no-interval : (a b : ℕ) → b ≤ a → false ≡ isOverloaded held a b
   no-interval a b h = rw (le-ltb a b h) refl
 
-  pub by-work : (a b x : ℕ) → a < b → x ≡ work held a b → ltb (b - a) x ≡ overloaded held a b
+  pub by-work : (a b x : ℕ) → a < b → x ≡ work held a b → ltb (b - a) x ≡ isOverloaded held a b
   by-work a b x h e = rw (lt-ltb a b h, e) refl
 
   -- a step of the search for the left end: x says whether place i has one
@@ -71,7 +71,7 @@ module _ (n : ℕ) (r d p : List ℕ) where
     pub left-stays : k < n → getD r i 0 ≤ getD r k 0 → k ≡ better n (leftOf held b) (larger (held .r)) i k
     left-stays g h = stays n (leftOf held b) (larger (held .r)) i k (λ z. omega (arith, z)) (le-ltb (getD r k 0) (getD r i 0) h)
 
-    module _ (x : Bool) (says : x ≡ overloaded held (getD r i 0) b) where
+    module _ (x : Bool) (says : x ≡ isOverloaded held (getD r i 0) b) where
       pub left-unfit : x ≡ false → k ≡ better n (leftOf held b) (larger (held .r)) i k
       left-unfit e = unfit n (leftOf held b) (larger (held .r)) i k (sym says ∙ e)
 

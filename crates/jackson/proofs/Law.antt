@@ -7,7 +7,7 @@ use Rattle.list.specs.Outcomes.{Code, Outcome, answered, refused}
 use Rattle.jackson.specs.Windows.{Windows, Roomy}
 use Rattle.jackson.specs.Plans.{PlanBytes, placesIn}
 use Rattle.jackson.specs.Intervals.{overloadOf}
-use Rattle.jackson.specs.Existence.{Planned, NoOverload, PlanLaw}
+use Rattle.jackson.specs.Existence.{Plannable, NoOverload, PlanLaw}
 use Rattle.jackson.specs.Minutes.{schedule}
 use Rattle.jackson.specs.Rules.{ScheduleLaw}
 use Rattle.jackson.proofs.PlanWork.{plan-fits}
@@ -17,32 +17,32 @@ use Rattle.jackson.proofs.Schedules.{schedule-bytes, schedule-takes}
 
 module _ (w : Windows) (roomy : Roomy w) (few : w .n ≤ 255) where
   -- the steps from a plan to no overload, and from that to the schedule
-  none-of-plan : Planned w → NoOverload w
+  none-of-plan : Plannable w → NoOverload w
   none-of-plan planned = fits-none w (plan-fits w (planned .0) (planned .1))
 
   bytes-of-none : NoOverload w → PlanBytes w (schedule w)
   bytes-of-none none = schedule-bytes w few (roomy .in-day) (none-fits w (roomy .room) none)
 
-  plan-of-bytes : PlanBytes w (schedule w) → Planned w
+  plan-of-bytes : PlanBytes w (schedule w) → Plannable w
   plan-of-bytes bytes = (placesIn (schedule w), bytes .plan)
 
-  plan-of-none : NoOverload w → Planned w
+  plan-of-none : NoOverload w → Plannable w
   plan-of-none none = plan-of-bytes (bytes-of-none none)
 
-  plan-of-accepted : overloadOf w ≡ answered tt → Planned w
+  plan-of-accepted : overloadOf w ≡ answered tt → Plannable w
   plan-of-accepted e = plan-of-none (accepted-none w e)
 
-  accepted-of-plan : Planned w → overloadOf w ≡ answered tt
+  accepted-of-plan : Plannable w → overloadOf w ≡ answered tt
   accepted-of-plan planned = none-accepted w (none-of-plan planned)
 
-  refused-of-unplanned : (Planned w → ⊥) → (k : Code) × (overloadOf w ≡ refused k)
+  refused-of-unplanned : (Plannable w → ⊥) → (k : Code) × (overloadOf w ≡ refused k)
   refused-of-unplanned unplanned = go (overloadOf w) refl
     where
       go : (o : Outcome (Unit {0})) → overloadOf w ≡ o → (k : Code) × (overloadOf w ≡ refused k)
       go (answered t) e = absurd (unplanned (plan-of-accepted e))
       go (refused k) e = (k, e)
 
-  unplanned-of-refused : (k : Code) × (overloadOf w ≡ refused k) → Planned w → ⊥
+  unplanned-of-refused : (k : Code) × (overloadOf w ≡ refused k) → Plannable w → ⊥
   unplanned-of-refused z planned = let e : _≡_ {A = ℕ} 0 1 = cc (accepted-of-plan planned, z .1) in omega arith
 
   pub plan-law : PlanLaw w

@@ -16,5 +16,5 @@ pub mod Alike
 mod ScanSteps
 mod MinuteCases
 mod IntervalCases
-mod SpreadCases
+mod WindowSetCases
 mod CallCases

@@ -17,10 +17,10 @@ use Rattle.jackson.specs.Windows.{windowsOf, Roomy}
 use Rattle.jackson.specs.Plans.{PlanBytes}
 use Rattle.jackson.specs.Mirrors.{mirror}
 use Rattle.jackson.specs.Intervals.{overloadOf}
-use Rattle.jackson.specs.Existence.{Planned, PlanLaw}
+use Rattle.jackson.specs.Existence.{Plannable, PlanLaw}
 use Rattle.jackson.specs.Minutes.{schedule}
 use Rattle.jackson.specs.Rules.{ScheduleLaw}
-use Rattle.jackson.specs.Calls.{testOf, scheduleOf, Decides}
+use Rattle.jackson.specs.Calls.{testOf, fillOf, Decides}
 use Rattle.jackson.proofs.Sums.{le-or-lt}
 use Rattle.jackson.proofs.PlanFacts.{mirror-mirror}
 use Rattle.jackson.proofs.Law.{plan-law, schedule-law}
@@ -78,7 +78,7 @@ NotNine k = k .number ≡ 9 → ⊥
 module _ (l : DayList) where
   -- by an answer the schedule is a plan, by row 9 there is none
   abbrev Tells : Outcome (Unit {0}) → Type 0
-  Tells = Says (λ _. PlanBytes (windowsOf l) (schedule (windowsOf l))) (λ k. k .number ≡ 9 → Planned (windowsOf l) → ⊥)
+  Tells = Says (λ _. PlanBytes (windowsOf l) (schedule (windowsOf l))) (λ k. k .number ≡ 9 → Plannable (windowsOf l) → ⊥)
 
   tells-decides : (o : Outcome (Unit {0})) → Tells o → Decides l o
   tells-decides o tells =
@@ -108,8 +108,8 @@ module _ (l : DayList) where
   unfolding testOf
   test-decides = tells-decides _ (checked-tells _ overload-tells)
 
-  pub schedule-decides : (room : ℕ) → Decides l (scheduleOf l room)
-  unfolding scheduleOf
+  pub schedule-decides : (room : ℕ) → Decides l (fillOf l room)
+  unfolding fillOf
   schedule-decides room =
       tells-decides _
       (checked-tells _ (λ formed. by-row _ _ (ltb room (l .frame .h)) _ _ (λ _ z. absurd (omega arith)) (λ _. overload-tells formed)))

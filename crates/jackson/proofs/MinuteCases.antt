@@ -12,7 +12,7 @@ use lib.Seq.{set-out, getD-set-same, getD-set-other}
 use Rattle.jackson.specs.Counting.{same, better, smaller}
 use Rattle.jackson.specs.Windows.{withLeft, windowsIn}
 use Rattle.jackson.specs.Plans.{idle}
-use Rattle.jackson.specs.Minutes.{State, stateOf, arrived, ready, earliest, chosen, after}
+use Rattle.jackson.specs.Minutes.{State, stateOf, arrived, isReady, earliestDeadline, chosen, after}
 use Rattle.jackson.specs.declared.types.WindowSet.{WindowSet}
 use Rattle.jackson.specs.declared.types.Day.{Day}
 use Rattle.jackson.proofs.Sums.{le-or-lt, same-cases}
@@ -29,7 +29,7 @@ module _ (t r left : ℕ) where
 -- the better of place i and the best so far: b says whether i is ready
 module _ (i k t : ℕ) (r d left : List ℕ) (b : Bool) (says : b ≡ leb (getD r i 0) t && ltb 0 (getD left i 0)) where
   abbrev passes : ℕ → Bool
-  passes = ready (arrived 64 t r d left)
+  passes = isReady (arrived 64 t r d left)
 
   abbrev sooner : ℕ → ℕ → Bool
   sooner = smaller (λ j. getD d j 0)
@@ -47,7 +47,7 @@ module _ (i k t : ℕ) (r d left : List ℕ) (b : Bool) (says : b ≡ leb (getD 
   no-smaller z h = stays idle passes sooner i k z (le-ltb (getD d i 0) (getD d k 0) h)
 
 -- the choice: k is the earliest ready place of the n that the arrays hold, b says whether the entry that had the minute before is ready
-module _ (s : WindowSet) (n : ℕ) (holds : n ≡ min (s .n) 64) (t last k : ℕ) (first : k ≡ earliest (arrived n t (s .r) (s .d) (s .p))) where
+module _ (s : WindowSet) (n : ℕ) (holds : n ≡ min (s .n) 64) (t last k : ℕ) (first : k ≡ earliestDeadline (arrived n t (s .r) (s .d) (s .p))) where
   abbrev now : State
   now = record { windows = windowsIn s; t = t; last = last }
 
@@ -63,7 +63,7 @@ module _ (s : WindowSet) (n : ℕ) (holds : n ≡ min (s .n) 64) (t last k : ℕ
     -- a place was found, since the entry that had the minute before is ready
     pub found-place : n ≤ 64 → not b ≡ false → k < n
     found-place few e =
-        let found = best-some idle (ready now) (smaller (now .windows .d)) (smaller-ranks (now .windows .d)) n (omega (arith, few)) last h (sym says ∙ not-false b e) in
+        let found = best-some idle (isReady now) (smaller (now .windows .d)) (smaller-ranks (now .windows .d)) n (omega (arith, few)) last h (sym says ∙ not-false b e) in
         rw (← first) at (found .below)
 
     pub interrupted : not b ≡ false → getD (s .d) k 0 < getD (s .d) last 0 → k ≡ chosen now

@@ -8,7 +8,7 @@ use borrow.Author.Tests.{eqb-true, eq-eqb, lt-ltb, le-ltb}
 use lib.Dec.{eqb, leb, ltb}
 use Rattle.jackson.specs.Counting.{same}
 use Rattle.jackson.specs.Windows.{Windows, Roomy, Inside, withWindows}
-use Rattle.jackson.specs.Plans.{minutes, Plan, startOf, endOf}
+use Rattle.jackson.specs.Plans.{minutesOf, Plan, startOf, endOf}
 use Rattle.jackson.specs.Mirrors.{mirror, mirrorPlan}
 use Rattle.jackson.proofs.Sums.{le-or-lt, same-cases, same-ne, between-is, sum-le, sum-cong, sum-zero, sum-reverse, count-between}
 use Rattle.jackson.proofs.Searches.{First, first-below, last-below, last-first, first-last, turn-back}
@@ -16,7 +16,7 @@ use Rattle.jackson.proofs.Searches.{First, first-below, last-below, las
 -- Mirrors.
 
 -- a place has as many minutes in the mirror
-mirror-minutes : (h : ℕ) (m : ℕ → ℕ) (i : ℕ) → minutes h (mirrorPlan h m) i ≡ minutes h m i
+mirror-minutes : (h : ℕ) (m : ℕ → ℕ) (i : ℕ) → minutesOf h (mirrorPlan h m) i ≡ minutesOf h m i
 mirror-minutes h m i = sum-reverse h (λ t. same (m t) i)
 
 -- the mirror of a plan is a plan for the mirrored windows
@@ -81,7 +81,7 @@ pub record IsEnd (h : ℕ) (m : ℕ → ℕ) (i e : ℕ) : Type 0 where
 
 module _ (h : ℕ) (m : ℕ → ℕ) (i : ℕ) where
   -- the minutes of a place, all of which lie in [a, b), are at most b - a
-  pub minutes-within : (a b : ℕ) → ((t : ℕ) → t < h → m t ≡ i → (a ≤ t) × (t < b)) → minutes h m i ≤ b - a
+  pub minutes-within : (a b : ℕ) → ((t : ℕ) → t < h → m t ≡ i → (a ≤ t) × (t < b)) → minutesOf h m i ≤ b - a
   minutes-within a b within = omega (arith, sum-le h _ _ each, count-between h a b)
     where
       each : (t : ℕ) → t < h → same (m t) i ≤ cond (leb a t && ltb t b) 1 0
@@ -91,7 +91,7 @@ module _ (h : ℕ) (m : ℕ → ℕ) (i : ℕ) where
           (λ _ is. omega arith)
 
   -- a place with minutes has a start
-  pub start-is : 1 ≤ minutes h m i → IsStart h m i (startOf h m i)
+  pub start-is : 1 ≤ minutesOf h m i → IsStart h m i (startOf h m i)
   start-is some = record { below = below; minute = eqb-true _ _ (first .passes below); none-before = none }
     where
       first : First h (λ t. eqb (m t) i) (startOf h m i)
@@ -107,7 +107,7 @@ module _ (h : ℕ) (m : ℕ → ℕ) (i : ℕ) where
           (λ l. l)
 
 -- and an end, the mirror of the mirrored start
-pub end-is : (h : ℕ) (m : ℕ → ℕ) (i : ℕ) → 1 ≤ minutes h m i → IsEnd h m i (endOf h m i)
+pub end-is : (h : ℕ) (m : ℕ → ℕ) (i : ℕ) → 1 ≤ minutesOf h m i → IsEnd h m i (endOf h m i)
 end-is h m i some =
     let s = rw (mirror-start h m i) at (start-is h (mirrorPlan h m) i (omega (arith, mirror-minutes h m i))) in
     let within = last-below h (λ t. eqb (m t) i) .within in

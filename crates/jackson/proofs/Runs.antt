@@ -7,7 +7,7 @@ use native.Mathlib.Nat.{max-zero}
 use native.Mathlib.Omega.{arith}
 use Rattle.jackson.specs.Counting.{sum, same}
 use Rattle.jackson.specs.Windows.{Windows, withLeft, restFrom}
-use Rattle.jackson.specs.Plans.{minutes, Plan}
+use Rattle.jackson.specs.Plans.{minutesOf, Plan}
 use Rattle.jackson.specs.Intervals.{work, Fits}
 use Rattle.jackson.specs.Rules.{Ready, Follows}
 use Rattle.jackson.proofs.Sums.{le-or-lt, from-to, same-cases, same-ne, sum-zero}
@@ -36,10 +36,10 @@ module _ (w : Windows) (t₀ : ℕ) (m : ℕ → ℕ) (left : ℕ → ℕ → �
   ready i t l h k e = rw e at (run .takes t h k .taken (rw e l))
 
   -- the minutes given before t and those left at t are those needed
-  kept : (i : ℕ) → i < w .n → (t : ℕ) → t₀ ≤ t → t ≤ w .h → minutes t m i + left t i ≡ w .p i
+  kept : (i : ℕ) → i < w .n → (t : ℕ) → t₀ ≤ t → t ≤ w .h → minutesOf t m i + left t i ≡ w .p i
   unfolding sum
   kept i l =
-      from-to (λ t. minutes t m i + left t i ≡ w .p i) t₀ (w .h)
+      from-to (λ t. minutesOf t m i + left t i ≡ w .p i) t₀ (w .h)
       (omega (arith, sum-zero t₀ (λ t. same (m t) i) (λ t b. same-ne (m t) i (omega (arith, run .before t b))), run .start i l))
       (λ t h k e.
       same-cases (m t) i

@@ -14,7 +14,7 @@ use lib.Seq.{getD-append-seam}
 use Rattle.jackson.specs.Counting.{same, listOf}
 use Rattle.jackson.specs.Windows.{Windows, withLeft, restFrom}
 use Rattle.jackson.specs.Plans.{Plan, PlanBytes, idle, placesIn}
-use Rattle.jackson.specs.Minutes.{State, morning, chosen, after, minuteOf, later, placeAt, schedule}
+use Rattle.jackson.specs.Minutes.{State, dayStart, chosen, after, minuteOf, later, placeAt, schedule}
 use Rattle.jackson.specs.Rules.{LeastDeadline, Takes, Follows}
 use Rattle.jackson.specs.Intervals.{Fits}
 use Rattle.jackson.proofs.Sums.{le-or-lt, below-suc}
@@ -150,14 +150,14 @@ module _ (s : State) where
 
 module _ (w : Windows) (few : w .n ≤ 255) where
   -- each minute's place is the one that the rule takes
-  pub schedule-takes : (t : ℕ) → t < w .h → Takes (later t (morning w)) (placeAt (morning w) t)
-  schedule-takes t h = later-takes (morning w) t (omega arith) few
+  pub schedule-takes : (t : ℕ) → t < w .h → Takes (later t (dayStart w)) (placeAt (dayStart w) t)
+  schedule-takes t h = later-takes (dayStart w) t (omega arith) few
 
   -- a place of the day, or idle
-  schedule-places : (t : ℕ) → t < w .h → (placeAt (morning w) t < w .n) ⊎ (placeAt (morning w) t ≡ idle)
+  schedule-places : (t : ℕ) → t < w .h → (placeAt (dayStart w) t < w .n) ⊎ (placeAt (dayStart w) t ≡ idle)
   schedule-places t h =
-      le-or-lt (w .n) (placeAt (morning w) t)
-      (λ over. inr (schedule-takes t h .idles (omega (arith, later-n (morning w) t))))
+      le-or-lt (w .n) (placeAt (dayStart w) t)
+      (λ over. inr (schedule-takes t h .idles (omega (arith, later-n (dayStart w) t))))
       inl
 
   -- the schedule is a plan, if the day fits
@@ -165,15 +165,15 @@ module _ (w : Windows) (few : w .n ≤ 255) where
   unfolding schedule
   schedule-bytes in-day fits =
       record {
-        long = list-length (w .h) (placeAt (morning w));
-        places = λ t h. rw (list-at (w .h) (placeAt (morning w)) idle t h) (schedule-places t h);
-        plan = plan-same w (runPlace (morning w)) _ each (rw (rest-of-day w) at run);
+        long = list-length (w .h) (placeAt (dayStart w));
+        places = λ t h. rw (list-at (w .h) (placeAt (dayStart w)) idle t h) (schedule-places t h);
+        plan = plan-same w (runPlace (dayStart w)) _ each (rw (rest-of-day w) at run);
       }
     where
-      run : Plan (restFrom 0 w) (runPlace (morning w))
-      run = run-plans (morning w) few (omega arith) in-day (rw (rest-of-day w) fits)
+      run : Plan (restFrom 0 w) (runPlace (dayStart w))
+      run = run-plans (dayStart w) few (omega arith) in-day (rw (rest-of-day w) fits)
 
-      each : (t : ℕ) → t < w .h → placesIn (listOf (w .h) (placeAt (morning w))) t ≡ runPlace (morning w) t
+      each : (t : ℕ) → t < w .h → placesIn (listOf (w .h) (placeAt (dayStart w))) t ≡ runPlace (dayStart w) t
       each t h =
           let z : t - 0 ≡ t = omega arith in
-          rw (list-at (w .h) (placeAt (morning w)) idle t h, run-at (morning w) t (omega arith), z)
+          rw (list-at (w .h) (placeAt (dayStart w)) idle t h, run-at (dayStart w) t (omega arith), z)

@@ -12,14 +12,14 @@ use Rattle.list.specs.declared.types.DayList.{DayList}
 use Rattle.list.specs.declared.types.Verdict.{Verdict}
 use Rattle.jackson.specs.Windows.{Windows, windowsOf}
 use Rattle.jackson.specs.Plans.{Plan, PlanBytes}
-use Rattle.jackson.specs.Minutes.{State, stateOf, morning, schedule, minuteOf}
+use Rattle.jackson.specs.Minutes.{State, stateOf, dayStart, schedule, minuteOf}
 use Rattle.jackson.specs.Intervals.{overloadOf}
 use Rattle.jackson.specs.declared.types.Day.{Day}
 use Rattle.jackson.specs.declared.types.Minute.{Minute}
 use Rattle.jackson.specs.declared.types.DayAnswer.{DayAnswer}
 
 -- what a minute gives: the place chosen together with the advanced day
-pub record Turns (day : Day) (m : Minute) : Type 0 where
+pub record Advances (day : Day) (m : Minute) : Type 0 where
   pub place : m .place ≡ minuteOf (stateOf day) .place
   pub next : stateOf (m .day) ≡ minuteOf (stateOf day) .next
 
@@ -31,15 +31,15 @@ listBeside (refused _) l = emptyList
 -- what starting a day answers: the value check, and the day's first state
 pub record Starts (l : DayList) (a : DayAnswer) : Type 0 where
   pub outcome : verdictOf (a .verdict) ≡ checkOf l
-  pub beside : stateOf (a .day) ≡ morning (windowsOf (listBeside (checkOf l) l))
+  pub beside : stateOf (a .day) ≡ dayStart (windowsOf (listBeside (checkOf l) l))
 
 -- the overload test of a list: the value check, then row 9
 unfoldable pub testOf : DayList → Outcome (Unit {0})
 testOf l = andThen (checkOf l) (λ _. overloadOf (windowsOf l))
 
 -- planning the windows as they are given: the value check, then rows 11 and 9
-unfoldable pub scheduleOf : DayList → ℕ → Outcome (Unit {0})
-scheduleOf l room = andThen (checkOf l) (λ _. firstOf (row 11 (ltb room (l .frame .h)) (l .frame .h) ∷ []) (overloadOf (windowsOf l)))
+unfoldable pub fillOf : DayList → ℕ → Outcome (Unit {0})
+fillOf l room = andThen (checkOf l) (λ _. firstOf (row 11 (ltb room (l .frame .h)) (l .frame .h) ∷ []) (overloadOf (windowsOf l)))
 
 -- "In a longer buffer the bytes after H keep their values." "A refusal writes nothing to any lent buffer."
 abbrev pub planAfter : Outcome (Unit {0}) → DayList → List ℕ → List ℕ
@@ -58,7 +58,7 @@ pub record Tests (l : DayList) (v : Verdict) : Type 0 where
 
 -- what filling a plan buffer that held old answers, and what the buffer holds then
 pub record Fills (l : DayList) (old : List ℕ) (v : Verdict) (new : List ℕ) : Type 0 where
-  pub outcome : verdictOf v ≡ scheduleOf l (length old)
-  pub buffer : new ≡ planAfter (scheduleOf l (length old)) l old
+  pub outcome : verdictOf v ≡ fillOf l (length old)
+  pub buffer : new ≡ planAfter (fillOf l (length old)) l old
   pub decides : Decides l (verdictOf v)
   pub plan : verdictOf v ≡ answered tt → PlanBytes (windowsOf l) (take (l .frame .h) new)

@@ -9,8 +9,8 @@ use Rattle.jackson.specs.Plans.{Plan}
 use Rattle.jackson.specs.Intervals.{work, Fits, Overloaded, Shown, overloadOf}
 
 -- there is a plan
-abbrev pub Planned : Windows → Type 0
-Planned w = (m : ℕ → ℕ) × Plan w m
+abbrev pub Plannable : Windows → Type 0
+Plannable w = (m : ℕ → ℕ) × Plan w m
 
 -- no interval between an earliest and a latest minute of the windows is overloaded
 abbrev pub NoOverload : Windows → Type 0
@@ -19,12 +19,12 @@ NoOverload w = (a b : ℕ) → Overloaded w a b → ⊥
 -- the law of windows that have room (`Roomy`)
 pub record PlanLaw (w : Windows) : Type 0 where
   -- "A plan exists exactly when no interval is overloaded."
-  pub exists : Planned w ↔ NoOverload w
+  pub exists : Plannable w ↔ NoOverload w
   -- exactly when no [a, b), of whatever ends, has more work than minutes
-  pub fits : Planned w ↔ Fits w
+  pub fits : Plannable w ↔ Fits w
   -- exactly when the overload test accepts the windows
-  pub accepted : Planned w ↔ overloadOf w ≡ answered tt
+  pub accepted : Plannable w ↔ overloadOf w ≡ answered tt
   -- none exists exactly when it refuses them
-  pub turned-back : (Planned w → ⊥) ↔ (k : Code) × (overloadOf w ≡ refused k)
+  pub turned-back : (Plannable w → ⊥) ↔ (k : Code) × (overloadOf w ≡ refused k)
   -- and that refusal is row 9 with the interval shown and its work
   pub shown : (k : Code) → overloadOf w ≡ refused k → (a : ℕ) × (b : ℕ) × (k ≡ code 9 (a ∷ b ∷ work w a b ∷ [])) × Shown w a b

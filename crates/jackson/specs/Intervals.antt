@@ -31,12 +31,12 @@ pub record Shown (w : Windows) (a b : ℕ) : Type 0 where
   pub largest : (a′ : ℕ) → Overloaded w a′ b → a′ ≤ a
 
 -- the test of an interval between an earliest and a latest minute
-abbrev pub overloaded : Windows → ℕ → ℕ → Bool
-overloaded w a b = ltb a b && ltb (b - a) (work w a b)
+abbrev pub isOverloaded : Windows → ℕ → ℕ → Bool
+isOverloaded w a b = ltb a b && ltb (b - a) (work w a b)
 
 -- place i has the left end of an overloaded interval that ends at b
 abbrev pub leftOf : Windows → ℕ → ℕ → Bool
-leftOf w b i = overloaded w (w .r i) b
+leftOf w b i = isOverloaded w (w .r i) b
 
 -- the place with the largest of these left ends; n if there is none
 unfoldable pub leftEnd : Windows → ℕ → ℕ

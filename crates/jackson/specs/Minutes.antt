@@ -24,25 +24,25 @@ abbrev pub arrived : ℕ → ℕ → List ℕ → List ℕ → List ℕ → Stat
 arrived n t r d left = record { windows = columns 0 n r d left; t = t; last = idle }
 
 -- the state in which a day begins
-abbrev pub morning : Windows → State
-morning w = record { windows = w; t = 0; last = idle }
+abbrev pub dayStart : Windows → State
+dayStart w = record { windows = w; t = 0; last = idle }
 
 module _ (s : State) where
   -- "entries with r reached and minutes left"
-  abbrev pub ready : ℕ → Bool
-  ready i = leb (s .windows .r i) (s .t) && ltb 0 (s .windows .p i)
+  abbrev pub isReady : ℕ → Bool
+  isReady i = leb (s .windows .r i) (s .t) && ltb 0 (s .windows .p i)
 
   -- "among entries with r reached and minutes left, take the smallest d .. the lowest place among equals"; idle if there is none
-  abbrev pub earliest : ℕ
-  earliest = best idle (s .windows .n) ready (smaller (s .windows .d))
+  abbrev pub earliestDeadline : ℕ
+  earliestDeadline = best idle (s .windows .n) isReady (smaller (s .windows .d))
 
   -- "The entry that had the minute before, if it has minutes left, goes on unless another d is strictly smaller."
   abbrev pub goesOn : Bool
-  goesOn = ltb (s .last) (s .windows .n) && (ready (s .last) && not (ltb (s .windows .d earliest) (s .windows .d (s .last))))
+  goesOn = ltb (s .last) (s .windows .n) && (isReady (s .last) && not (ltb (s .windows .d earliestDeadline) (s .windows .d (s .last))))
 
   -- the place that has the minute
   unfoldable pub chosen : ℕ
-  chosen = cond goesOn (s .last) earliest
+  chosen = cond goesOn (s .last) earliestDeadline
 
 -- one minute less for the entry at place k, if k is a place
 abbrev pub lessOne : Windows → ℕ → Windows
@@ -53,11 +53,11 @@ abbrev pub after : State → ℕ → State
 after s k = record { windows = lessOne (s .windows) k; t = s .t + 1; last = k }
 
 -- "Each minute takes the day's state and gives the next one." A day past its end is idle and stays as it is.
-pub record Turn : Type 0 where
+pub record Advance : Type 0 where
   pub place : ℕ
   pub next : State
 
-unfoldable pub minuteOf : State → Turn
+unfoldable pub minuteOf : State → Advance
 minuteOf s =
     cond (ltb (s .t) (s .windows .h))
     (let k = chosen s in record { place = k; next = after s k })
@@ -74,4 +74,4 @@ placeAt s k = minuteOf (later k s) .place
 
 -- Jackson's preemptive schedule of a day, as the bytes of a plan
 unfoldable pub schedule : Windows → List ℕ
-schedule w = listOf (w .h) (placeAt (morning w))
+schedule w = listOf (w .h) (placeAt (dayStart w))

@@ -9,13 +9,13 @@ use Rattle.jackson.specs.Counting.{sum, same, firstBelow, lastBelow}
 use Rattle.jackson.specs.Windows.{Windows}
 
 -- the minutes below h that m gives to place i
-abbrev pub minutes : ℕ → (ℕ → ℕ) → ℕ → ℕ
-minutes h m i = sum h (λ t. same (m t) i)
+abbrev pub minutesOf : ℕ → (ℕ → ℕ) → ℕ → ℕ
+minutesOf h m i = sum h (λ t. same (m t) i)
 
 -- "A plan gives each minute 0 to H-1 to one entry or none; entry i has exactly p minutes, all in [r, d)."
 -- m t is the place that has minute t; a number that is no place is none.
 pub record Plan (w : Windows) (m : ℕ → ℕ) : Type 0 where
-  pub exact : (i : ℕ) → i < w .n → minutes (w .h) m i ≡ w .p i
+  pub exact : (i : ℕ) → i < w .n → minutesOf (w .h) m i ≡ w .p i
   pub inside : (i t : ℕ) → i < w .n → t < w .h → m t ≡ i → (w .r i ≤ t) × (t < w .d i)
 
 -- "Its end is its last minute plus 1, its start its first minute." Of an entry without minutes the end is 0 and the start h.

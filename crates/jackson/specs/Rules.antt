@@ -5,8 +5,8 @@ use mathlib.Core.Logic.{_↔_}
 use Rattle.jackson.specs.Counting.{same}
 use Rattle.jackson.specs.Windows.{Windows, withLeft}
 use Rattle.jackson.specs.Plans.{idle, PlanBytes}
-use Rattle.jackson.specs.Existence.{Planned}
-use Rattle.jackson.specs.Minutes.{State, morning, later, placeAt, schedule}
+use Rattle.jackson.specs.Existence.{Plannable}
+use Rattle.jackson.specs.Minutes.{State, dayStart, later, placeAt, schedule}
 
 -- the entry at place i has its r reached at minute t, and has minutes left
 pub record Ready (w : Windows) (t i : ℕ) : Type 0 where
@@ -43,5 +43,5 @@ pub record Follows (w : Windows) (t₀ : ℕ) (m : ℕ → ℕ) (left : ℕ → 
 -- the law of Jackson's preemptive schedule, for windows that have room: it is a plan exactly if there is one, and each of its minutes has the
 -- place that the rule takes
 pub record ScheduleLaw (w : Windows) : Type 0 where
-  pub plan : Planned w ↔ PlanBytes w (schedule w)
-  pub takes : (t : ℕ) → t < w .h → Takes (later t (morning w)) (placeAt (morning w) t)
+  pub plan : Plannable w ↔ PlanBytes w (schedule w)
+  pub takes : (t : ℕ) → t < w .h → Takes (later t (dayStart w)) (placeAt (dayStart w) t)

@@ -1,9 +1,9 @@
 // Starting a day and filling a plan buffer.
-use crate::interval::overload_in;
-use crate::spread::untested_windows;
+use crate::interval::untested_overload;
 use crate::types::Day;
 use crate::types::DayAnswer;
 use crate::types::WindowSet;
+use crate::window_set::untested_windows;
 use list::types::DayList;
 use list::types::Refusal;
 use list::types::Verdict;
@@ -14,12 +14,12 @@ ghost use lib.ListN.{length, drop};
 ghost use Rattle.list.specs.DayLists.{emptyList};
 ghost use Rattle.jackson.specs.Counting.{listOf};
 ghost use Rattle.jackson.specs.Windows.{windowsOf, windowsIn};
-ghost use Rattle.jackson.specs.Minutes.{stateOf, morning, placeAt};
+ghost use Rattle.jackson.specs.Minutes.{stateOf, dayStart, placeAt};
 ghost use Rattle.jackson.specs.Calls.{Starts, Fills};
 
 // A day's first state.
 fn first_minute(windows: WindowSet) -> Day
-    ensures { λ day. ⌜ stateOf day ≡ morning (windowsIn windows) ⌝ }
+    ensures { λ day. ⌜ stateOf day ≡ dayStart (windowsIn windows) ⌝ }
 {
     Day {
         windows: windows,
@@ -87,7 +87,7 @@ pub fn schedule(list: DayList, plan: &mut [u8]) -> Verdict
     if plan.len() < h {
         return Verdict::Refused(Refusal::PlanBufferShort(h));
     }
-    let test = overload_in(day.windows);
+    let test = untested_overload(day.windows);
     let Verdict::Accepted = test else {
         return test;
     };

@@ -1,7 +1,7 @@
 // Overloaded intervals.
-use crate::spread::held;
-use crate::spread::untested_windows;
 use crate::types::WindowSet;
+use crate::window_set::places_held;
+use crate::window_set::untested_windows;
 use list::types::DayList;
 use list::types::Refusal;
 use list::types::Verdict;
@@ -13,7 +13,7 @@ ghost use lib.ListN.{getD};
 ghost use Rattle.list.specs.Refusals.{verdictOf};
 ghost use Rattle.jackson.specs.Counting.{better, smaller, larger};
 ghost use Rattle.jackson.specs.Windows.{columns, windowsIn};
-ghost use Rattle.jackson.specs.Intervals.{work, overloaded, leftOf, leftEnd, rightOf, rightEnd, overloadOf};
+ghost use Rattle.jackson.specs.Intervals.{work, isOverloaded, leftOf, leftEnd, rightOf, rightEnd, overloadOf};
 ghost use Rattle.jackson.specs.Calls.{Tests};
 
 // An entry's part in the work of [a, b).
@@ -46,7 +46,7 @@ fn work_in(count: usize, r: &[u16; 64], d: &[u16; 64], p: &[u16; 64], a: u16, b:
 // Whether [a, b) is an interval with more work than minutes.
 fn is_overloaded(count: usize, r: &[u16; 64], d: &[u16; 64], p: &[u16; 64], a: u16, b: u16) -> bool
     requires { ⌜ count ≤ 64 ⌝ }
-    ensures { λ x. ⌜ x ≡ overloaded (columns 0 count (now (r .entry)) (now (d .entry)) (now (p .entry))) a b ⌝ }
+    ensures { λ x. ⌜ x ≡ isOverloaded (columns 0 count (now (r .entry)) (now (d .entry)) (now (p .entry))) a b ⌝ }
 {
     if b <= a {
         return false;
@@ -136,10 +136,10 @@ fn right_end(count: usize, r: &[u16; 64], d: &[u16; 64], p: &[u16; 64]) -> usize
 }
 
 // Row 9 for windows, whatever they are: the overloaded interval with the smallest b, and with it the largest a, and its work.
-pub fn overload_in(windows: WindowSet) -> Verdict
+pub fn untested_overload(windows: WindowSet) -> Verdict
     ensures { λ v. ⌜ verdictOf v ≡ overloadOf (windowsIn windows) ⌝ }
 {
-    let count = held(windows.n);
+    let count = places_held(windows.n);
     let r = windows.r;
     let d = windows.d;
     let p = windows.p;
@@ -162,5 +162,5 @@ pub fn overload(list: DayList) -> Verdict
     let Verdict::Accepted = verdict else {
         return verdict;
     };
-    overload_in(untested_windows(list))
+    untested_overload(untested_windows(list))
 }

@@ -1,8 +1,8 @@
 // Jackson's minute.
-use crate::spread::held;
 use crate::types::Day;
 use crate::types::Minute;
 use crate::types::WindowSet;
+use crate::window_set::places_held;
 ghost use mathlib.Core.Path.{_≡_};
 ghost use mathlib.Core.Bool.{_&&_};
 ghost use Prim.Native.Nat.{_-_, _<_, _≤_};
@@ -11,8 +11,8 @@ ghost use lib.ListN.{getD};
 ghost use Rattle.jackson.specs.Counting.{better, smaller};
 ghost use Rattle.jackson.specs.Windows.{windowsIn};
 ghost use Rattle.jackson.specs.Plans.{idle};
-ghost use Rattle.jackson.specs.Minutes.{ready, earliest, chosen, stateOf, after, arrived};
-ghost use Rattle.jackson.specs.Calls.{Turns};
+ghost use Rattle.jackson.specs.Minutes.{isReady, earliestDeadline, chosen, stateOf, after, arrived};
+ghost use Rattle.jackson.specs.Calls.{Advances};
 
 // An entry has its r reached and minutes left.
 fn is_ready(t: u16, r: u16, left: u16) -> bool
@@ -25,7 +25,7 @@ fn is_ready(t: u16, r: u16, left: u16) -> bool
 fn sooner(i: usize, k: u8, t: u16, r: &[u16; 64], d: &[u16; 64], left: &[u16; 64]) -> u8
     requires { ⌜ i < 64 ⌝ }
     requires { ⌜ ((k ≡ idle → ⊥) → k < 64) ⌝ }
-    ensures { λ x. ⌜ x ≡ better idle (ready (arrived 64 t (now (r .entry)) (now (d .entry)) (now (left .entry)))) (smaller (λ j. getD (now (d .entry)) j 0)) i k ⌝ }
+    ensures { λ x. ⌜ x ≡ better idle (isReady (arrived 64 t (now (r .entry)) (now (d .entry)) (now (left .entry)))) (smaller (λ j. getD (now (d .entry)) j 0)) i k ⌝ }
 {
     if !is_ready(t, r[i], left[i]) {
         return k;
@@ -40,9 +40,9 @@ fn sooner(i: usize, k: u8, t: u16, r: &[u16; 64], d: &[u16; 64], left: &[u16; 64
 }
 
 // The ready place with the smallest d, the lowest among equals, 255 for none.
-fn earliest_ready(count: usize, t: u16, r: &[u16; 64], d: &[u16; 64], left: &[u16; 64]) -> u8
+fn earliest_deadline(count: usize, t: u16, r: &[u16; 64], d: &[u16; 64], left: &[u16; 64]) -> u8
     requires { ⌜ count ≤ 64 ⌝ }
-    ensures { λ k. ⌜ k ≡ earliest (arrived count t (now (r .entry)) (now (d .entry)) (now (left .entry))) ⌝ }
+    ensures { λ k. ⌜ k ≡ earliestDeadline (arrived count t (now (r .entry)) (now (d .entry)) (now (left .entry))) ⌝ }
 {
     let mut k: u8 = 255;
     let mut i: usize = 0;
@@ -57,11 +57,11 @@ fn earliest_ready(count: usize, t: u16, r: &[u16; 64], d: &[u16; 64], left: &[u1
 fn choice(windows: WindowSet, t: u16, last: u8) -> u8
     ensures { λ k. ⌜ k ≡ chosen (record { windows = windowsIn windows; t = t; last = last }) ⌝ }
 {
-    let count = held(windows.n);
+    let count = places_held(windows.n);
     let r = windows.r;
     let d = windows.d;
     let left = windows.p;
-    let k = earliest_ready(count, t, &r, &d, &left);
+    let k = earliest_deadline(count, t, &r, &d, &left);
     let running = last as usize;
     if count <= running {
         return k;
@@ -101,7 +101,7 @@ fn advanced(day: Day, k: u8) -> Day
 impl Day {
     // Gives the minute to an entry or to none, with the day after it. A day past its end is idle and stays as it is.
     pub fn minute(self) -> Minute
-        ensures { λ m. ⌜ Turns self m ⌝ }
+        ensures { λ m. ⌜ Advances self m ⌝ }
     {
         let t = self.t;
         let windows = self.windows;

@@ -1,6 +1,6 @@
 -- The windows of the empty list are all 0.
 -- Assumes nothing.
-use Rattle.jackson.proofs.SpreadCases.{copy-none}
+use Rattle.jackson.proofs.WindowSetCases.{copy-none}
 use Rattle.jackson.proofs.fill.no_windows.Statement.{statement}
 use Rattle.jackson.proofs.fill.no_windows.Tie as tie
 

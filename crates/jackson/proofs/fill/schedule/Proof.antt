@@ -23,8 +23,8 @@ cast-h c = search needs
 returns-2 : tie.Need-returns-2
 returns-2 c = too-short (c .before .before .before .before .before .before .before .args .list) (c .before .before .before .before .before .before .before .args .plan .now) (c .before .before .before .before .before .start-day .result) (c .before .before .before .before .before .start-day .ensures) (c .before .before .before .enum-told .given .1) (c .if1 .taken)
 
-overload-in-requires : tie.Need-overload-in-requires
-overload-in-requires c κs = search needs
+untested-overload-requires : tie.Need-untested-overload-requires
+untested-overload-requires c κs = search needs
 
 enum-told-3 : tie.Need-enum-told-3
 enum-told-3 c = search needs
@@ -33,7 +33,7 @@ enum-told-4 : tie.Need-enum-told-4
 enum-told-4 c = search needs
 
 returns-3 : tie.Need-returns-3
-returns-3 c = not-planned (c .before .before .before .before .before .before .before .before .before .before .args .list) (c .before .before .before .before .before .before .before .before .before .before .args .plan .now) (c .before .before .before .before .before .before .before .before .start-day .result) (c .before .before .before .before .before .before .before .before .start-day .ensures) (c .before .before .before .before .before .before .enum-told .given .1) (c .before .before .before .if1 .left) (c .before .before .overload-in .result) (c .before .before .overload-in .ensures) _ (c .enum-told4 .given .1)
+returns-3 c = not-planned (c .before .before .before .before .before .before .before .before .before .before .args .list) (c .before .before .before .before .before .before .before .before .before .before .args .plan .now) (c .before .before .before .before .before .before .before .before .start-day .result) (c .before .before .before .before .before .before .before .before .start-day .ensures) (c .before .before .before .before .before .before .enum-told .given .1) (c .before .before .before .if1 .left) (c .before .before .untested-overload .result) (c .before .before .untested-overload .ensures) _ (c .enum-told4 .given .1)
 
 store-places-requires : tie.Need-store-places-requires
 store-places-requires c κs = search needs
@@ -42,7 +42,7 @@ same-length : tie.Need-same-length
 same-length c = search needs
 
 returns-4 : tie.Need-returns-4
-returns-4 c = planned (c .before .before .before .before .before .before .before .before .before .before .before .before .before .before .args .list) (c .before .before .before .before .before .before .before .before .before .before .before .before .before .before .args .plan .now) (c .before .before .before .before .before .before .before .before .before .before .before .before .start-day .result) (c .before .before .before .before .before .before .before .before .before .before .before .before .start-day .ensures) (c .before .before .before .before .before .before .before .before .before .before .enum-told .given .1) (c .before .before .before .before .before .before .before .if1 .left) (c .before .before .before .before .before .before .overload-in .result) (c .before .before .before .before .before .before .overload-in .ensures) _ (c .before .before .before .before .enum-told3 .given .1) (c .before .before .store-places .ensures)
+returns-4 c = planned (c .before .before .before .before .before .before .before .before .before .before .before .before .before .before .args .list) (c .before .before .before .before .before .before .before .before .before .before .before .before .before .before .args .plan .now) (c .before .before .before .before .before .before .before .before .before .before .before .before .start-day .result) (c .before .before .before .before .before .before .before .before .before .before .before .before .start-day .ensures) (c .before .before .before .before .before .before .before .before .before .before .enum-told .given .1) (c .before .before .before .before .before .before .before .if1 .left) (c .before .before .before .before .before .before .untested-overload .result) (c .before .before .before .before .before .before .untested-overload .ensures) _ (c .before .before .before .before .enum-told3 .given .1) (c .before .before .store-places .ensures)
 
 pub schedule-spec : {M : Type 1} → statement M
 schedule-spec =
@@ -54,7 +54,7 @@ schedule-spec =
     returns
     cast-h
     returns-2
-    overload-in-requires
+    untested-overload-requires
     enum-told-3
     enum-told-4
     returns-3

@@ -20,11 +20,11 @@ returns c = not-tested (c .before .before .before .args .list) (c .before .befor
 untested-windows-requires : tie.Need-untested-windows-requires
 untested-windows-requires c κs = search needs
 
-overload-in-requires : tie.Need-overload-in-requires
-overload-in-requires c κs = search needs
+untested-overload-requires : tie.Need-untested-overload-requires
+untested-overload-requires c κs = search needs
 
 returns-2 : tie.Need-returns-2
-returns-2 c = tested (c .before .before .before .before .before .args .list) (c .before .before .before .before .check .result) (c .before .before .before .before .check .ensures) (c .overload-in .result) (c .before .untested-windows .result) (c .before .before .enum-told .given .1) (c .before .untested-windows .ensures) (c .overload-in .ensures)
+returns-2 c = tested (c .before .before .before .before .before .args .list) (c .before .before .before .before .check .result) (c .before .before .before .before .check .ensures) (c .untested-overload .result) (c .before .untested-windows .result) (c .before .before .enum-told .given .1) (c .before .untested-windows .ensures) (c .untested-overload .ensures)
 
 pub overload-spec : {M : Type 1} → statement M
 overload-spec =
@@ -35,5 +35,5 @@ overload-spec =
     enum-told-2
     returns
     untested-windows-requires
-    overload-in-requires
+    untested-overload-requires
     returns-2)

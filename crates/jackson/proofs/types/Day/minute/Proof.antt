@@ -1,12 +1,12 @@
 -- A minute gives the definition's place and the definition's next state.
 -- Assumes nothing.
 use borrow.Author.Needs.{needs}
-use Rattle.jackson.proofs.CallCases.{turn-over, turn-on}
+use Rattle.jackson.proofs.CallCases.{advances-over, advances-on}
 use Rattle.jackson.proofs.types.Day.minute.Statement.{statement}
 use Rattle.jackson.proofs.types.Day.minute.Tie as tie
 
 returns : tie.Need-returns
-returns c = turn-over (c .before .before .before .args .self) (c .if1 .taken)
+returns c = advances-over (c .before .before .before .args .self) (c .if1 .taken)
 
 choice-requires : tie.Need-choice-requires
 choice-requires c κs = search needs
@@ -15,7 +15,7 @@ advanced-requires : tie.Need-advanced-requires
 advanced-requires c κs = search needs
 
 returns-2 : tie.Need-returns-2
-returns-2 c = turn-on (c .before .before .before .before .before .args .self) (c .advanced .result) (c .before .choice .result) (c .before .before .if1 .left) (c .before .choice .ensures) (c .advanced .ensures)
+returns-2 c = advances-on (c .before .before .before .before .before .args .self) (c .advanced .result) (c .before .choice .result) (c .before .before .if1 .left) (c .before .choice .ensures) (c .advanced .ensures)
 
 pub minute-spec : {M : Type 1} → statement M
 minute-spec = tie.close (tie.spec returns choice-requires advanced-requires returns-2)

@@ -6,9 +6,9 @@ use Prim.Native.Nat.{_-_}
 use native.Mathlib.Omega.{arith}
 use lib.ListN.{length}
 use Rattle.list.proofs.Walk.{length-mapped}
-use Rattle.jackson.proofs.SpreadCases.{Copied, copy-start, copy-next, copy-done}
-use Rattle.jackson.proofs.spread.untested_windows.Statement.{statement}
-use Rattle.jackson.proofs.spread.untested_windows.Tie as tie
+use Rattle.jackson.proofs.WindowSetCases.{Copied, copy-start, copy-next, copy-done}
+use Rattle.jackson.proofs.window_set.untested_windows.Statement.{statement}
+use Rattle.jackson.proofs.window_set.untested_windows.Tie as tie
 
 abbrev Inv-loop : tie.InvT-loop
 Inv-loop list n count r₀ d₀ p₀ i₀ r d p i = Copied (list .entries) count r d p i
@@ -16,8 +16,8 @@ Inv-loop list n count r₀ d₀ p₀ i₀ r d p i = Copied (list .entries) count
 abbrev μ-loop : tie.MeasureT-loop
 μ-loop list n count r₀ d₀ p₀ i₀ r d p i = count - i
 
-held-requires : tie.Need-held-requires Inv-loop μ-loop
-held-requires c κs = search needs
+places-held-requires : tie.Need-places-held-requires Inv-loop μ-loop
+places-held-requires c κs = search needs
 
 zeros-requires : tie.Need-zeros-requires Inv-loop μ-loop
 zeros-requires c κs = search needs
@@ -29,7 +29,7 @@ zeros-requires-3 : tie.Need-zeros-requires-3 Inv-loop μ-loop
 zeros-requires-3 c κs = search needs
 
 loop-holds : tie.Need-loop-holds Inv-loop μ-loop
-loop-holds c = rw (c .zeros3 .ensures, c .before .zeros2 .ensures, c .before .before .zeros .ensures) (copy-start _ _ (omega (arith, c .before .before .before .held .ensures)))
+loop-holds c = rw (c .zeros3 .ensures, c .before .zeros2 .ensures, c .before .before .zeros .ensures) (copy-start _ _ (omega (arith, c .before .before .before .places-held .ensures)))
 
 mul-r : tie.Need-mul-r Inv-loop μ-loop
 mul-r c = search needs
@@ -78,7 +78,7 @@ loop-again c = copy-next _ _ _ _ _ _ (c .before .loop .inv) (c .loop-test .taken
 
 returns : tie.Need-returns Inv-loop μ-loop
 returns c = let long : length (c .before .before .before .before .before .before .args .t1 .entries) ≡ 64 = search (needs, length-mapped) in
-    copy-done (c .before .before .before .before .before .before .args .t1) long _ _ _ _ _ (c .before .before .before .before .before .held .ensures) (c .before .loop .inv) (c .loop-test .left)
+    copy-done (c .before .before .before .before .before .before .args .t1) long _ _ _ _ _ (c .before .before .before .before .before .places-held .ensures) (c .before .loop .inv) (c .loop-test .left)
 
 pub untested-windows-spec : {M : Type 1} → statement M
 untested-windows-spec =
@@ -86,7 +86,7 @@ untested-windows-spec =
     (tie.spec
     Inv-loop
     μ-loop
-    held-requires
+    places-held-requires
     zeros-requires
     zeros-requires-2
     zeros-requires-3

@@ -7,7 +7,7 @@ ghost use lib.ListN.{replicate};
 ghost use Rattle.jackson.specs.Windows.{windowsOf, windowsIn};
 
 // How many of n places the arrays have.
-pub(crate) fn held(n: u8) -> usize
+pub(crate) fn places_held(n: u8) -> usize
     ensures { λ k. ⌜ k ≡ min n 64 ⌝ }
 {
     if n < 64 { n as usize } else { 64 }
@@ -24,7 +24,7 @@ pub fn untested_windows(list: DayList) -> WindowSet
     ensures { λ w. ⌜ windowsIn w ≡ windowsOf list ⌝ }
 {
     let n = list.n;
-    let count = held(n);
+    let count = places_held(n);
     let mut r = zeros();
     let mut d = zeros();
     let mut p = zeros();

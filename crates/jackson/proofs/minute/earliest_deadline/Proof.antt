@@ -6,14 +6,14 @@ use native.Mathlib.Omega.{arith}
 use lib.ListN.{getD}
 use Rattle.jackson.specs.Counting.{smaller}
 use Rattle.jackson.specs.Plans.{idle}
-use Rattle.jackson.specs.Minutes.{ready, arrived}
+use Rattle.jackson.specs.Minutes.{isReady, arrived}
 use Rattle.jackson.proofs.Scans.{smaller-ranks}
 use Rattle.jackson.proofs.ScanSteps.{Searched, search-start, search-next, search-done, search-found}
-use Rattle.jackson.proofs.minute.earliest_ready.Statement.{statement}
-use Rattle.jackson.proofs.minute.earliest_ready.Tie as tie
+use Rattle.jackson.proofs.minute.earliest_deadline.Statement.{statement}
+use Rattle.jackson.proofs.minute.earliest_deadline.Tie as tie
 
 abbrev Inv-loop : tie.InvT-loop
-Inv-loop count t r d left k₀ i₀ k i = Searched idle (ready (arrived count t r d left)) (smaller (λ (j : ℕ). getD d j 0)) count k i
+Inv-loop count t r d left k₀ i₀ k i = Searched idle (isReady (arrived count t r d left)) (smaller (λ (j : ℕ). getD d j 0)) count k i
 
 abbrev μ-loop : tie.MeasureT-loop
 μ-loop count t r d left k₀ i₀ k i = count - i
@@ -36,7 +36,7 @@ loop-again c = search-next _ (c .before .before .loop .inv) (c .before .loop-tes
 returns : tie.Need-returns Inv-loop μ-loop
 returns c = search-done (c .before .loop .inv) (c .loop-test .left)
 
-pub earliest-ready-spec : {M : Type 1} → statement M
-earliest-ready-spec =
+pub earliest-deadline-spec : {M : Type 1} → statement M
+earliest-deadline-spec =
     tie.close
     (tie.spec Inv-loop μ-loop loop-holds sooner-requires add-i loop-less loop-again returns)
