@@ -7,7 +7,8 @@ use Rattle.list.specs.Outcomes.{Outcome, answered, refused}
 use Rattle.list.specs.Reading.{readOf}
 use Rattle.list.specs.Writing.{writeOf, bufferAfter}
 use Rattle.list.specs.declared.types.DayList.{DayList}
-use Rattle.jackson.specs.Calls.{testOf, fillOf, planAfter}
+use Rattle.jackson.specs.Testing.{testOf}
+use Rattle.jackson.specs.Planning.{fillOf, planAfter}
 use Rattle.codes.specs.Numbers.{three}
 use Rattle.abi.specs.Flat.{flatOf, valueOf}
 use Rattle.abi.specs.declared.Answer.{Answer}

@@ -14,7 +14,8 @@ use Rattle.list.specs.declared.types.DayList.{DayList}
 use Rattle.jackson.specs.Windows.{windowsOf, SameNumbers}
 use Rattle.jackson.specs.Minutes.{schedule}
 use Rattle.jackson.specs.Intervals.{overloadOf}
-use Rattle.jackson.specs.Calls.{testOf, fillOf, planAfter}
+use Rattle.jackson.specs.Testing.{testOf}
+use Rattle.jackson.specs.Planning.{fillOf, planAfter}
 use Rattle.jackson.proofs.Sums.{le-or-lt}
 use Rattle.jackson.proofs.ListLaws.{past-end}
 

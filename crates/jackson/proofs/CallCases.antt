@@ -7,7 +7,7 @@ use native.Mathlib.Numerals.{add-one}
 use native.Mathlib.Omega.{arith}
 use borrow.Author.Tests.{lt-ltb, le-ltb}
 use lib.ListN.{length, getD, set, take, drop}
-use lib.Seq.{take-append-seam, drop-cons, set-at, append-snoc, length-front, length-take-le}
+use lib.Seq.{take-at, drop-cons, set-at, append-snoc, length-front, length-take-le}
 use Rattle.list.specs.Outcomes.{answered, refused}
 use Rattle.list.specs.Refusals.{codeOf, verdictOf}
 use Rattle.list.specs.Checks.{checkOf}
@@ -23,25 +23,27 @@ use Rattle.jackson.specs.Minutes.{State, stateOf, dayStart, chosen, afte
 use Rattle.jackson.specs.Intervals.{overloadOf}
 use Rattle.list.specs.Outcomes.{Outcome}
 use Rattle.jackson.specs.Plans.{PlanBytes}
-use Rattle.jackson.specs.Calls.{Advances, Starts, Tests, Fills, Decides, testOf, fillOf, planAfter}
+use Rattle.jackson.specs.Testing.{Holds, Tests, testOf}
+use Rattle.jackson.specs.Planning.{Advances, Starts, Fills, listBeside, fillOf, planAfter}
+use Rattle.jackson.specs.Steps.{Advanced}
 use Rattle.jackson.specs.declared.types.WindowSet.{WindowSet}
 use Rattle.jackson.specs.declared.types.Day.{Day}
 use Rattle.jackson.specs.declared.types.DayAnswer.{DayAnswer}
 use Rattle.jackson.proofs.Schedules.{minute-on, minute-over, list-length}
-use Rattle.jackson.proofs.ListLaws.{test-decides, schedule-decides}
+use Rattle.jackson.proofs.ListLaws.{test-decides, fill-decides, fill-plans}
 
 -- a minute of a day past its end, and of one that goes on
 module _ (day : Day) where
   pub advances-over : day .windows .h ≤ day .t → Advances day (record { place = 255; day = day })
   advances-over h =
       let e = minute-over (stateOf day) h in
-      record { place = rw e refl; next = rw e refl }
+      record { place = rw e refl; next = rw e refl; n = refl }
 
-  pub advances-on : (next : Day) (k : ℕ) → day .t < day .windows .h → k ≡ chosen (stateOf day) → stateOf next ≡ after (stateOf day) k
+  pub advances-on : (next : Day) (k : ℕ) → day .t < day .windows .h → k ≡ chosen (stateOf day) → Advanced day k next
       → Advances day (record { place = k; day = next })
   advances-on next k h place step =
       let e = minute-on (stateOf day) h in
-      record { place = rw e place; next = rw e (rw (← place) step) }
+      record { place = rw e place; next = rw e (rw (← place) (step .state)); n = step .n }
 
 -- a check that was passed, and one that was not
 module _ (l : DayList) (v : Verdict) (checked : verdictOf v ≡ checkOf l) where
@@ -51,13 +53,22 @@ module _ (l : DayList) (v : Verdict) (checked : verdictOf v ≡ checkOf l) where
   not-passed : (x : Refusal) → v ≡ Refused x → checkOf l ≡ refused (codeOf x)
   not-passed x e = sym checked ∙ ap verdictOf e
 
--- starting a day
-module _ (l : DayList) (v : Verdict) (checked : verdictOf v ≡ checkOf l) (day : Day) (w : WindowSet) (begins : stateOf day ≡ dayStart (windowsIn w)) where
-  pub not-started : (x : Refusal) → v ≡ Refused x → windowsIn w ≡ windowsOf emptyList → Starts l (record { verdict = v; day = day })
-  not-started x e empty = record { outcome = checked; beside = rw (not-passed l v checked x e) (begins ∙ ap dayStart empty) }
+-- starting a day with these windows
+module _ (l : DayList) (v : Verdict) (checked : verdictOf v ≡ checkOf l) (w : WindowSet) (day : Day)
+    (first : day ≡ record { windows = w; t = 0; last = 255 }) where
+  begun : (k : DayList) → Holds k w → listBeside (checkOf l) l ≡ k → Starts l (record { verdict = v; day = day })
+  begun k holds e =
+      record {
+        outcome = checked;
+        beside = rw (first, e) (ap dayStart (holds .windows));
+        n = rw (first, e) (holds .n);
+      }
 
-  pub started : v ≡ Accepted → windowsIn w ≡ windowsOf l → Starts l (record { verdict = v; day = day })
-  started e windows = record { outcome = checked; beside = rw (passed l v checked e) (begins ∙ ap dayStart windows) }
+  pub not-started : (x : Refusal) → v ≡ Refused x → Holds emptyList w → Starts l (record { verdict = v; day = day })
+  not-started x e holds = begun emptyList holds (rw (not-passed l v checked x e) refl)
+
+  pub started : v ≡ Accepted → Holds l w → Starts l (record { verdict = v; day = day })
+  started e holds = begun l holds (rw (passed l v checked e) refl)
 
 tests-of : (l : DayList) (v : Verdict) → verdictOf v ≡ testOf l → Tests l v
 tests-of l v e = record { outcome = e; decides = rw e (test-decides l) }
@@ -68,9 +79,9 @@ module _ (l : DayList) (v : Verdict) (checked : verdictOf v ≡ checkOf l) where
   unfolding testOf
   not-tested x e = tests-of l v (rw (not-passed l v checked x e) (ap verdictOf e))
 
-  pub tested : (u : Verdict) (w : WindowSet) → v ≡ Accepted → windowsIn w ≡ windowsOf l → verdictOf u ≡ overloadOf (windowsIn w) → Tests l u
+  pub tested : (u : Verdict) (w : WindowSet) → v ≡ Accepted → Holds l w → verdictOf u ≡ overloadOf (windowsIn w) → Tests l u
   unfolding testOf
-  tested u w e windows test = tests-of l u (rw (passed l v checked e) (test ∙ ap overloadOf windows))
+  tested u w e holds test = tests-of l u (rw (passed l v checked e) (test ∙ ap overloadOf (holds .windows)))
 
 -- the first i of h places are stored, and the day has gone i minutes on from s
 pub record Stored (s : State) (h : ℕ) (old new : List ℕ) (day : Day) (i : ℕ) : Type 0 where
@@ -113,24 +124,21 @@ module _ (s : State) (h : ℕ) (old : List ℕ) where
       let fits : i ≤ length old = omega (arith, so .passed, so .room) in
       rw (so .bytes) (length-front old (listOf i (placeAt s)) i (list-length i (placeAt s) ∙ sym (length-take-le i old fits)))
 
+-- what a call fills, from its outcome and the buffer
 fills-of : (l : DayList) (old : List ℕ) (v : Verdict) (new : List ℕ) → verdictOf v ≡ fillOf l (length old)
     → new ≡ planAfter (fillOf l (length old)) l old → Fills l old v new
 unfolding schedule
 fills-of l old v new e b =
-    record {
-      outcome = e;
-      buffer = b;
-      decides = rw e (schedule-decides l (length old));
-      plan = λ yes′. go (sym e ∙ yes′);
-    }
+    record { outcome = e; buffer = b; decides = rw e (fill-decides l (length old)); plan = λ done. bytes (sym e ∙ done) }
   where
-    go : fillOf l (length old) ≡ answered tt → PlanBytes (windowsOf l) (take (l .frame .h) new)
-    go z =
-        let w = windowsOf l in
-        let front : take (l .frame .h) (schedule w ++ drop (l .frame .h) old) ≡ schedule w =
-        ap (λ (k : ℕ). take k (schedule w ++ drop (l .frame .h) old)) (sym (list-length (l .frame .h) (placeAt (dayStart w))))
-        ∙ take-append-seam (schedule w) (drop (l .frame .h) old) in
-        rw (b, z) (rw front (schedule-decides l (length old) .plan z))
+    h : ℕ
+    h = l .frame .h
+
+    front : take h (schedule (windowsOf l) ++ drop h old) ≡ schedule (windowsOf l)
+    front = take-at (schedule (windowsOf l)) (drop h old) h (list-length h (placeAt (dayStart (windowsOf l))))
+
+    bytes : fillOf l (length old) ≡ answered tt → PlanBytes (windowsOf l) (take h new)
+    bytes z = rw (b, z, front) (fill-plans l (length old) z)
 
 -- filling a plan buffer
 module _ (l : DayList) (old : List ℕ) (a : DayAnswer) (starts : Starts l a) where

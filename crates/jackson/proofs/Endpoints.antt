@@ -1,4 +1,4 @@
--- No interval between an earliest and a latest minute of the list is overloaded exactly if no [a, b), of whatever ends, has more work than
+-- For windows that have room: no interval between an earliest and a latest minute of the list is overloaded exactly if no [a, b), of whatever ends, has more work than
 -- minutes.
 -- Assumes nothing.
 use mathlib.Core.Path.{_≡_, refl}
@@ -9,12 +9,12 @@ use borrow.Author.Tests.{ltb-true, lt-ltb}
 use lib.Dec.{ltb}
 use Rattle.jackson.specs.Counting.{smaller, larger}
 use Rattle.jackson.specs.Windows.{Windows}
-use Rattle.jackson.specs.Intervals.{work, Fits, Overloaded}
+use Rattle.jackson.specs.Intervals.{work, Fits, Overloaded, NoOverload}
 use Rattle.jackson.proofs.Scans.{Best, smaller-ranks, larger-ranks, best-some, best-smallest, best-largest}
 use Rattle.jackson.proofs.Sums.{le-or-lt, some-term}
 use Rattle.jackson.proofs.Counted.{counted, counted-is, counted-le, counted-in, work-under}
 
-pub fits-none : (w : Windows) → Fits w → (a b : ℕ) → Overloaded w a b → ⊥
+pub fits-none : (w : Windows) → Fits w → NoOverload w
 fits-none w fits a b o = omega (arith, fits a b, o .exceeds)
 
 module _ (w : Windows) (room : (i : ℕ) → i < w .n → 1 ≤ w .p i → w .r i + w .p i ≤ w .d i) where
@@ -67,6 +67,6 @@ module _ (w : Windows) (room : (i : ℕ) → i < w .n → 1 ≤ w .p i → w .r 
         let last = best-some (w .n) adds _ (larger-ranks (w .d)) (w .n) (omega arith) (z .0) (z .1) t in
         (_, _, shrunk _ _ first last more)
 
-  pub none-fits : ((a b : ℕ) → Overloaded w a b → ⊥) → Fits w
+  pub none-fits : NoOverload w → Fits w
   none-fits none a b =
       le-or-lt (work w a b) (b - a) (λ h. h) (λ more. let z = some-overloaded a b more in absurd (none (z .0) (z .1) (z .2)))

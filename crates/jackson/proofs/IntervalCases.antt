@@ -6,7 +6,7 @@ use mathlib.Core.List.{List, [], _∷_}
 use Prim.Native.Nat.{ℕ, _+_, _*_, _-_, _<_, _≤_, min}
 use native.Mathlib.Numerals.{add-one}
 use native.Mathlib.Omega.{arith}
-use borrow.Author.Tests.{le-leb, lt-leb, lt-ltb, le-ltb, ltb-true}
+use borrow.Author.Tests.{le-leb, lt-leb, lt-ltb, le-ltb}
 use lib.Dec.{leb, ltb}
 use lib.ListN.{getD}
 use Rattle.list.specs.Outcomes.{code, answered, refused}
@@ -14,7 +14,7 @@ use Rattle.jackson.specs.Counting.{sum, better, smaller, larger}
 use Rattle.jackson.specs.Windows.{Windows, columns, windowsIn}
 use Rattle.jackson.specs.Intervals.{work, isOverloaded, leftOf, leftEnd, rightOf, rightEnd, overloadOf}
 use Rattle.jackson.specs.declared.types.WindowSet.{WindowSet}
-use Rattle.jackson.proofs.Scans.{smaller-ranks, best-below}
+use Rattle.jackson.proofs.ShownInterval.{right-found}
 use Rattle.jackson.proofs.ScanSteps.{unfit, first, wins, stays}
 
 module _ (a b r d p : ℕ) where
@@ -105,11 +105,7 @@ module _ (s : WindowSet) (n : ℕ) (holds : n ≡ min (s .n) 64) (j : ℕ) (righ
   none-overloaded h = rw (← holds, ← right, le-ltb j n h) refl
 
   pub left-in : j < n → leftEnd (columns 0 n (s .r) (s .d) (s .p)) (getD (s .d) j 0) < n
-  unfolding rightEnd
-  left-in h =
-      let w = columns 0 n (s .r) (s .d) (s .p) in
-      let found = best-below n (rightOf w) (smaller (w .d)) (smaller-ranks (w .d)) n (omega arith) (rw (← right) h) in
-      ltb-true _ _ (rw (← right) at (found .passes))
+  left-in h = rw right (right-found (columns 0 n (s .r) (s .d) (s .p)) (rw (← right) h))
 
   pub overload-shown : (i x : ℕ) → j < n → i ≡ leftEnd (columns 0 n (s .r) (s .d) (s .p)) (getD (s .d) j 0)
       → x ≡ work (columns 0 n (s .r) (s .d) (s .p)) (getD (s .r) i 0) (getD (s .d) j 0)

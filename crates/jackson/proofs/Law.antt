@@ -6,8 +6,8 @@ use native.Mathlib.Omega.{arith}
 use Rattle.list.specs.Outcomes.{Code, Outcome, answered, refused}
 use Rattle.jackson.specs.Windows.{Windows, Roomy}
 use Rattle.jackson.specs.Plans.{PlanBytes, placesIn}
-use Rattle.jackson.specs.Intervals.{overloadOf}
-use Rattle.jackson.specs.Existence.{Plannable, NoOverload, PlanLaw}
+use Rattle.jackson.specs.Intervals.{NoOverload, overloadOf}
+use Rattle.jackson.specs.Existence.{Plannable, PlanLaw}
 use Rattle.jackson.specs.Minutes.{schedule}
 use Rattle.jackson.specs.Rules.{ScheduleLaw}
 use Rattle.jackson.proofs.PlanWork.{plan-fits}

@@ -14,13 +14,14 @@ use Rattle.list.specs.declared.types.DayList.{DayList}
 use Rattle.list.proofs.Inversion.{Says, by-row}
 use Rattle.list.proofs.Sound.{Sound, Every, SoundList, check-says, sound-list}
 use Rattle.jackson.specs.Windows.{windowsOf, Roomy}
-use Rattle.jackson.specs.Plans.{PlanBytes}
+use Rattle.jackson.specs.Plans.{PlanBytes, placesIn}
 use Rattle.jackson.specs.Mirrors.{mirror}
-use Rattle.jackson.specs.Intervals.{overloadOf}
+use Rattle.jackson.specs.Intervals.{ShowsOverload, overloadOf}
 use Rattle.jackson.specs.Existence.{Plannable, PlanLaw}
 use Rattle.jackson.specs.Minutes.{schedule}
 use Rattle.jackson.specs.Rules.{ScheduleLaw}
-use Rattle.jackson.specs.Calls.{testOf, fillOf, Decides}
+use Rattle.jackson.specs.Testing.{testOf, Decides}
+use Rattle.jackson.specs.Planning.{fillOf}
 use Rattle.jackson.proofs.Sums.{le-or-lt}
 use Rattle.jackson.proofs.PlanFacts.{mirror-mirror}
 use Rattle.jackson.proofs.Law.{plan-law, schedule-law}
@@ -78,13 +79,16 @@ NotNine k = k .number ≡ 9 → ⊥
 module _ (l : DayList) where
   -- by an answer the schedule is a plan, by row 9 there is none
   abbrev Tells : Outcome (Unit {0}) → Type 0
-  Tells = Says (λ _. PlanBytes (windowsOf l) (schedule (windowsOf l))) (λ k. k .number ≡ 9 → Plannable (windowsOf l) → ⊥)
+  Tells =
+      Says (λ _. PlanBytes (windowsOf l) (schedule (windowsOf l)))
+      (λ k. k .number ≡ 9 → (Plannable (windowsOf l) → ⊥) × ShowsOverload (windowsOf l) k)
 
   tells-decides : (o : Outcome (Unit {0})) → Tells o → Decides l o
   tells-decides o tells =
       record {
-        plan = λ e. rw e at tells;
-        no-plan = λ xs m e plan. (rw e at tells) refl (m, plan);
+        planned = λ e. let bytes : PlanBytes (windowsOf l) (schedule (windowsOf l)) = rw e at tells in (placesIn (schedule (windowsOf l)), bytes .plan);
+        unplanned = λ k e nine. (rw e at tells) nine .0;
+        shown = λ k e nine. (rw e at tells) nine .1;
       }
 
   -- the overload test of a well-formed list tells that
@@ -93,7 +97,7 @@ module _ (l : DayList) where
     where
       go : (o : Outcome (Unit {0})) → overloadOf (windowsOf l) ≡ o → Tells o
       go (answered t) e = list-schedule-law l formed .plan .0 (list-law l formed .accepted .1 e)
-      go (refused k) e = λ _. list-law l formed .turned-back .1 (k, e)
+      go (refused k) e = λ _. (list-law l formed .turned-back .1 (k, e), list-law l formed .shown k e)
 
   -- and what tells it of well-formed lists does of all, once the value check comes first
   checked-tells : (o : Outcome (Unit {0})) → (WellFormed l → Tells o) → Tells (andThen (checkOf l) (λ _. o))
@@ -108,8 +112,13 @@ module _ (l : DayList) where
   unfolding testOf
   test-decides = tells-decides _ (checked-tells _ overload-tells)
 
-  pub schedule-decides : (room : ℕ) → Decides l (fillOf l room)
+  fill-tells : (room : ℕ) → Tells (fillOf l room)
   unfolding fillOf
-  schedule-decides room =
-      tells-decides _
-      (checked-tells _ (λ formed. by-row _ _ (ltb room (l .frame .h)) _ _ (λ _ z. absurd (omega arith)) (λ _. overload-tells formed)))
+  fill-tells room =
+      checked-tells _ (λ formed. by-row _ _ (ltb room (l .frame .h)) _ _ (λ _ z. absurd (omega arith)) (λ _. overload-tells formed))
+
+  pub fill-decides : (room : ℕ) → Decides l (fillOf l room)
+  fill-decides room = tells-decides (fillOf l room) (fill-tells room)
+
+  pub fill-plans : (room : ℕ) → fillOf l room ≡ answered tt → PlanBytes (windowsOf l) (schedule (windowsOf l))
+  fill-plans room e = rw e at (fill-tells room)

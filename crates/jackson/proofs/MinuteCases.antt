@@ -12,7 +12,8 @@ use lib.Seq.{set-out, getD-set-same, getD-set-other}
 use Rattle.jackson.specs.Counting.{same, better, smaller}
 use Rattle.jackson.specs.Windows.{withLeft, windowsIn}
 use Rattle.jackson.specs.Plans.{idle}
-use Rattle.jackson.specs.Minutes.{State, stateOf, arrived, isReady, earliestDeadline, chosen, after}
+use Rattle.jackson.specs.Minutes.{State, isReady, earliestDeadline, chosen}
+use Rattle.jackson.specs.Steps.{arrived, Advanced}
 use Rattle.jackson.specs.declared.types.WindowSet.{WindowSet}
 use Rattle.jackson.specs.declared.types.Day.{Day}
 use Rattle.jackson.proofs.Sums.{le-or-lt, same-cases}
@@ -103,13 +104,15 @@ module _ (day : Day) (k : ℕ) where
         last = k;
       }
 
-  pub after-place : (x : ℕ) → x ≡ getD (day .windows .p) k 0 - 1 → stateOf (dayWith (set (day .windows .p) k x)) ≡ after (stateOf day) k
-  after-place x e =
-      rw e
-      (ap (λ (p : ℕ → ℕ). record { windows = withLeft (windowsIn (day .windows)) p; t = day .t + 1; last = k })
-      (fun-ext (λ i. stored-less (day .windows .p) k i)))
+  advanced-with : (p : List ℕ) → ((i : ℕ) → getD p i 0 ≡ getD (day .windows .p) i 0 - same k i) → Advanced day k (dayWith p)
+  advanced-with p left =
+      record {
+        state = ap (λ (z : ℕ → ℕ). record { windows = withLeft (windowsIn (day .windows)) z; t = day .t + 1; last = k }) (fun-ext left);
+        n = refl;
+      }
 
-  pub after-none : length (day .windows .p) ≤ k → stateOf (dayWith (day .windows .p)) ≡ after (stateOf day) k
-  after-none h =
-      ap (λ (p : ℕ → ℕ). record { windows = withLeft (windowsIn (day .windows)) p; t = day .t + 1; last = k })
-      (fun-ext (λ i. nobody-less (day .windows .p) k i h))
+  pub after-place : (x : ℕ) → x ≡ getD (day .windows .p) k 0 - 1 → Advanced day k (dayWith (set (day .windows .p) k x))
+  after-place x e = rw e (advanced-with (set (day .windows .p) k (getD (day .windows .p) k 0 - 1)) (stored-less (day .windows .p) k))
+
+  pub after-none : length (day .windows .p) ≤ k → Advanced day k (dayWith (day .windows .p))
+  after-none h = advanced-with (day .windows .p) (λ i. nobody-less (day .windows .p) k i h)

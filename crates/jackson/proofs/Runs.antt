@@ -1,4 +1,4 @@
--- A rule that takes ready entries of least deadline, followed to the day's end, makes a plan exactly if no interval has more work than
+-- A rule that takes ready entries of least deadline, followed to the day's end, makes a plan if no interval has more work than
 -- minutes.
 -- Assumes nothing.
 use mathlib.Core.Path.{_≡_}

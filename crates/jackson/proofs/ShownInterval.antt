@@ -9,13 +9,13 @@ use borrow.Author.Tests.{ltb-true, ltb-false, lt-ltb}
 use lib.Dec.{ltb}
 use Rattle.list.specs.Outcomes.{Code, code, Outcome, answered, refused}
 use Rattle.jackson.specs.Windows.{Windows}
-use Rattle.jackson.specs.Intervals.{work, Overloaded, Shown, isOverloaded, leftEnd, rightEnd, overloadOf}
+use Rattle.jackson.specs.Intervals.{work, Overloaded, Shown, NoOverload, ShowsOverload, isOverloaded, leftEnd, rightEnd, overloadOf}
 use Rattle.jackson.proofs.Scans.{smaller-ranks, larger-ranks, best-below, best-some, best-smallest, best-largest}
 
 -- what the overload test says by its answer, and by a refusal
 abbrev Row9 : Windows → Outcome (Unit {0}) → Type 0
-Row9 w (answered _) = (a b : ℕ) → Overloaded w a b → ⊥
-Row9 w (refused k) = (a : ℕ) × (b : ℕ) × (k ≡ code 9 (a ∷ b ∷ work w a b ∷ [])) × Shown w a b
+Row9 w (answered _) = NoOverload w
+Row9 w (refused k) = ShowsOverload w k
 
 module _ (w : Windows) where
   -- the left end found for b is below n exactly if there is one, and is then the largest
@@ -37,7 +37,7 @@ module _ (w : Windows) where
       (best .below, rw (← e) (best-largest (w .n) _ (w .r) _ best i h passes))
 
   -- the right end found is below n exactly if there is one, and is then the smallest
-  right-found : rightEnd w < w .n → leftEnd w (w .d (rightEnd w)) < w .n
+  pub right-found : rightEnd w < w .n → leftEnd w (w .d (rightEnd w)) < w .n
   unfolding rightEnd
   right-found h =
       let best = best-below (w .n) (λ j. ltb (leftEnd w (w .d j)) (w .n)) _ (smaller-ranks (w .d)) (w .n) (omega arith) h in
@@ -77,25 +77,24 @@ module _ (w : Windows) where
       (λ e. ends-shown (ltb-true _ _ e))
       (λ e a b o. omega (arith, ltb-false (rightEnd w) (w .n) e, right-smallest a b o .0))
     where
-      go : (t : Bool) (a b : ℕ) → (t ≡ true → Shown w a b) → (t ≡ false → (a b : ℕ) → Overloaded w a b → ⊥)
+      go : (t : Bool) (a b : ℕ) → (t ≡ true → Shown w a b) → (t ≡ false → NoOverload w)
           → Row9 w (cond t (refused (code 9 (a ∷ b ∷ work w a b ∷ []))) (answered tt))
-      go true a b shown none = (a, b, refl, shown refl)
+      go true a b shown none = record { a = a; b = b; carries = refl; shown = shown refl }
       go false a b shown none = none refl
 
   -- windows are accepted exactly if no interval is overloaded
-  pub accepted-none : overloadOf w ≡ answered tt → (a b : ℕ) → Overloaded w a b → ⊥
+  pub accepted-none : overloadOf w ≡ answered tt → NoOverload w
   accepted-none e = rw e at test-says
 
-  pub none-accepted : ((a b : ℕ) → Overloaded w a b → ⊥) → overloadOf w ≡ answered tt
+  pub none-accepted : NoOverload w → overloadOf w ≡ answered tt
   none-accepted fits = go (overloadOf w) test-says
     where
       go : (o : Outcome (Unit {0})) → Row9 w o → o ≡ answered tt
       go (answered t) says = refl
-      go (refused k) says = absurd (fits (says .0) (says .1) (says .3 .overloaded))
+      go (refused k) says = absurd (fits (says .a) (says .b) (says .shown .overloaded))
 
   -- a refusal carries the interval shown and its work
-  pub refused-shown : (k : Code) → overloadOf w ≡ refused k
-      → (a : ℕ) × (b : ℕ) × (k ≡ code 9 (a ∷ b ∷ work w a b ∷ [])) × Shown w a b
+  pub refused-shown : (k : Code) → overloadOf w ≡ refused k → ShowsOverload w k
   refused-shown k e = rw e at test-says
 
   -- one interval only is shown

@@ -3,14 +3,14 @@
 use mathlib.Core.Path.{_≡_, refl, sym, _∙_, ap, fun-ext}
 use mathlib.Core.List.{List}
 use Prim.Native.Nat.{ℕ, _+_, _<_, _≤_, min}
-use native.Mathlib.Numerals.{add-one}
 use native.Mathlib.Omega.{arith}
 use lib.ListN.{length, getD, set, take, replicate, length-take, length-set, length-replicate, getD-replicate, List·getD-eq-default}
 use lib.Seq.{getD-set-same, getD-set-other, getD-take, take-all}
 use Rattle.list.specs.DayLists.{blank, entriesOf, emptyList}
 use Rattle.list.specs.declared.types.Entry.{Entry}
 use Rattle.list.specs.declared.types.DayList.{DayList}
-use Rattle.jackson.specs.Windows.{Windows, windowsOf, columns}
+use Rattle.jackson.specs.Windows.{windowsOf, columns}
+use Rattle.jackson.specs.Testing.{Holds}
 use Rattle.jackson.proofs.Sums.{le-or-lt, same-cases}
 
 -- an array of 64 numbers holds a field of the first i entries, and 0 after them
@@ -90,21 +90,28 @@ module _ (l : DayList) (long : length (l .entries) ≡ 64) where
       rw z (take-all 64 (l .entries) (omega (arith, long)) ∙ sym (take-all (l .n) (l .entries) (omega (arith, long)))))
 
   pub copy-done : (r d p : List ℕ) (n i : ℕ) → n ≡ min (l .n) 64 → Copied (l .entries) n r d p i → n ≤ i
-      → columns (l .frame .h) (min (l .n) 64) r d p ≡ windowsOf l
+      → Holds l (record { h = l .frame .h; n = l .n; r = r; d = d; p = p })
   copy-done r d p n i e so h =
       let held = columns (l .frame .h) (min (l .n) 64) r d p in
       let z : i ≡ min (l .n) 64 = omega (arith, e, so .passed) in
       let taken : take i (l .entries) ≡ entriesOf l = rw z all-taken in
       let count : min (l .n) 64 ≡ length (entriesOf l) = rw (length-take (l .n) (l .entries), long) refl in
-      λ k.
       record {
-        h = l .frame .h;
-        n = count k;
-        r = fun-ext {f = held .r} {g = windowsOf l .r} (λ j. rw (← taken) (so .column-r .is j)) k;
-        d = fun-ext {f = held .d} {g = windowsOf l .d} (λ j. rw (← taken) (so .column-d .is j)) k;
-        p = fun-ext {f = held .p} {g = windowsOf l .p} (λ j. rw (← taken) (so .column-p .is j)) k;
+        windows =
+            λ k.
+            record {
+              h = l .frame .h;
+              n = count k;
+              r = fun-ext {f = held .r} {g = windowsOf l .r} (λ j. rw (← taken) (so .column-r .is j)) k;
+              d = fun-ext {f = held .d} {g = windowsOf l .d} (λ j. rw (← taken) (so .column-d .is j)) k;
+              p = fun-ext {f = held .p} {g = windowsOf l .p} (λ j. rw (← taken) (so .column-p .is j)) k;
+            };
+        n = refl;
       }
 
 -- the empty list's windows
-pub copy-none : columns 0 0 (replicate 64 0) (replicate 64 0) (replicate 64 0) ≡ windowsOf emptyList
-copy-none = copy-done emptyList (length-replicate {A = Entry} 64 blank) _ _ _ 0 0 refl (copy-start (replicate 64 blank) 0 (omega arith)) (omega arith)
+pub copy-none : (r d p : List ℕ) → r ≡ replicate 64 0 → d ≡ replicate 64 0 → p ≡ replicate 64 0
+    → Holds emptyList (record { h = 0; n = 0; r = r; d = d; p = p })
+copy-none r d p x y z =
+    rw (x, y, z)
+    (copy-done emptyList (length-replicate {A = Entry} 64 blank) _ _ _ 0 0 refl (copy-start (replicate 64 blank) 0 (omega arith)) (omega arith))

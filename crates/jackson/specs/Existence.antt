@@ -2,21 +2,16 @@
 use Prim.Native.Nat.{ℕ}
 use mathlib.Core.Path.{_≡_}
 use mathlib.Core.Logic.{_↔_}
-use mathlib.Core.List.{[], _∷_}
-use Rattle.list.specs.Outcomes.{Code, code, answered, refused}
+use Rattle.list.specs.Outcomes.{Code, answered, refused}
 use Rattle.jackson.specs.Windows.{Windows}
 use Rattle.jackson.specs.Plans.{Plan}
-use Rattle.jackson.specs.Intervals.{work, Fits, Overloaded, Shown, overloadOf}
+use Rattle.jackson.specs.Intervals.{Fits, NoOverload, ShowsOverload, overloadOf}
 
 -- there is a plan
 abbrev pub Plannable : Windows → Type 0
 Plannable w = (m : ℕ → ℕ) × Plan w m
 
--- no interval between an earliest and a latest minute of the windows is overloaded
-abbrev pub NoOverload : Windows → Type 0
-NoOverload w = (a b : ℕ) → Overloaded w a b → ⊥
-
--- the law of windows that have room (`Roomy`)
+-- the law of at most 255 windows that have room (`Roomy`); its last field holds of all windows
 pub record PlanLaw (w : Windows) : Type 0 where
   -- "A plan exists exactly when no interval is overloaded."
   pub exists : Plannable w ↔ NoOverload w
@@ -27,4 +22,4 @@ pub record PlanLaw (w : Windows) : Type 0 where
   -- none exists exactly when it refuses them
   pub turned-back : (Plannable w → ⊥) ↔ (k : Code) × (overloadOf w ≡ refused k)
   -- and that refusal is row 9 with the interval shown and its work
-  pub shown : (k : Code) → overloadOf w ≡ refused k → (a : ℕ) × (b : ℕ) × (k ≡ code 9 (a ∷ b ∷ work w a b ∷ [])) × Shown w a b
+  pub shown : (k : Code) → overloadOf w ≡ refused k → ShowsOverload w k

@@ -4,7 +4,7 @@ use mathlib.Core.Path.{_≡_}
 use mathlib.Core.Bool.{Bool, cond, _&&_}
 use mathlib.Core.List.{[], _∷_}
 use lib.Dec.{leb, ltb}
-use Rattle.list.specs.Outcomes.{code, Outcome, answered, firstOf}
+use Rattle.list.specs.Outcomes.{Code, code, Outcome, answered, firstOf}
 use Rattle.jackson.specs.Counting.{sum, best, smaller, larger}
 use Rattle.jackson.specs.Windows.{Windows}
 
@@ -29,6 +29,17 @@ pub record Shown (w : Windows) (a b : ℕ) : Type 0 where
   pub overloaded : Overloaded w a b
   pub smallest : (a′ b′ : ℕ) → Overloaded w a′ b′ → b ≤ b′
   pub largest : (a′ : ℕ) → Overloaded w a′ b → a′ ≤ a
+
+-- no interval is overloaded
+abbrev pub NoOverload : Windows → Type 0
+NoOverload w = (a b : ℕ) → Overloaded w a b → ⊥
+
+-- what a refusal by row 9 carries: the interval shown, and its work
+pub record ShowsOverload (w : Windows) (k : Code) : Type 0 where
+  pub a : ℕ
+  pub b : ℕ
+  pub carries : k ≡ code 9 (a ∷ b ∷ work w a b ∷ [])
+  pub shown : Shown w a b
 
 -- the test of an interval between an earliest and a latest minute
 abbrev pub isOverloaded : Windows → ℕ → ℕ → Bool

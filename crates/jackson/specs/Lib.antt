@@ -6,4 +6,6 @@ pub mod Intervals
 pub mod Existence
 pub mod Minutes
 pub mod Rules
-pub mod Calls
+pub mod Testing
+pub mod Planning
+pub mod Steps

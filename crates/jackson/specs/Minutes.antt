@@ -4,7 +4,7 @@ use mathlib.Core.Bool.{Bool, cond, not, _&&_}
 use mathlib.Core.List.{List}
 use lib.Dec.{leb, ltb}
 use Rattle.jackson.specs.Counting.{same, best, smaller, listOf}
-use Rattle.jackson.specs.Windows.{Windows, withLeft, columns, windowsIn}
+use Rattle.jackson.specs.Windows.{Windows, withLeft, windowsIn}
 use Rattle.jackson.specs.Plans.{idle}
 use Rattle.jackson.specs.declared.types.Day.{Day}
 
@@ -19,10 +19,6 @@ pub record State : Type 0 where
 abbrev pub stateOf : Day → State
 stateOf day = record { windows = windowsIn (day .windows); t = day .t; last = day .last }
 
--- the same of arrays, as far as readiness goes
-abbrev pub arrived : ℕ → ℕ → List ℕ → List ℕ → List ℕ → State
-arrived n t r d left = record { windows = columns 0 n r d left; t = t; last = idle }
-
 -- the state in which a day begins
 abbrev pub dayStart : Windows → State
 dayStart w = record { windows = w; t = 0; last = idle }
@@ -36,7 +32,8 @@ module _ (s : State) where
   abbrev pub earliestDeadline : ℕ
   earliestDeadline = best idle (s .windows .n) isReady (smaller (s .windows .d))
 
-  -- "The entry that had the minute before, if it has minutes left, goes on unless another d is strictly smaller."
+  -- "The entry that had the minute before, if it has minutes left, goes on unless another d is strictly smaller." Its r was reached then;
+  -- of days that no one should make it is asked here
   abbrev pub goesOn : Bool
   goesOn = ltb (s .last) (s .windows .n) && (isReady (s .last) && not (ltb (s .windows .d earliestDeadline) (s .windows .d (s .last))))
 

@@ -3,6 +3,7 @@ use crate::interval::untested_overload;
 use crate::types::Day;
 use crate::types::DayAnswer;
 use crate::types::WindowSet;
+use crate::window_set::no_windows;
 use crate::window_set::untested_windows;
 use list::types::DayList;
 use list::types::Refusal;
@@ -11,33 +12,19 @@ ghost use mathlib.Core.Path.{_≡_};
 ghost use mathlib.Core.List.{_++_};
 ghost use Prim.Native.Nat.{_≤_};
 ghost use lib.ListN.{length, drop};
-ghost use Rattle.list.specs.DayLists.{emptyList};
 ghost use Rattle.jackson.specs.Counting.{listOf};
-ghost use Rattle.jackson.specs.Windows.{windowsOf, windowsIn};
-ghost use Rattle.jackson.specs.Minutes.{stateOf, dayStart, placeAt};
-ghost use Rattle.jackson.specs.Calls.{Starts, Fills};
+ghost use Rattle.jackson.specs.Plans.{idle};
+ghost use Rattle.jackson.specs.Minutes.{stateOf, placeAt};
+ghost use Rattle.jackson.specs.Planning.{Starts, Fills};
 
 // A day's first state.
 fn first_minute(windows: WindowSet) -> Day
-    ensures { λ day. ⌜ stateOf day ≡ dayStart (windowsIn windows) ⌝ }
+    ensures { λ day. ⌜ day ≡ record { windows = windows; t = 0; last = idle } ⌝ }
 {
     Day {
         windows: windows,
         t: 0,
         last: 255,
-    }
-}
-
-// The windows of the empty list.
-fn no_windows() -> WindowSet
-    ensures { λ w. ⌜ windowsIn w ≡ windowsOf emptyList ⌝ }
-{
-    WindowSet {
-        h: 0,
-        n: 0,
-        r: [0; 64],
-        d: [0; 64],
-        p: [0; 64],
     }
 }
 

@@ -14,7 +14,7 @@ ghost use Rattle.list.specs.Refusals.{verdictOf};
 ghost use Rattle.jackson.specs.Counting.{better, smaller, larger};
 ghost use Rattle.jackson.specs.Windows.{columns, windowsIn};
 ghost use Rattle.jackson.specs.Intervals.{work, isOverloaded, leftOf, leftEnd, rightOf, rightEnd, overloadOf};
-ghost use Rattle.jackson.specs.Calls.{Tests};
+ghost use Rattle.jackson.specs.Testing.{Tests};
 
 // An entry's part in the work of [a, b).
 fn share(a: u16, b: u16, r: u16, d: u16, p: u16) -> u16

@@ -11,8 +11,9 @@ ghost use lib.ListN.{getD};
 ghost use Rattle.jackson.specs.Counting.{better, smaller};
 ghost use Rattle.jackson.specs.Windows.{windowsIn};
 ghost use Rattle.jackson.specs.Plans.{idle};
-ghost use Rattle.jackson.specs.Minutes.{isReady, earliestDeadline, chosen, stateOf, after, arrived};
-ghost use Rattle.jackson.specs.Calls.{Advances};
+ghost use Rattle.jackson.specs.Minutes.{isReady, earliestDeadline, chosen};
+ghost use Rattle.jackson.specs.Planning.{Advances};
+ghost use Rattle.jackson.specs.Steps.{arrived, Advanced};
 
 // An entry has its r reached and minutes left.
 fn is_ready(t: u16, r: u16, left: u16) -> bool
@@ -84,7 +85,7 @@ fn one_less(x: u16) -> u16
 // The day after place k, or none, had its minute.
 fn advanced(day: Day, k: u8) -> Day
     requires { ⌜ day .t < 65535 ⌝ }
-    ensures { λ next. ⌜ stateOf next ≡ after (stateOf day) k ⌝ }
+    ensures { λ next. ⌜ Advanced day k next ⌝ }
 {
     let mut windows = day.windows;
     let place = k as usize;

@@ -4,7 +4,8 @@ use list::types::DayList;
 ghost use mathlib.Core.Path.{_≡_};
 ghost use Prim.Native.Nat.{min};
 ghost use lib.ListN.{replicate};
-ghost use Rattle.jackson.specs.Windows.{windowsOf, windowsIn};
+ghost use Rattle.list.specs.DayLists.{emptyList};
+ghost use Rattle.jackson.specs.Testing.{Holds};
 
 // How many of n places the arrays have.
 pub(crate) fn places_held(n: u8) -> usize
@@ -19,9 +20,22 @@ fn zeros() -> [u16; 64]
     [0; 64]
 }
 
+// The windows of the empty list.
+pub(crate) fn no_windows() -> WindowSet
+    ensures { λ w. ⌜ Holds emptyList w ⌝ }
+{
+    WindowSet {
+        h: 0,
+        n: 0,
+        r: zeros(),
+        d: zeros(),
+        p: zeros(),
+    }
+}
+
 // The windows of a list value, which is not tested. Places from n on are 0.
 pub fn untested_windows(list: DayList) -> WindowSet
-    ensures { λ w. ⌜ windowsIn w ≡ windowsOf list ⌝ }
+    ensures { λ w. ⌜ Holds list w ⌝ }
 {
     let n = list.n;
     let count = places_held(n);

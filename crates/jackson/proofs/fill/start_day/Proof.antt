@@ -21,7 +21,7 @@ first-minute-requires : tie.Need-first-minute-requires
 first-minute-requires c κs = search needs
 
 returns : tie.Need-returns
-returns c = not-started (c .before .before .before .before .before .args .list) (c .before .before .before .before .check .result) (c .before .before .before .before .check .ensures) (c .first-minute .result) (c .before .no-windows .result) (c .first-minute .ensures) _ (c .before .before .enum-told2 .given .1) (c .before .no-windows .ensures)
+returns c = not-started (c .before .before .before .before .before .args .list) (c .before .before .before .before .check .result) (c .before .before .before .before .check .ensures) (c .before .no-windows .result) (c .first-minute .result) (c .first-minute .ensures) _ (c .before .before .enum-told2 .given .1) (c .before .no-windows .ensures)
 
 untested-windows-requires : tie.Need-untested-windows-requires
 untested-windows-requires c κs = search needs
@@ -30,7 +30,7 @@ first-minute-requires-2 : tie.Need-first-minute-requires-2
 first-minute-requires-2 c κs = search needs
 
 returns-2 : tie.Need-returns-2
-returns-2 c = started (c .before .before .before .before .before .args .list) (c .before .before .before .before .check .result) (c .before .before .before .before .check .ensures) (c .first-minute2 .result) (c .before .untested-windows .result) (c .first-minute2 .ensures) (c .before .before .enum-told .given .1) (c .before .untested-windows .ensures)
+returns-2 c = started (c .before .before .before .before .before .args .list) (c .before .before .before .before .check .result) (c .before .before .before .before .check .ensures) (c .before .untested-windows .result) (c .first-minute2 .result) (c .first-minute2 .ensures) (c .before .before .enum-told .given .1) (c .before .untested-windows .ensures)
 
 pub start-day-spec : {M : Type 1} → statement M
 start-day-spec =

@@ -1,19 +1,20 @@
--- What the public calls answer, and what they leave in a lent plan buffer.
+-- Planning the windows of a list as they are given: a day's minutes, starting a day, and filling a lent plan buffer.
 use Prim.Native.Nat.{ℕ}
 use mathlib.Core.Path.{_≡_}
 use mathlib.Core.List.{List, [], _∷_, _++_}
 use lib.ListN.{length, take, drop}
 use lib.Dec.{ltb}
-use Rattle.list.specs.Outcomes.{Code, code, Outcome, answered, refused, row, firstOf, andThen}
+use Rattle.list.specs.Outcomes.{Outcome, answered, refused, row, firstOf, andThen}
 use Rattle.list.specs.Refusals.{verdictOf}
 use Rattle.list.specs.Checks.{checkOf}
 use Rattle.list.specs.DayLists.{emptyList}
 use Rattle.list.specs.declared.types.DayList.{DayList}
 use Rattle.list.specs.declared.types.Verdict.{Verdict}
-use Rattle.jackson.specs.Windows.{Windows, windowsOf}
-use Rattle.jackson.specs.Plans.{Plan, PlanBytes}
-use Rattle.jackson.specs.Minutes.{State, stateOf, dayStart, schedule, minuteOf}
+use Rattle.jackson.specs.Windows.{windowsOf}
+use Rattle.jackson.specs.Plans.{PlanBytes}
 use Rattle.jackson.specs.Intervals.{overloadOf}
+use Rattle.jackson.specs.Minutes.{stateOf, dayStart, schedule, minuteOf}
+use Rattle.jackson.specs.Testing.{Decides}
 use Rattle.jackson.specs.declared.types.Day.{Day}
 use Rattle.jackson.specs.declared.types.Minute.{Minute}
 use Rattle.jackson.specs.declared.types.DayAnswer.{DayAnswer}
@@ -22,6 +23,7 @@ use Rattle.jackson.specs.declared.types.DayAnswer.{DayAnswer}
 pub record Advances (day : Day) (m : Minute) : Type 0 where
   pub place : m .place ≡ minuteOf (stateOf day) .place
   pub next : stateOf (m .day) ≡ minuteOf (stateOf day) .next
+  pub n : m .day .windows .n ≡ day .windows .n
 
 -- the list whose day stands in an answer: the one given, or the empty one beside a refusal
 abbrev pub listBeside : Outcome (Unit {0}) → DayList → DayList
@@ -32,12 +34,9 @@ listBeside (refused _) l = emptyList
 pub record Starts (l : DayList) (a : DayAnswer) : Type 0 where
   pub outcome : verdictOf (a .verdict) ≡ checkOf l
   pub beside : stateOf (a .day) ≡ dayStart (windowsOf (listBeside (checkOf l) l))
+  pub n : a .day .windows .n ≡ listBeside (checkOf l) l .n
 
--- the overload test of a list: the value check, then row 9
-unfoldable pub testOf : DayList → Outcome (Unit {0})
-testOf l = andThen (checkOf l) (λ _. overloadOf (windowsOf l))
-
--- planning the windows as they are given: the value check, then rows 11 and 9
+-- filling a plan buffer of the length given: the value check, then rows 11 and 9
 unfoldable pub fillOf : DayList → ℕ → Outcome (Unit {0})
 fillOf l room = andThen (checkOf l) (λ _. firstOf (row 11 (ltb room (l .frame .h)) (l .frame .h) ∷ []) (overloadOf (windowsOf l)))
 
@@ -45,16 +44,6 @@ fillOf l room = andThen (checkOf l) (λ _. firstOf (row 11 (ltb room (l .frame .
 abbrev pub planAfter : Outcome (Unit {0}) → DayList → List ℕ → List ℕ
 planAfter (answered _) l old = schedule (windowsOf l) ++ drop (l .frame .h) old
 planAfter (refused _) l old = old
-
--- "A plan exists exactly when no interval is overloaded": what an outcome that ends with row 9 says of plans
-pub record Decides (l : DayList) (o : Outcome (Unit {0})) : Type 0 where
-  pub plan : o ≡ answered tt → PlanBytes (windowsOf l) (schedule (windowsOf l))
-  pub no-plan : (xs : List ℕ) (m : ℕ → ℕ) → o ≡ refused (code 9 xs) → Plan (windowsOf l) m → ⊥
-
--- what the overload test answers
-pub record Tests (l : DayList) (v : Verdict) : Type 0 where
-  pub outcome : verdictOf v ≡ testOf l
-  pub decides : Decides l (verdictOf v)
 
 -- what filling a plan buffer that held old answers, and what the buffer holds then
 pub record Fills (l : DayList) (old : List ℕ) (v : Verdict) (new : List ℕ) : Type 0 where

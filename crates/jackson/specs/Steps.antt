@@ -1,0 +1,17 @@
+-- What private functions promise each other. No public promise cites these.
+use Prim.Native.Nat.{ℕ}
+use mathlib.Core.Path.{_≡_}
+use mathlib.Core.List.{List}
+use Rattle.jackson.specs.Windows.{columns}
+use Rattle.jackson.specs.Plans.{idle}
+use Rattle.jackson.specs.Minutes.{State, stateOf, after}
+use Rattle.jackson.specs.declared.types.Day.{Day}
+
+-- the state at minute t of n entries held in arrays, nobody having had the minute before
+abbrev pub arrived : ℕ → ℕ → List ℕ → List ℕ → List ℕ → State
+arrived n t r d left = record { windows = columns 0 n r d left; t = t; last = idle }
+
+-- the day after place k, or none, had its minute
+pub record Advanced (day : Day) (k : ℕ) (next : Day) : Type 0 where
+  pub state : stateOf next ≡ after (stateOf day) k
+  pub n : next .windows .n ≡ day .windows .n
