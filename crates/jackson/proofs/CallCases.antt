@@ -19,9 +19,8 @@ use Rattle.list.specs.declared.types.Verdict.the-variants.{Accepted, Refused}
 use Rattle.list.specs.declared.types.DayList.{DayList}
 use Rattle.jackson.specs.Counting.{listOf}
 use Rattle.jackson.specs.Windows.{windowsOf, windowsIn}
-use Rattle.jackson.specs.Minutes.{State, stateOf, dayStart, chosen, after, minuteOf, later, placeAt, schedule}
+use Rattle.jackson.specs.Minutes.{State, stateOf, dayStart, chosen, minuteOf, later, placeAt, schedule}
 use Rattle.jackson.specs.Intervals.{overloadOf}
-use Rattle.list.specs.Outcomes.{Outcome}
 use Rattle.jackson.specs.Plans.{PlanBytes}
 use Rattle.jackson.specs.Testing.{Holds, Tests, testOf}
 use Rattle.jackson.specs.Planning.{Advances, Starts, Fills, listBeside, fillOf, planAfter}

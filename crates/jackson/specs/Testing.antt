@@ -1,5 +1,4 @@
 -- The overload test of a list, and the windows of a list that is not tested.
-use Prim.Native.Nat.{ℕ}
 use mathlib.Core.Path.{_≡_}
 use Rattle.list.specs.Outcomes.{Code, Outcome, answered, refused, andThen}
 use Rattle.list.specs.Refusals.{verdictOf}
