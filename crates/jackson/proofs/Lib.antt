@@ -1,4 +1,5 @@
 pub mod Sums
+pub mod Listed
 pub mod Scans
 pub mod Searches
 pub mod PlanFacts
