@@ -8,7 +8,7 @@ use borrow.Author.Tests.{eqb-true, eq-eqb, lt-ltb, le-ltb}
 use lib.Dec.{eqb, leb, ltb}
 use Rattle.jackson.specs.Counting.{same}
 use Rattle.jackson.specs.Windows.{Windows, Roomy, Inside, withWindows}
-use Rattle.jackson.specs.Plans.{minutesOf, Plan, startOf, endOf}
+use Rattle.jackson.specs.Plans.{minutesOf, Plan, startOf, endOf, IsStart, IsEnd}
 use Rattle.jackson.specs.Mirrors.{mirror, mirrorPlan}
 use Rattle.jackson.proofs.Sums.{le-or-lt, same-cases, same-ne, between-is, sum-le, sum-cong, sum-zero, sum-reverse, count-between}
 use Rattle.jackson.proofs.Searches.{First, first-below, last-below, last-first, first-last, turn-back}
@@ -65,19 +65,6 @@ pub mirror-start : (h : ℕ) (m : ℕ → ℕ) (i : ℕ) → startOf h (mirrorPl
 mirror-start h m i = first-last h (λ t. eqb (m t) i)
 
 -- Starts and ends.
-
--- s is the first minute that m gives to place i
-pub record IsStart (h : ℕ) (m : ℕ → ℕ) (i s : ℕ) : Type 0 where
-  pub below : s < h
-  pub minute : m s ≡ i
-  pub none-before : (t : ℕ) → t < s → m t ≡ i → ⊥
-
--- e is the last minute that m gives to place i, plus 1
-pub record IsEnd (h : ℕ) (m : ℕ → ℕ) (i e : ℕ) : Type 0 where
-  pub after-one : 1 ≤ e
-  pub within : e ≤ h
-  pub minute : m (e - 1) ≡ i
-  pub none-after : (t : ℕ) → e ≤ t → t < h → m t ≡ i → ⊥
 
 module _ (h : ℕ) (m : ℕ → ℕ) (i : ℕ) where
   -- the minutes of a place, all of which lie in [a, b), are at most b - a
