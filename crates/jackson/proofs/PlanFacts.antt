@@ -2,15 +2,18 @@
 -- Assumes nothing.
 use mathlib.Core.Path.{_≡_, sym, ap, _∙_, fun-ext}
 use mathlib.Core.Bool.{cond, _&&_}
+use mathlib.Core.List.{List}
 use Prim.Native.Nat.{ℕ, suc, _+_, _-_, _<_, _≤_}
 use native.Mathlib.Omega.{arith}
 use borrow.Author.Tests.{eqb-true, eq-eqb, lt-ltb, le-ltb}
 use lib.Dec.{eqb, leb, ltb}
+use lib.ListN.{length}
 use Rattle.jackson.specs.Counting.{same}
 use Rattle.jackson.specs.Windows.{Windows, Roomy, Inside, withWindows}
-use Rattle.jackson.specs.Plans.{minutesOf, Plan, startOf, endOf, IsStart, IsEnd}
-use Rattle.jackson.specs.Mirrors.{mirror, mirrorPlan}
+use Rattle.jackson.specs.Plans.{minutesOf, Plan, startOf, endOf, IsStart, IsEnd, idle, placesIn, PlanBytes}
+use Rattle.jackson.specs.Mirrors.{mirror, mirrorPlan, mirrorBytes}
 use Rattle.jackson.proofs.Sums.{le-or-lt, same-cases, same-ne, between-is, sum-le, sum-cong, sum-zero, sum-reverse, count-between}
+use Rattle.jackson.proofs.Listed.{list-length, list-at, list-is}
 use Rattle.jackson.proofs.Searches.{First, first-below, last-below, last-first, first-last, turn-back}
 
 -- Mirrors.
@@ -158,3 +161,23 @@ module _ (w : Windows) (m : ℕ → ℕ) (plan : Plan w m) (i : ℕ) (place : i 
 
   pub start-end : startOf (w .h) m i + w .p i ≤ endOf (w .h) m i
   start-end = omega (arith, plan .exact i place, minutes-within (w .h) m i _ _ minute-between)
+
+-- Bytes of plans.
+
+-- the mirror of a plan's bytes has the places of its mirror
+mirror-at : (h : ℕ) (bs : List ℕ) (t : ℕ) → t < h → placesIn (mirrorBytes h bs) t ≡ mirrorPlan h (placesIn bs) t
+mirror-at h bs = list-at h (mirrorPlan h (placesIn bs)) idle
+
+-- so it is a plan's bytes for the mirrored windows
+pub mirror-bytes : (w : Windows) (bs : List ℕ) → PlanBytes w bs → PlanBytes (mirror w) (mirrorBytes (w .h) bs)
+mirror-bytes w bs bytes =
+    record {
+      long = list-length (w .h) _;
+      places = λ t below. rw (mirror-at (w .h) bs t below) (bytes .places (w .h - suc t) (omega arith));
+      plan = plan-same (mirror w) _ _ (mirror-at (w .h) bs) (mirror-plan w (placesIn bs) (bytes .plan));
+    }
+
+-- and its own mirror is those bytes
+pub mirror-bytes-twice : (h : ℕ) (bs : List ℕ) → length bs ≡ h → mirrorBytes h (mirrorBytes h bs) ≡ bs
+mirror-bytes-twice h bs long =
+    list-is h _ idle bs long (λ t below. mirror-at h bs (h - suc t) (omega arith) ∙ mirror-twice h (placesIn bs) t below)
