@@ -1,4 +1,4 @@
--- Facts about plans alone: their mirrors, their starts and ends, wider windows, and the room that a plan needs.
+-- Facts about plans alone: their mirrors, their starts and ends, other windows, and the room that a plan needs.
 -- Assumes nothing.
 use mathlib.Core.Path.{_≡_, sym, ap, _∙_, fun-ext}
 use mathlib.Core.Bool.{cond, _&&_}
@@ -12,7 +12,8 @@ use Rattle.jackson.specs.Counting.{same}
 use Rattle.jackson.specs.Windows.{Windows, Roomy, Inside, withWindows}
 use Rattle.jackson.specs.Plans.{minutesOf, Plan, startOf, endOf, IsStart, IsEnd, idle, placesIn, PlanBytes}
 use Rattle.jackson.specs.Mirrors.{mirror, mirrorPlan, mirrorBytes}
-use Rattle.jackson.proofs.Sums.{le-or-lt, same-cases, same-ne, between-is, sum-le, sum-lt, sum-cong, sum-zero, sum-reverse, count-between}
+use Rattle.jackson.proofs.Sums.{le-or-lt, same-cases, same-ne, between-is}
+use Rattle.jackson.proofs.Sums.{sum-le, sum-lt, sum-cong, sum-zero, sum-reverse, count-between}
 use Rattle.jackson.proofs.Listed.{list-length, list-at, list-is}
 use Rattle.jackson.proofs.Searches.{First, first-below, last-below, last-first, first-last, turn-back}
 
@@ -27,7 +28,10 @@ pub mirror-plan : (w : Windows) (m : ℕ → ℕ) → Plan w m → Plan (mirror 
 mirror-plan w m plan =
     record {
       exact = λ i place. mirror-minutes (w .h) m i ∙ plan .exact i place;
-      inside = λ i t place below e. let z = plan .inside i (w .h - suc t) place (omega arith) e in rw (lt-ltb i (w .n) place) (omega arith, omega arith);
+      inside =
+          λ i t place below e.
+          let z = plan .inside i (w .h - suc t) place (omega arith) e in
+          rw (lt-ltb i (w .n) place) (omega arith, omega arith);
     }
 
 -- windows inside the day are the mirror of their mirror
@@ -45,7 +49,8 @@ mirror-mirror w release deadline =
     back : (x z : ℕ) → x ≤ z → z - (z - x) ≡ x
     back x z h = omega arith
 
-    twice : (i x y : ℕ) → (i < w .n → x ≤ w .h) → cond (ltb i (w .n)) (w .h - cond (ltb i (w .n)) (w .h - x) y) (cond (ltb i (w .n)) (w .h - y) x) ≡ x
+    twice : (i x y : ℕ) → (i < w .n → x ≤ w .h)
+        → cond (ltb i (w .n)) (w .h - cond (ltb i (w .n)) (w .h - x) y) (cond (ltb i (w .n)) (w .h - y) x) ≡ x
     twice i x y h = le-or-lt (w .n) i (λ l. rw (le-ltb i (w .n) l)) (λ l. rw (lt-ltb i (w .n) l) (back x (w .h) (h l)))
 
 -- and so is a plan, in the day's minutes
@@ -70,7 +75,7 @@ mirror-start h m i = first-last h (λ t. eqb (m t) i)
 -- Starts and ends.
 
 module _ (h : ℕ) (m : ℕ → ℕ) (i : ℕ) where
-  -- the minutes of a place, all of which lie in [a, b)
+  -- minutes of a place, all of which lie in [a, b)
   module _ (a b : ℕ) (within : (t : ℕ) → t < h → m t ≡ i → (a ≤ t) × (t < b)) where
     counted : (t : ℕ) → t < h → same (m t) i ≤ cond (leb a t && ltb t b) 1 0
     counted t below =
@@ -78,11 +83,11 @@ module _ (h : ℕ) (m : ℕ → ℕ) (i : ℕ) where
         (λ e is. let z = within t below e in omega (arith, between-is a b t (suc t) 1 (z .0) (z .1)))
         (λ _ is. omega arith)
 
-    -- are at most b - a
+    -- they are at most b - a
     pub minutes-within : minutesOf h m i ≤ b - a
     minutes-within = omega (arith, sum-le h _ _ counted, count-between h a b)
 
-    -- and if they are so many, they are all of [a, b)
+    -- if they are so many, they are all of [a, b)
     pub minutes-fill : b ≤ h → b - a ≤ minutesOf h m i → (t : ℕ) → a ≤ t → t < b → m t ≡ i
     minutes-fill in-day many t l r =
         same-cases (m t) i

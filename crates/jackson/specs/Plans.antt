@@ -26,14 +26,14 @@ abbrev pub startOf : ℕ → (ℕ → ℕ) → ℕ → ℕ
 startOf h m i = firstBelow h (λ t. eqb (m t) i)
 
 -- What they find, most plainly: "Its end is its last minute plus 1, its start its first minute."
--- e is the last of the h minutes that m gives to place i, plus 1
+-- e is the last minute below h that m gives to place i, plus 1
 pub record IsEnd (h : ℕ) (m : ℕ → ℕ) (i e : ℕ) : Type 0 where
   pub after-one : 1 ≤ e
   pub within : e ≤ h
   pub minute : m (e - 1) ≡ i
   pub none-after : (t : ℕ) → e ≤ t → t < h → m t ≡ i → ⊥
 
--- s is the first of them
+-- s is the first minute below h that m gives to place i
 pub record IsStart (h : ℕ) (m : ℕ → ℕ) (i s : ℕ) : Type 0 where
   pub below : s < h
   pub minute : m s ≡ i
