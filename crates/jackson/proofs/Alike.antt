@@ -1,77 +1,89 @@
--- Lists that are planned alike: those equal by document 01's rule, and those that differ in serials, seals and kinds alone.
+-- Lists that are planned alike: those that differ in serials, seals and kinds alone, and so those equal by document 01's rule.
 -- Assumes nothing.
-use mathlib.Core.Path.{_≡_, refl, sym, ap, _∙_, fun-ext}
-use mathlib.Core.List.{List, [], _∷_, _++_}
-use Prim.Native.Nat.{ℕ, _<_}
-use native.Mathlib.Omega.{arith}
+use mathlib.Core.Path.{_≡_, refl, sym, ap, _∙_}
+use mathlib.Core.List.{List, [], _∷_, _++_, map}
+use Prim.Native.Nat.{ℕ, _+_}
 use lib.Dec.{ltb}
-use lib.ListN.{length, getD, drop}
+use lib.ListN.{length, getD, drop, length-map, List·getD-map}
 use Rattle.list.specs.Outcomes.{Outcome, answered, refused, row, firstOf, andThen}
+use Rattle.list.specs.Entries.{entryFault}
 use Rattle.list.specs.Checks.{headerFault, entriesFault, checkOf}
 use Rattle.list.specs.DayLists.{entriesOf, blank, SameList}
 use Rattle.list.specs.declared.types.Entry.{Entry}
+use Rattle.list.specs.declared.types.Frame.{Frame}
 use Rattle.list.specs.declared.types.DayList.{DayList}
-use Rattle.jackson.specs.Windows.{windowsOf, SameNumbers}
-use Rattle.jackson.specs.Minutes.{schedule}
+use Rattle.jackson.specs.Windows.{windowsOf, plain, SameNumbers}
+use Rattle.jackson.specs.Minutes.{dayStart, schedule}
 use Rattle.jackson.specs.Intervals.{overloadOf}
 use Rattle.jackson.specs.Testing.{testOf}
-use Rattle.jackson.specs.Planning.{fillOf, planAfter}
-use Rattle.jackson.proofs.Sums.{le-or-lt}
-use Rattle.jackson.proofs.ListLaws.{past-end}
+use Rattle.jackson.specs.Planning.{listBeside, fillOf, planAfter}
 
-module _ {a b : DayList} (s : SameList a b) where
-  -- lists that are equal have the same windows
-  pub same-windows : windowsOf a ≡ windowsOf b
-  same-windows =
-      λ j.
-      record {
-        h = s .frame j .h;
-        n = length (s .entries j);
-        r = λ i. getD (s .entries j) i blank .r;
-        d = λ i. getD (s .entries j) i blank .d;
-        p = λ i. getD (s .entries j) i blank .p;
-      }
+-- the value check reads numbers only
+plain-checked : (f : Frame) (i : ℕ) (es : List Entry) → entriesFault f i es ≡ entriesFault f i (map plain es)
+unfolding entriesFault entryFault
+plain-checked f i [] = refl
+plain-checked f i (e ∷ es) = ap (λ (o : Outcome (Unit {0})). andThen (entryFault f i e) (λ _. o)) (plain-checked f (i + 1) es)
 
-  same-check : checkOf a ≡ checkOf b
-  unfolding checkOf
-  same-check = λ j. andThen (headerFault 0 (s .frame j) (s .n j)) (λ _. entriesFault (s .frame j) 0 (s .entries j))
-
-  -- so the calls answer the same, and leave the same in a plan buffer
-  pub same-test : testOf a ≡ testOf b
-  unfolding testOf
-  same-test = λ j. andThen (same-check j) (λ _. overloadOf (same-windows j))
-
-  pub same-scheduled : (room : ℕ) → fillOf a room ≡ fillOf b room
-  unfolding fillOf
-  same-scheduled room =
-      λ j.
-      andThen (same-check j)
-      (λ _. firstOf (row 11 (ltb room (s .frame j .h)) (s .frame j .h) ∷ []) (overloadOf (same-windows j)))
-
-  same-after : (o : Outcome (Unit {0})) (old : List ℕ) → planAfter o a old ≡ planAfter o b old
-  same-after (answered t) old = λ j. schedule (same-windows j) ++ drop (s .frame j .h) old
-  same-after (refused k) old = refl
-
-  pub same-plan : (room : ℕ) (old : List ℕ) → planAfter (fillOf a room) a old ≡ planAfter (fillOf b room) b old
-  same-plan room old = rw (same-scheduled room) (same-after (fillOf b room) old)
+-- lists that are equal have the same numbers
+pub same-alike : {a b : DayList} → SameList a b → SameNumbers a b
+same-alike s = record { frame = s .frame; n = s .n; entries = ap (map plain) (s .entries) }
 
 module _ {a b : DayList} (s : SameNumbers a b) where
-  -- one number of each entry, and of the blank ones past the end
-  throughout : (f : Entry → ℕ)
-      → ((i : ℕ) → i < length (entriesOf a) → f (getD (entriesOf a) i blank) ≡ f (getD (entriesOf b) i blank))
-      → (i : ℕ) → f (getD (entriesOf a) i blank) ≡ f (getD (entriesOf b) i blank)
-  throughout f below i =
-      le-or-lt (length (entriesOf a)) i
-      (λ h. ap f (past-end a i h ∙ sym (past-end b i (omega (arith, s .n)))))
-      (below i)
-
-  pub numbers-windows : windowsOf a ≡ windowsOf b
-  numbers-windows =
+  -- lists of the same numbers have the same windows
+  pub alike-windows : windowsOf a ≡ windowsOf b
+  alike-windows =
       λ j.
       record {
         h = s .frame j .h;
-        n = s .n j;
-        r = fun-ext (throughout (λ e. e .r) (s .r)) j;
-        d = fun-ext (throughout (λ e. e .d) (s .d)) j;
-        p = fun-ext (throughout (λ e. e .p) (s .p)) j;
+        n = count j;
+        r = λ i. numbers i j .r;
+        d = λ i. numbers i j .d;
+        p = λ i. numbers i j .p;
       }
+    where
+      count : length (entriesOf a) ≡ length (entriesOf b)
+      count = sym (length-map (entriesOf a) plain) ∙ ap length (s .entries) ∙ length-map (entriesOf b) plain
+
+      numbers : (i : ℕ) → plain (getD (entriesOf a) i blank) ≡ plain (getD (entriesOf b) i blank)
+      numbers i =
+          sym (List·getD-map plain (entriesOf a) i blank)
+          ∙ ap (λ (es : List Entry). getD es i blank) (s .entries)
+          ∙ List·getD-map plain (entriesOf b) i blank
+
+  -- they are checked alike
+  pub alike-checked : checkOf a ≡ checkOf b
+  unfolding checkOf
+  alike-checked = λ j. andThen (headerFault 0 (s .frame j) (s .n j)) (λ _. faults j)
+    where
+      faults : entriesFault (a .frame) 0 (entriesOf a) ≡ entriesFault (b .frame) 0 (entriesOf b)
+      faults =
+          plain-checked (a .frame) 0 (entriesOf a)
+          ∙ (λ j. entriesFault (s .frame j) 0 (s .entries j))
+          ∙ sym (plain-checked (b .frame) 0 (entriesOf b))
+
+  -- so the calls answer the same, and leave the same in a plan buffer
+  pub alike-tested : testOf a ≡ testOf b
+  unfolding testOf
+  alike-tested = λ j. andThen (alike-checked j) (λ _. overloadOf (alike-windows j))
+
+  pub alike-filled : (room : ℕ) → fillOf a room ≡ fillOf b room
+  unfolding fillOf
+  alike-filled room =
+      λ j.
+      andThen (alike-checked j)
+      (λ _. firstOf (row 11 (ltb room (s .frame j .h)) (s .frame j .h) ∷ []) (overloadOf (alike-windows j)))
+
+  pub alike-plan : (room : ℕ) (old : List ℕ) → planAfter (fillOf a room) a old ≡ planAfter (fillOf b room) b old
+  alike-plan room old = rw (alike-filled room) (go (fillOf b room))
+    where
+      go : (o : Outcome (Unit {0})) → planAfter o a old ≡ planAfter o b old
+      go (answered t) = λ j. schedule (alike-windows j) ++ drop (s .frame j .h) old
+      go (refused k) = refl
+
+  -- and they start the same day
+  pub alike-started : dayStart (windowsOf (listBeside (checkOf a) a)) ≡ dayStart (windowsOf (listBeside (checkOf b) b))
+  alike-started = rw alike-checked (ap dayStart (go (checkOf b)))
+    where
+      go : (o : Outcome (Unit {0})) → windowsOf (listBeside o a) ≡ windowsOf (listBeside o b)
+      go (answered t) = alike-windows
+      go (refused k) = refl

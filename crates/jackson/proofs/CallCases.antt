@@ -28,7 +28,8 @@ use Rattle.jackson.specs.Steps.{Advanced}
 use Rattle.jackson.specs.declared.types.WindowSet.{WindowSet}
 use Rattle.jackson.specs.declared.types.Day.{Day}
 use Rattle.jackson.specs.declared.types.DayAnswer.{DayAnswer}
-use Rattle.jackson.proofs.Schedules.{minute-on, minute-over, list-length}
+use Rattle.jackson.proofs.Listed.{list-length}
+use Rattle.jackson.proofs.Schedules.{minute-on, minute-over}
 use Rattle.jackson.proofs.ListLaws.{test-decides, fill-decides, fill-plans}
 
 -- a minute of a day past its end, and of one that goes on

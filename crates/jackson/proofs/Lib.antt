@@ -1,7 +1,12 @@
+-- General mathematics: sums and counts, lists of values, scans for a best place, searches for the first and the last.
 pub mod Sums
+pub mod Listed
 pub mod Scans
 pub mod Searches
+-- Facts about plans alone: the mirror, other windows, room, starts and ends.
 pub mod PlanFacts
+-- The law that a plan exists exactly without overload, from its steps to its form for lists; the crates above cite Law and ListLaws,
+-- and Runs and Schedules for days that are running.
 pub mod Counted
 pub mod PlanWork
 pub mod OneMinute
@@ -13,6 +18,7 @@ pub mod Schedules
 pub mod Law
 pub mod ListLaws
 pub mod Alike
+-- What the code's proofs cite, case by case.
 mod ScanSteps
 mod MinuteCases
 mod IntervalCases

@@ -33,7 +33,7 @@ every-at P (e ∷ es) all zero h = all .0
 every-at P (e ∷ es) all (suc i) h = every-at P es (all .1) i (omega arith)
 
 -- past the entries that count all is blank
-pub past-end : (l : DayList) (i : ℕ) → length (entriesOf l) ≤ i → getD (entriesOf l) i blank ≡ blank
+past-end : (l : DayList) (i : ℕ) → length (entriesOf l) ≤ i → getD (entriesOf l) i blank ≡ blank
 past-end l i h = List·getD-eq-default (entriesOf l) blank h
 
 module _ (l : DayList) (formed : WellFormed l) where

@@ -1,16 +1,20 @@
--- Facts about plans alone: their mirrors, their starts and ends, wider windows, and the room that a plan needs.
+-- Facts about plans alone: their mirrors, their starts and ends, other windows, and the room that a plan needs.
 -- Assumes nothing.
 use mathlib.Core.Path.{_≡_, sym, ap, _∙_, fun-ext}
 use mathlib.Core.Bool.{cond, _&&_}
+use mathlib.Core.List.{List}
 use Prim.Native.Nat.{ℕ, suc, _+_, _-_, _<_, _≤_}
 use native.Mathlib.Omega.{arith}
 use borrow.Author.Tests.{eqb-true, eq-eqb, lt-ltb, le-ltb}
 use lib.Dec.{eqb, leb, ltb}
+use lib.ListN.{length}
 use Rattle.jackson.specs.Counting.{same}
 use Rattle.jackson.specs.Windows.{Windows, Roomy, Inside, withWindows}
-use Rattle.jackson.specs.Plans.{minutesOf, Plan, startOf, endOf}
-use Rattle.jackson.specs.Mirrors.{mirror, mirrorPlan}
-use Rattle.jackson.proofs.Sums.{le-or-lt, same-cases, same-ne, between-is, sum-le, sum-cong, sum-zero, sum-reverse, count-between}
+use Rattle.jackson.specs.Plans.{minutesOf, Plan, startOf, endOf, IsStart, IsEnd, idle, placesIn, PlanBytes}
+use Rattle.jackson.specs.Mirrors.{mirror, mirrorPlan, mirrorBytes}
+use Rattle.jackson.proofs.Sums.{le-or-lt, same-cases, same-ne, between-is}
+use Rattle.jackson.proofs.Sums.{sum-le, sum-lt, sum-cong, sum-zero, sum-reverse, count-between}
+use Rattle.jackson.proofs.Listed.{list-length, list-at, list-is}
 use Rattle.jackson.proofs.Searches.{First, first-below, last-below, last-first, first-last, turn-back}
 
 -- Mirrors.
@@ -24,7 +28,10 @@ pub mirror-plan : (w : Windows) (m : ℕ → ℕ) → Plan w m → Plan (mirror 
 mirror-plan w m plan =
     record {
       exact = λ i place. mirror-minutes (w .h) m i ∙ plan .exact i place;
-      inside = λ i t place below e. let z = plan .inside i (w .h - suc t) place (omega arith) e in rw (lt-ltb i (w .n) place) (omega arith, omega arith);
+      inside =
+          λ i t place below e.
+          let z = plan .inside i (w .h - suc t) place (omega arith) e in
+          rw (lt-ltb i (w .n) place) (omega arith, omega arith);
     }
 
 -- windows inside the day are the mirror of their mirror
@@ -42,7 +49,8 @@ mirror-mirror w release deadline =
     back : (x z : ℕ) → x ≤ z → z - (z - x) ≡ x
     back x z h = omega arith
 
-    twice : (i x y : ℕ) → (i < w .n → x ≤ w .h) → cond (ltb i (w .n)) (w .h - cond (ltb i (w .n)) (w .h - x) y) (cond (ltb i (w .n)) (w .h - y) x) ≡ x
+    twice : (i x y : ℕ) → (i < w .n → x ≤ w .h)
+        → cond (ltb i (w .n)) (w .h - cond (ltb i (w .n)) (w .h - x) y) (cond (ltb i (w .n)) (w .h - y) x) ≡ x
     twice i x y h = le-or-lt (w .n) i (λ l. rw (le-ltb i (w .n) l)) (λ l. rw (lt-ltb i (w .n) l) (back x (w .h) (h l)))
 
 -- and so is a plan, in the day's minutes
@@ -66,29 +74,27 @@ mirror-start h m i = first-last h (λ t. eqb (m t) i)
 
 -- Starts and ends.
 
--- s is the first minute that m gives to place i
-pub record IsStart (h : ℕ) (m : ℕ → ℕ) (i s : ℕ) : Type 0 where
-  pub below : s < h
-  pub minute : m s ≡ i
-  pub none-before : (t : ℕ) → t < s → m t ≡ i → ⊥
-
--- e is the last minute that m gives to place i, plus 1
-pub record IsEnd (h : ℕ) (m : ℕ → ℕ) (i e : ℕ) : Type 0 where
-  pub after-one : 1 ≤ e
-  pub within : e ≤ h
-  pub minute : m (e - 1) ≡ i
-  pub none-after : (t : ℕ) → e ≤ t → t < h → m t ≡ i → ⊥
-
 module _ (h : ℕ) (m : ℕ → ℕ) (i : ℕ) where
-  -- the minutes of a place, all of which lie in [a, b), are at most b - a
-  pub minutes-within : (a b : ℕ) → ((t : ℕ) → t < h → m t ≡ i → (a ≤ t) × (t < b)) → minutesOf h m i ≤ b - a
-  minutes-within a b within = omega (arith, sum-le h _ _ each, count-between h a b)
-    where
-      each : (t : ℕ) → t < h → same (m t) i ≤ cond (leb a t && ltb t b) 1 0
-      each t below =
-          same-cases (m t) i
-          (λ e is. let z = within t below e in omega (arith, between-is a b t (suc t) 1 (z .0) (z .1)))
-          (λ _ is. omega arith)
+  -- minutes of a place, all of which lie in [a, b)
+  module _ (a b : ℕ) (within : (t : ℕ) → t < h → m t ≡ i → (a ≤ t) × (t < b)) where
+    counted : (t : ℕ) → t < h → same (m t) i ≤ cond (leb a t && ltb t b) 1 0
+    counted t below =
+        same-cases (m t) i
+        (λ e is. let z = within t below e in omega (arith, between-is a b t (suc t) 1 (z .0) (z .1)))
+        (λ _ is. omega arith)
+
+    -- they are at most b - a
+    pub minutes-within : minutesOf h m i ≤ b - a
+    minutes-within = omega (arith, sum-le h _ _ counted, count-between h a b)
+
+    -- if they are so many, they are all of [a, b)
+    pub minutes-fill : b ≤ h → b - a ≤ minutesOf h m i → (t : ℕ) → a ≤ t → t < b → m t ≡ i
+    minutes-fill in-day many t l r =
+        same-cases (m t) i
+        (λ e _. e)
+        (λ _ none.
+        let less : same (m t) i < cond (leb a t && ltb t b) 1 0 = omega (arith, between-is a b t (suc t) 1 l r) in
+        absurd (omega (arith, sum-lt h _ _ counted t (omega arith) less, count-between h a b)))
 
   -- a place with minutes has a start
   pub start-is : 1 ≤ minutesOf h m i → IsStart h m i (startOf h m i)
@@ -119,6 +125,11 @@ end-is h m i some =
       none-after = λ t l b q. s .none-before (h - suc t) (omega arith) (mirror-twice h m t b ∙ q);
     }
 
+-- all minutes of a place lie from its start to its end
+pub start-to-end : (h : ℕ) (m : ℕ → ℕ) (i s e : ℕ) → IsStart h m i s → IsEnd h m i e → (t : ℕ) → t < h → m t ≡ i → (s ≤ t) × (t < e)
+start-to-end h m i s e start end t below q =
+    (le-or-lt s t (λ l. l) (λ l. absurd (start .none-before t l q)), le-or-lt e t (λ l. absurd (end .none-after t l below q)) (λ l. l))
+
 -- Plans.
 
 -- what agrees with a plan in the day's minutes is one
@@ -129,45 +140,68 @@ plan-same w m x agrees plan =
       inside = λ i t place below e. plan .inside i t place below (sym (agrees t below) ∙ e);
     }
 
+-- a plan whose minutes lie in other windows is a plan in those
+pub pin : (w : Windows) (r d m : ℕ → ℕ) → Plan w m
+    → ((i t : ℕ) → i < w .n → t < w .h → m t ≡ i → (r i ≤ t) × (t < d i)) → Plan (withWindows w r d) m
+pin w r d m plan inside = record { exact = plan .exact; inside = inside }
+
 -- a plan for windows is one for those that they lie inside
-pub widen : (w : Windows) (r d : ℕ → ℕ) (m : ℕ → ℕ) → Inside (withWindows w r d) w → Plan (withWindows w r d) m → Plan w m
+pub widen : (w : Windows) (r d m : ℕ → ℕ) → Inside (withWindows w r d) w → Plan (withWindows w r d) m → Plan w m
 widen w r d m narrow plan =
+    pin (withWindows w r d) (w .r) (w .d) m plan
+    (λ i t place below e.
+    let z = plan .inside i t place below e in
+    (omega (arith, narrow .r i place), omega (arith, narrow .d i place)))
+
+module _ (w : Windows) (m : ℕ → ℕ) (plan : Plan w m) (i : ℕ) (place : i < w .n) where
+  -- p minutes in a window of p minutes are all of it
+  pub filled : w .r i + w .p i ≡ w .d i → w .d i ≤ w .h → (t : ℕ) → w .r i ≤ t → t < w .d i → m t ≡ i
+  filled full in-day =
+      minutes-fill (w .h) m i (w .r i) (w .d i) (λ t. plan .inside i t place) in-day (omega (arith, plan .exact i place))
+
+  -- an entry whose start plus p is its end has its minutes one after another
+  pub consecutive : (s e : ℕ) → IsStart (w .h) m i s → IsEnd (w .h) m i e → s + w .p i ≡ e → (t : ℕ) → s ≤ t → t < e → m t ≡ i
+  consecutive s e start end full =
+      minutes-fill (w .h) m i s e (start-to-end (w .h) m i s e start end) (end .within) (omega (arith, plan .exact i place))
+
+  module _ (some : 1 ≤ w .p i) where
+    -- a window in a plan has room for its entry's minutes
+    pub plan-room : w .r i + w .p i ≤ w .d i
+    plan-room = omega (arith, plan .exact i place, minutes-within (w .h) m i (w .r i) (w .d i) (λ t. plan .inside i t place))
+
+    -- an entry's start and end in a plan
+    pub plan-start : IsStart (w .h) m i (startOf (w .h) m i)
+    plan-start = start-is (w .h) m i (omega (arith, plan .exact i place))
+
+    pub plan-end : IsEnd (w .h) m i (endOf (w .h) m i)
+    plan-end = end-is (w .h) m i (omega (arith, plan .exact i place))
+
+    -- they lie in the window
+    pub start-released : w .r i ≤ startOf (w .h) m i
+    start-released = plan .inside i (startOf (w .h) m i) place (plan-start .below) (plan-start .minute) .0
+
+    pub end-due : endOf (w .h) m i ≤ w .d i
+    end-due =
+        let one = plan-end .after-one in
+        let below : endOf (w .h) m i - 1 < w .h = omega (arith, plan-end .within) in
+        omega (arith, plan .inside i (endOf (w .h) m i - 1) place below (plan-end .minute) .1)
+
+-- Bytes of plans.
+
+-- the mirror of a plan's bytes has the places of its mirror
+mirror-at : (h : ℕ) (bs : List ℕ) (t : ℕ) → t < h → placesIn (mirrorBytes h bs) t ≡ mirrorPlan h (placesIn bs) t
+mirror-at h bs = list-at h (mirrorPlan h (placesIn bs)) idle
+
+-- so it is a plan's bytes for the mirrored windows
+pub mirror-bytes : (w : Windows) (bs : List ℕ) → PlanBytes w bs → PlanBytes (mirror w) (mirrorBytes (w .h) bs)
+mirror-bytes w bs bytes =
     record {
-      exact = plan .exact;
-      inside =
-          λ i t place below e.
-          let z = plan .inside i t place below e in
-          (omega (arith, narrow .r i place), omega (arith, narrow .d i place));
+      long = list-length (w .h) _;
+      places = λ t below. rw (mirror-at (w .h) bs t below) (bytes .places (w .h - suc t) (omega arith));
+      plan = plan-same (mirror w) _ _ (mirror-at (w .h) bs) (mirror-plan w (placesIn bs) (bytes .plan));
     }
 
-module _ (w : Windows) (m : ℕ → ℕ) (plan : Plan w m) (i : ℕ) (place : i < w .n) (some : 1 ≤ w .p i) where
-  -- a window in a plan has room for its entry's minutes
-  pub plan-room : w .r i + w .p i ≤ w .d i
-  plan-room = omega (arith, plan .exact i place, minutes-within (w .h) m i (w .r i) (w .d i) (λ t. plan .inside i t place))
-
-  -- an entry's start and end in a plan
-  pub plan-start : IsStart (w .h) m i (startOf (w .h) m i)
-  plan-start = start-is (w .h) m i (omega (arith, plan .exact i place))
-
-  pub plan-end : IsEnd (w .h) m i (endOf (w .h) m i)
-  plan-end = end-is (w .h) m i (omega (arith, plan .exact i place))
-
-  -- they lie in the window
-  pub start-released : w .r i ≤ startOf (w .h) m i
-  start-released = plan .inside i (startOf (w .h) m i) place (plan-start .below) (plan-start .minute) .0
-
-  pub end-due : endOf (w .h) m i ≤ w .d i
-  end-due =
-      let one = plan-end .after-one in
-      let below : endOf (w .h) m i - 1 < w .h = omega (arith, plan-end .within) in
-      omega (arith, plan .inside i (endOf (w .h) m i - 1) place below (plan-end .minute) .1)
-
-  -- the minutes lie between them
-  pub minute-between : (t : ℕ) → t < w .h → m t ≡ i → (startOf (w .h) m i ≤ t) × (t < endOf (w .h) m i)
-  minute-between t below e =
-      let early : t < startOf (w .h) m i → ⊥ = λ l. plan-start .none-before t l e in
-      let late : endOf (w .h) m i ≤ t → ⊥ = λ l. plan-end .none-after t l below e in
-      (omega arith, omega arith)
-
-  pub start-end : startOf (w .h) m i + w .p i ≤ endOf (w .h) m i
-  start-end = omega (arith, plan .exact i place, minutes-within (w .h) m i _ _ minute-between)
+-- and its own mirror is those bytes
+pub mirror-bytes-twice : (h : ℕ) (bs : List ℕ) → length bs ≡ h → mirrorBytes h (mirrorBytes h bs) ≡ bs
+mirror-bytes-twice h bs long =
+    list-is h _ idle bs long (λ t below. mirror-at h bs (h - suc t) (omega arith) ∙ mirror-twice h (placesIn bs) t below)

@@ -4,38 +4,21 @@
 use mathlib.Core.Path.{_≡_, refl, ap, _∙_}
 use mathlib.Core.Bool.{cond}
 use mathlib.Core.Logic.{_⊎_, inl, inr}
-use mathlib.Core.List.{[]}
 use Prim.Native.Nat.{ℕ, zero, suc, _+_, _-_, _<_, _≤_}
 use native.Mathlib.Omega.{arith}
 use borrow.Author.Tests.{lt-ltb, le-ltb}
 use lib.Dec.{ltb}
-use lib.ListN.{length, getD, length-append, List·getD-append}
-use lib.Seq.{getD-append-seam}
 use Rattle.jackson.specs.Counting.{same, listOf}
 use Rattle.jackson.specs.Windows.{Windows, withLeft, restFrom}
 use Rattle.jackson.specs.Plans.{Plan, PlanBytes, idle, placesIn}
 use Rattle.jackson.specs.Minutes.{State, dayStart, chosen, after, minuteOf, later, placeAt, schedule}
 use Rattle.jackson.specs.Rules.{LeastDeadline, Takes, Follows}
 use Rattle.jackson.specs.Intervals.{Fits}
-use Rattle.jackson.proofs.Sums.{le-or-lt, below-suc}
+use Rattle.jackson.proofs.Sums.{le-or-lt}
+use Rattle.jackson.proofs.Listed.{list-length, list-at}
 use Rattle.jackson.proofs.PlanFacts.{plan-same}
 use Rattle.jackson.proofs.Choices.{chosen-takes}
 use Rattle.jackson.proofs.Runs.{rest-of-day, run-plan}
-
--- Lists of values.
-
-pub list-length : (n : ℕ) (f : ℕ → ℕ) → length (listOf n f) ≡ n
-unfolding listOf
-list-length zero f = refl
-list-length (suc n) f = simp length-append (omega (arith, list-length n f))
-
-pub list-at : (n : ℕ) (f : ℕ → ℕ) (z t : ℕ) → t < n → getD (listOf n f) t z ≡ f t
-unfolding listOf
-list-at zero f z = λ t h. absurd (omega arith)
-list-at (suc n) f z =
-    below-suc n (λ t. getD (listOf (suc n) f) t z ≡ f t)
-    (λ t h. List·getD-append (listOf n f) _ z t (omega (arith, list-length n f)) ∙ list-at n f z t h)
-    (rw (list-length n f) at (getD-append-seam (listOf n f) (f n) [] z))
 
 -- One minute.
 
@@ -65,6 +48,19 @@ module _ (s : State) where
     minute-takes few = rw (minute-on s on) (chosen-takes s few)
 
 -- Minutes after one another.
+
+module _ (s : State) (j : ℕ) where
+  -- k minutes later than j minutes later is j + k minutes later
+  pub later-later : (k : ℕ) → later k (later j s) ≡ later (j + k) s
+  unfolding later
+  later-later zero = let z : j + 0 ≡ j = omega arith in rw z
+  later-later (suc k) =
+      let z : j + suc k ≡ suc (j + k) = omega arith in
+      rw z (ap (λ (x : State). minuteOf x .next) (later-later k))
+
+  -- so they have the same place
+  pub place-later : (k : ℕ) → placeAt (later j s) k ≡ placeAt s (j + k)
+  place-later k = ap (λ (x : State). minuteOf x .place) (later-later k)
 
 module _ (s : State) where
   -- the state k minutes later has the same windows, but for the minutes left

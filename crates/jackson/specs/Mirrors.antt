@@ -1,8 +1,11 @@
 -- "the mirror (minute t becomes H-1-t, [r, d) becomes [H-d, H-r), places kept)"
 use Prim.Native.Nat.{ℕ, suc, _-_}
 use mathlib.Core.Bool.{cond}
+use mathlib.Core.List.{List}
 use lib.Dec.{ltb}
+use Rattle.jackson.specs.Counting.{listOf}
 use Rattle.jackson.specs.Windows.{Windows}
+use Rattle.jackson.specs.Plans.{placesIn}
 
 abbrev pub mirror : Windows → Windows
 mirror w =
@@ -17,3 +20,7 @@ mirror w =
 -- the mirror of a plan of h minutes
 abbrev pub mirrorPlan : ℕ → (ℕ → ℕ) → ℕ → ℕ
 mirrorPlan h m t = m (h - suc t)
+
+-- the mirror of a plan's bytes
+abbrev pub mirrorBytes : ℕ → List ℕ → List ℕ
+mirrorBytes h bytes = listOf h (mirrorPlan h (placesIn bytes))

@@ -1,5 +1,5 @@
 -- Plans.
-use Prim.Native.Nat.{ℕ, _<_, _≤_}
+use Prim.Native.Nat.{ℕ, _-_, _<_, _≤_}
 use mathlib.Core.Path.{_≡_}
 use mathlib.Core.Logic.{_⊎_}
 use mathlib.Core.List.{List}
@@ -18,12 +18,26 @@ pub record Plan (w : Windows) (m : ℕ → ℕ) : Type 0 where
   pub exact : (i : ℕ) → i < w .n → minutesOf (w .h) m i ≡ w .p i
   pub inside : (i t : ℕ) → i < w .n → t < w .h → m t ≡ i → (w .r i ≤ t) × (t < w .d i)
 
--- "Its end is its last minute plus 1, its start its first minute." Of an entry without minutes the end is 0 and the start h.
+-- The searches that find an entry's end and its start: of one without minutes the end is 0 and the start h.
 abbrev pub endOf : ℕ → (ℕ → ℕ) → ℕ → ℕ
 endOf h m i = lastBelow h (λ t. eqb (m t) i)
 
 abbrev pub startOf : ℕ → (ℕ → ℕ) → ℕ → ℕ
 startOf h m i = firstBelow h (λ t. eqb (m t) i)
+
+-- What they find, most plainly: "Its end is its last minute plus 1, its start its first minute."
+-- e is the last minute below h that m gives to place i, plus 1
+pub record IsEnd (h : ℕ) (m : ℕ → ℕ) (i e : ℕ) : Type 0 where
+  pub after-one : 1 ≤ e
+  pub within : e ≤ h
+  pub minute : m (e - 1) ≡ i
+  pub none-after : (t : ℕ) → e ≤ t → t < h → m t ≡ i → ⊥
+
+-- s is the first minute below h that m gives to place i
+pub record IsStart (h : ℕ) (m : ℕ → ℕ) (i s : ℕ) : Type 0 where
+  pub below : s < h
+  pub minute : m s ≡ i
+  pub none-before : (t : ℕ) → t < s → m t ≡ i → ⊥
 
 -- "A plan is H bytes: the place, or 255 for idle."
 abbrev pub idle : ℕ

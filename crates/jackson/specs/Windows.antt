@@ -1,9 +1,12 @@
 -- "A set of windows has one for each entry." The rules speak of windows by the entry's place, as functions of it.
 use Prim.Native.Nat.{ℕ, _+_, _<_, _≤_, min, max}
 use mathlib.Core.Path.{_≡_}
-use mathlib.Core.List.{List}
+use mathlib.Core.List.{List, map}
 use lib.ListN.{length, getD}
 use Rattle.list.specs.DayLists.{entriesOf, blank}
+use Rattle.list.specs.declared.types.Seal.the-variants.{Missing}
+use Rattle.list.specs.declared.types.Kind.the-variants.{Pause}
+use Rattle.list.specs.declared.types.Entry.{Entry}
 use Rattle.list.specs.declared.types.DayList.{DayList}
 use Rattle.jackson.specs.declared.types.WindowSet.{WindowSet}
 
@@ -26,13 +29,15 @@ windowsOf l =
       p = λ i. getD (entriesOf l) i blank .p;
     }
 
--- serials, seals and kinds count for nothing: the frame, the number of entries, and each one's r, d and p do
+-- an entry without its serial, seal and kind
+abbrev pub plain : Entry → Entry
+plain e = record { serial = 0; seal = Missing; r = e .r; d = e .d; p = e .p; kind = Pause }
+
+-- two lists with the same H and n, and of each entry the same r, d and p: serials, seals and kinds count for nothing
 pub record SameNumbers (a b : DayList) : Type 0 where
   pub frame : a .frame ≡ b .frame
-  pub n : length (entriesOf a) ≡ length (entriesOf b)
-  pub r : (i : ℕ) → i < length (entriesOf a) → getD (entriesOf a) i blank .r ≡ getD (entriesOf b) i blank .r
-  pub d : (i : ℕ) → i < length (entriesOf a) → getD (entriesOf a) i blank .d ≡ getD (entriesOf b) i blank .d
-  pub p : (i : ℕ) → i < length (entriesOf a) → getD (entriesOf a) i blank .p ≡ getD (entriesOf b) i blank .p
+  pub n : a .n ≡ b .n
+  pub entries : map plain (entriesOf a) ≡ map plain (entriesOf b)
 
 -- the windows that arrays hold
 abbrev pub columns : ℕ → ℕ → List ℕ → List ℕ → List ℕ → Windows
