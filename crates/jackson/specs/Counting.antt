@@ -23,7 +23,7 @@ unfoldable pub lastBelow : ℕ → (ℕ → Bool) → ℕ
 lastBelow zero f = 0
 lastBelow (suc n) f = cond (f n) (suc n) (lastBelow n f)
 
--- the better of i and the best so far, k or none: i must pass the test, and `before i k` says that it is strictly better than k
+-- i if it passes the test and there is no best so far, or it is strictly better than that, k; else k. `before` says which is better.
 abbrev pub better : ℕ → (ℕ → Bool) → (ℕ → ℕ → Bool) → ℕ → ℕ → ℕ
 better none f before i k = cond (f i && (eqb k none || before i k)) i k
 

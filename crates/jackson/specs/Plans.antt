@@ -8,7 +8,7 @@ use lib.Dec.{eqb}
 use Rattle.jackson.specs.Counting.{sum, same, firstBelow, lastBelow}
 use Rattle.jackson.specs.Windows.{Windows}
 
--- the minutes below h that m gives to place i
+-- how many of the minutes below h m gives to place i
 abbrev pub minutesOf : ℕ → (ℕ → ℕ) → ℕ → ℕ
 minutesOf h m i = sum h (λ t. same (m t) i)
 

@@ -40,8 +40,8 @@ pub record Follows (w : Windows) (t₀ : ℕ) (m : ℕ → ℕ) (left : ℕ → 
   pub next : (t i : ℕ) → t₀ ≤ t → t < w .h → i < w .n → left (suc t) i ≡ left t i - same (m t) i
   pub takes : (t : ℕ) → t₀ ≤ t → t < w .h → LeastDeadline (withLeft w (left t)) t (m t)
 
--- the law of Jackson's preemptive schedule, for at most 255 windows that have room: it is a plan exactly if there is one, and each of its minutes has the
--- place that the rule takes
+-- the law of Jackson's preemptive schedule, for at most 255 windows that have room: it is a plan exactly if there is one, and each of
+-- its minutes has the place that the rule takes
 pub record ScheduleLaw (w : Windows) : Type 0 where
   pub plan : Plannable w ↔ PlanBytes w (schedule w)
   pub takes : (t : ℕ) → t < w .h → Takes (later t (dayStart w)) (placeAt (dayStart w) t)
