@@ -1,6 +1,7 @@
 //! Inputs and lists that several tests share, and what is needed to write others down.
 
 use crate::day::{Day, Entry, LONGEST_DAY, MOST_ENTRIES};
+use crate::flat::{self, Fields, SIZE};
 use crate::jackson::IDLE;
 use crate::writer;
 
@@ -21,6 +22,26 @@ pub fn plan(minutes: &str) -> Vec<u8> {
 pub fn windows(h: u16, entries: &[(u16, u16, u16)]) -> Day {
     let entry = |(serial, &(r, d, p))| Entry { serial, seal: None, r, d, p, whole: false };
     Day { h, entries: (101..).zip(entries).map(entry).collect() }
+}
+
+/// A pause entry with these minutes, right or wrong.
+pub fn entry(r: u16, d: u16, p: u16) -> Entry {
+    Entry { serial: 9, seal: None, r, d, p, whole: false }
+}
+
+/// A value with these entries, whatever they are.
+pub fn value(h: u32, n: u32, entries: &[Entry]) -> Fields {
+    let mut fields = [0; SIZE];
+    (fields[0], fields[1]) = (h, n);
+    for (place, entry) in entries.iter().enumerate() {
+        flat::put(&mut fields, place, entry);
+    }
+    fields
+}
+
+/// A value that says a day of 100 minutes with these entries.
+pub fn day(entries: &[Entry]) -> Fields {
+    value(100, entries.len() as u32, entries)
 }
 
 /// Document 01's sample input.

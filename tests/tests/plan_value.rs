@@ -3,29 +3,11 @@
 
 use dock_tests::check::{not_planned, not_tested, overload, schedule};
 use dock_tests::day::{Entry, MOST_ENTRIES};
-use dock_tests::flat::{self, Fields, SIZE};
+use dock_tests::flat::{self, Fields};
+use dock_tests::samples::{day, entry, value};
 
 /// More room than any day needs.
 const ROOM: usize = 2000;
-
-fn entry(r: u16, d: u16, p: u16) -> Entry {
-    Entry { serial: 9, seal: None, r, d, p, whole: false }
-}
-
-/// A value with these entries, whatever they are.
-fn value(h: u32, n: u32, entries: &[Entry]) -> Fields {
-    let mut fields = [0; SIZE];
-    (fields[0], fields[1]) = (h, n);
-    for (place, entry) in entries.iter().enumerate() {
-        flat::put(&mut fields, place, entry);
-    }
-    fields
-}
-
-/// A day of 100 minutes with these entries.
-fn day(entries: &[Entry]) -> Fields {
-    value(100, entries.len() as u32, entries)
-}
 
 /// Both calls refuse this value so, the planner with any buffer: a value's own rows stand above 11.
 #[track_caller]

@@ -2,31 +2,11 @@
 
 use dock_tests::check::{not_written, number, write, written};
 use dock_tests::day::{Entry, MOST_ENTRIES};
-use dock_tests::flat::{self, Fields, SIZE};
 use dock_tests::random::{self, Random};
-use dock_tests::samples::hex;
+use dock_tests::samples::{day, entry, hex, value};
 
 /// More room than any list needs.
 const ROOM: usize = 1000;
-
-fn entry(r: u16, d: u16, p: u16) -> Entry {
-    Entry { serial: 9, seal: None, r, d, p, whole: false }
-}
-
-/// A value with these entries, whatever they are.
-fn value(h: u32, n: u32, entries: &[Entry]) -> Fields {
-    let mut fields = [0; SIZE];
-    (fields[0], fields[1]) = (h, n);
-    for (place, entry) in entries.iter().enumerate() {
-        flat::put(&mut fields, place, entry);
-    }
-    fields
-}
-
-/// A day of 100 minutes with these entries.
-fn day(entries: &[Entry]) -> Fields {
-    value(100, entries.len() as u32, entries)
-}
 
 #[test]
 fn the_day_has_1_to_1440_minutes() {

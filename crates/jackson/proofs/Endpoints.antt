@@ -1,5 +1,5 @@
--- For windows that have room: no interval between an earliest and a latest minute of the list is overloaded exactly if no [a, b), of whatever ends, has more work than
--- minutes.
+-- For windows that have room: no interval between an earliest and a latest minute of the list is overloaded exactly if no [a, b), of
+-- whatever ends, has more work than minutes.
 -- Assumes nothing.
 use mathlib.Core.Path.{_≡_, refl}
 use mathlib.Core.Bool.{Bool, true}

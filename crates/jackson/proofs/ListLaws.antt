@@ -86,7 +86,10 @@ module _ (l : DayList) where
   tells-decides : (o : Outcome (Unit {0})) → Tells o → Decides l o
   tells-decides o tells =
       record {
-        planned = λ e. let bytes : PlanBytes (windowsOf l) (schedule (windowsOf l)) = rw e at tells in (placesIn (schedule (windowsOf l)), bytes .plan);
+        planned =
+            λ e.
+            let bytes : PlanBytes (windowsOf l) (schedule (windowsOf l)) = rw e at tells in
+            (placesIn (schedule (windowsOf l)), bytes .plan);
         unplanned = λ k e nine. (rw e at tells) nine .0;
         shown = λ k e nine. (rw e at tells) nine .1;
       }

@@ -64,7 +64,8 @@ module _ (s : WindowSet) (n : ℕ) (holds : n ≡ min (s .n) 64) (t last k : ℕ
     -- a place was found, since the entry that had the minute before is ready
     pub found-place : n ≤ 64 → not b ≡ false → k < n
     found-place few e =
-        let found = best-some idle (isReady now) (smaller (now .windows .d)) (smaller-ranks (now .windows .d)) n (omega (arith, few)) last h (sym says ∙ not-false b e) in
+        let ranks = smaller-ranks (now .windows .d) in
+        let found = best-some idle (isReady now) (smaller (now .windows .d)) ranks n (omega (arith, few)) last h (sym says ∙ not-false b e) in
         rw (← first) at (found .below)
 
     pub interrupted : not b ≡ false → getD (s .d) k 0 < getD (s .d) last 0 → k ≡ chosen now

@@ -66,7 +66,9 @@ module _ (w : Windows) (t₀ : ℕ) (m : ℕ → ℕ) (left : ℕ → ℕ → �
   pub run-plan : t₀ ≤ w .h → ((i : ℕ) → i < w .n → 1 ≤ w .p i → w .d i ≤ w .h) → Fits (restFrom t₀ w) → Plan (restFrom t₀ w) m
   run-plan started in-day fits =
       record {
-        exact = λ i l. le-or-lt 1 (w .p i) (λ some. omega (arith, kept i l (w .h) started (omega arith), in-time fits i (w .h) l started (omega arith), in-day i l some)) (λ none. omega (arith, kept i l (w .h) started (omega arith)));
+        exact = λ i l. le-or-lt 1 (w .p i)
+            (λ some. omega (arith, kept i l (w .h) started (omega arith), in-time fits i (w .h) l started (omega arith), in-day i l some))
+            (λ none. omega (arith, kept i l (w .h) started (omega arith)));
         inside = λ i t l k e. le-or-lt t₀ t
             (λ h. let z = ready i t l h k e in omega (arith, z .released, z .unfinished, in-time fits i t l h (omega arith)))
             (λ h. absurd (omega (arith, run .before t h)));

@@ -29,7 +29,10 @@ pub record Takes (s : State) (k : ℕ) : Type 0 where
       → ((i : ℕ) → Ready (s .windows) (s .t) i → s .windows .d i < s .windows .d (s .last) → ⊥)
       → k ≡ s .last
   -- "Otherwise the lowest place among equals is taken."
-  pub lowest : (i : ℕ) → (k ≡ s .last → ⊥) → k < s .windows .n → Ready (s .windows) (s .t) i → s .windows .d i ≡ s .windows .d k → k ≤ i
+  pub lowest : (i : ℕ) → (k ≡ s .last → ⊥) → k < s .windows .n
+      → Ready (s .windows) (s .t) i
+      → s .windows .d i ≡ s .windows .d k
+      → k ≤ i
   pub idles : s .windows .n ≤ k → k ≡ idle
 
 -- A rule followed from minute t₀, when w .p is left, to the day's end: m t is the place that has minute t (none before t₀), left t i the
