@@ -1,8 +1,7 @@
 //! Plans and overloaded intervals of small days by trying everything: neither Jackson's rule nor the law
 //! between plans and intervals is used.
 
-use crate::day::{Day, Interval};
-use crate::jackson::IDLE;
+use crate::day::{Day, Interval, IDLE};
 
 /// "A plan gives each minute 0 to H-1 to one entry or none; entry i has exactly p minutes, all in [r, d)."
 pub fn is_plan(day: &Day, bytes: &[u8]) -> bool {

@@ -144,7 +144,7 @@ pub fn not_planned(fields: &Fields, room: usize, number: u32, carries: usize) {
 
 /// Tests a value for overload that must be refused with this number, carrying this value.
 #[track_caller]
-pub fn not_tested(fields: &Fields, number: u32, carries: usize) {
+pub fn test_refused(fields: &Fields, number: u32, carries: usize) {
     let refusal = overload(fields).expect_err("must be refused");
     assert_eq!(refusal.code(), (number, [carries as u64, 0, 0]));
 }

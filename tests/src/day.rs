@@ -80,5 +80,8 @@ impl Entry {
 pub const LONGEST_DAY: u16 = 1440;
 /// The most entries a list has.
 pub const MOST_ENTRIES: usize = 64;
+
+/// The byte of a minute that no entry has.
+pub const IDLE: u8 = 255;
 /// The bytes of a longest list: a header of 3, and 64 entries with all fields.
 pub const LONGEST_LIST: usize = 963;

@@ -1,9 +1,6 @@
 //! Jackson's preemptive schedule, minute by minute, from document 01's section "Jackson's minute".
 
-use crate::day::Day;
-
-/// The byte of a minute that no entry has.
-pub const IDLE: u8 = 255;
+use crate::day::{Day, IDLE};
 
 /// The schedule of the windows as they are given. "A plan is H bytes: the place, or 255 for idle."
 pub fn schedule(day: &Day) -> Vec<u8> {

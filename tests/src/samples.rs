@@ -1,8 +1,7 @@
 //! Inputs and lists that several tests share, and what is needed to write others down.
 
-use crate::day::{Day, Entry, LONGEST_DAY, MOST_ENTRIES};
+use crate::day::{Day, Entry, IDLE, LONGEST_DAY, MOST_ENTRIES};
 use crate::flat::{self, Fields, SIZE};
-use crate::jackson::IDLE;
 use crate::writer;
 
 /// Bytes written as in document 01: hexadecimal, with blanks and bars anywhere.

@@ -114,10 +114,12 @@ fn a_and_b_are_minutes_of_the_list() {
     assert_eq!(shown(&windows(9, &[(0, 9, 9), (4, 5, 1)])), (0, 9, 10));
 }
 
-/// r 3 of the entry that ends after b makes the interval [3,5), which is not overloaded; [2,5) is.
+/// r 2 stands only in an entry that ends after 5, and still makes the interval [2,5).
 #[test]
 fn an_interval_may_begin_with_an_entry_that_ends_after_it() {
-    assert_eq!(shown(&windows(9, &[(3, 9, 1), (2, 5, 3), (4, 5, 1)])), (2, 5, 4));
+    let day = windows(9, &[(2, 9, 1), (3, 5, 2), (3, 5, 2)]);
+    assert!(brute::overloaded_intervals(&day).contains(&Interval { a: 2, b: 5, work: 4 }));
+    assert_eq!(shown(&day), (3, 5, 4));
     assert_eq!(shown(&windows(9, &[(2, 9, 1), (2, 5, 3), (3, 5, 1)])), (2, 5, 4));
 }
 

@@ -1,10 +1,10 @@
 //! Every day of at most 4 minutes and 3 entries, held against all its plans and all its intervals.
 
-use dock_tests::day::{Day, Interval};
+use dock_tests::day::{Day, Interval, IDLE};
 use dock_tests::{abi, brute, check, flat, jackson, overload, samples};
 use std::collections::HashSet;
 
-/// How many of the days have a plan and how many do not, reckoned once by matching minutes with work.
+/// How many of the days have a plan and how many do not, counted once by a bipartite matching, outside these tests.
 const PLANNED: usize = 2_340;
 const OVERLOADED: usize = 7_281;
 
@@ -125,7 +125,7 @@ fn the_days_of_5_minutes_and_3_entries_and_of_4_minutes_and_4_entries() {
     assert_eq!(count, 35 * 35 * 35 + 20 * 20 * 20 * 20);
 }
 
-/// "11: plan buffer under H bytes", before 9: the same days with fewer bytes than minutes, as many, and more.
+/// Row 11, "plan buffer under H bytes", before 9: the same days with fewer bytes than minutes, as many, and more.
 #[test]
 fn in_buffers_of_every_length() {
     for day in small_days() {
@@ -146,7 +146,7 @@ fn trying_everything_finds_exactly_the_plans() {
         let plans: HashSet<_> = brute::plans(&day).into_iter().collect();
         assert_eq!(plans.is_empty(), !brute::has_plan(&day));
         let n = day.entries.len();
-        let bytes: Vec<u8> = (0..=n as u8).chain([jackson::IDLE]).collect();
+        let bytes: Vec<u8> = (0..=n as u8).chain([IDLE]).collect();
         let mut right = 0;
         for number in 0..bytes.len().pow(u32::from(day.h)) {
             let byte = |minute| bytes[number / bytes.len().pow(minute) % bytes.len()];

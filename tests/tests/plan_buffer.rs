@@ -81,7 +81,7 @@ fn whatever_the_buffer_held_the_plan_is_the_same() {
     }
 }
 
-/// "11: plan buffer under H bytes", which carries H, for each shorter length.
+/// Row 11, "plan buffer under H bytes", which carries H, for each shorter length.
 #[test]
 fn a_buffer_under_h_bytes_is_11_with_h() {
     for day in planned_days() {
@@ -118,7 +118,7 @@ fn a_short_buffer_is_told_even_if_the_list_is_overloaded() {
             let refusal = schedule(&fields, room).expect_err("must be overloaded");
             assert!(matches!(refusal, Refusal::Overloaded(_)), "{refusal:?} with {room} bytes");
         }
-        assert_eq!(abi::overload(&fields).number, 9, "the overload test lends no buffer");
+        assert_eq!(abi::overload(&fields).number, 9, "the overload test takes no buffer");
     }
 }
 

@@ -2,8 +2,7 @@
 //! their windows are narrowed.
 
 use dock_tests::check::{overloaded, planned};
-use dock_tests::day::{Day, Interval};
-use dock_tests::jackson::IDLE;
+use dock_tests::day::{Day, Interval, IDLE};
 use dock_tests::samples::{self, hex, plan, windows};
 use dock_tests::{abi, brute, check, flat};
 

@@ -1,8 +1,7 @@
 //! The limits: no entries and 64, 1 minute and 1,440, one entry filling the day, and work above 65,535.
 
-use dock_tests::check::{not_planned, not_tested, overload, overloaded, planned, schedule};
-use dock_tests::day::{Interval, LONGEST_DAY, MOST_ENTRIES};
-use dock_tests::jackson::IDLE;
+use dock_tests::check::{not_planned, overload, overloaded, planned, schedule, test_refused};
+use dock_tests::day::{Interval, IDLE, LONGEST_DAY, MOST_ENTRIES};
 use dock_tests::samples::{plan, windows};
 use dock_tests::{abi, flat};
 
@@ -31,7 +30,7 @@ fn one_entry_fills_the_longest_day() {
     not_planned(&fields, 1439, 11, 1440);
     fields[7] = 1441;
     not_planned(&fields, 1440, 7, 0);
-    not_tested(&fields, 7, 0);
+    test_refused(&fields, 7, 0);
 }
 
 #[test]
@@ -54,7 +53,7 @@ fn one_minute_at_either_end_of_the_longest_day() {
 fn a_day_of_1441_minutes_is_2() {
     let mut fields = flat::of_day(&windows(LONGEST_DAY, &[(0, 1440, 1440)]));
     fields[0] = 1441;
-    not_tested(&fields, 2, 0);
+    test_refused(&fields, 2, 0);
     not_planned(&fields, 1441, 2, 0);
 }
 
@@ -85,7 +84,7 @@ fn sixty_four_entries_fill_the_longest_day() {
 fn sixty_five_entries_are_3() {
     let mut fields = flat::of_day(&windows(64, &[(0, 64, 1); MOST_ENTRIES]));
     fields[1] = 65;
-    not_tested(&fields, 3, 0);
+    test_refused(&fields, 3, 0);
     not_planned(&fields, 64, 3, 0);
 }
 
@@ -97,7 +96,7 @@ fn sixty_three_interruptions_one_inside_the_other() {
     assert_eq!(planned(&windows(128, &entries)), wanted);
 }
 
-/// The work passes 65,535: "64 boxes p 1440 in [0,1440)" have 92,160.
+/// The work passes 65,535: 64 entries of p 1,440 in [0, 1440) have 92,160.
 #[test]
 fn the_greatest_work_is_92160() {
     let day = windows(LONGEST_DAY, &[(0, 1440, 1440); MOST_ENTRIES]);

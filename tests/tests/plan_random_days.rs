@@ -1,10 +1,9 @@
-//! Random days, fixed by their seeds: small ones against all their plans, full ones against the second
+//! Random days, fixed by their seeds: small ones against trying everything, full ones against the second
 //! planner, and values that may break any rule.
 
 use dock_tests::brute;
 use dock_tests::check::{self, number};
-use dock_tests::day::{Day, LONGEST_DAY, MOST_ENTRIES};
-use dock_tests::jackson::IDLE;
+use dock_tests::day::{Day, IDLE, LONGEST_DAY, MOST_ENTRIES};
 use dock_tests::random::{self, Random};
 
 /// How many entries a plan breaks.
@@ -24,7 +23,7 @@ fn kinds(day: &Day) -> (bool, bool) {
 /// trying everything finds a plan exactly if both calls accept. The schedule is a plan and the second
 /// planner's, and so is the interval shown, which is also the right one of all overloaded ones.
 #[test]
-fn twenty_thousand_small_days_against_all_their_plans() {
+fn twenty_thousand_small_days_against_trying_everything() {
     let mut random = Random::new(11);
     let (mut planned, mut overloaded, mut broke, mut both) = (0, 0, 0, 0);
     for _ in 0..20_000 {
@@ -108,7 +107,7 @@ fn full_overloaded_days_against_the_second_planner() {
     assert!(inner > 100, "{inner} intervals shorter than the day");
 }
 
-/// Windows drawn without a plan in mind: 64 of them are always overloaded, with much work.
+/// Windows drawn without a plan in mind: with this seed each day is overloaded, with much work.
 #[test]
 fn full_days_of_any_windows_against_the_second_planner() {
     let mut random = Random::new(16);

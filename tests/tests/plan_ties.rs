@@ -75,13 +75,13 @@ fn among_equals_neither_the_first_released_nor_the_shortest_is_taken() {
     planned(9, &[(1, 9, 3), (2, 9, 1), (0, 9, 3)], "2 2 2 0 0 0 1 - -");
 }
 
-/// An interrupted entry has no privilege: at minute 3 the lowest place among equals is the interrupted one.
+/// An interrupted entry does not go on: at minute 3 the lowest place among equals is the interrupted one.
 #[test]
 fn after_an_interruption_the_lowest_place_is_taken_though_it_was_interrupted() {
     planned(9, &[(0, 9, 3), (0, 9, 2), (1, 4, 2)], "0 2 2 0 0 1 1 - -");
 }
 
-/// An interrupted entry has no privilege: at minute 2 place 0 is taken, though place 1 was interrupted.
+/// An interrupted entry does not go on: at minute 2 place 0 is taken, though place 1 was interrupted.
 #[test]
 fn after_an_interruption_the_lowest_place_is_taken_though_another_was_interrupted() {
     planned(6, &[(1, 6, 2), (0, 6, 2), (1, 2, 1)], "1 2 0 0 1 -");
@@ -101,11 +101,11 @@ fn an_interruption_may_be_interrupted() {
 
 /// Place 2 is interrupted by 3, and that by 4. When 4 ends, 1 and 3 have the smallest d, and 1 is lower.
 #[test]
-fn an_interruption_that_was_interrupted_has_no_privilege_either() {
+fn an_interruption_that_was_interrupted_does_not_go_on_either() {
     planned(9, &[(2, 9, 1), (2, 6, 1), (0, 9, 2), (1, 6, 2), (2, 3, 1)], "2 3 4 1 3 0 2 - -");
 }
 
-/// "The entry that had the minute before": an idle minute before, or none at all, gives nobody a right.
+/// "The entry that had the minute before": after an idle minute, or none at all, nobody goes on.
 #[test]
 fn after_an_idle_minute_the_lowest_place_among_equals_is_taken() {
     planned(9, &[(3, 9, 1), (0, 9, 1), (3, 9, 2)], "1 - - 0 2 2 - - -");

@@ -1,7 +1,7 @@
 //! A list handed over as a value to the planner: "2, 3, then 6 and 7 per entry; 2 and 3 then carry 0, 6 and 7
 //! the entry's place", then 11, then 9.
 
-use dock_tests::check::{not_planned, not_tested, overload, schedule};
+use dock_tests::check::{not_planned, overload, schedule, test_refused};
 use dock_tests::day::{Entry, MOST_ENTRIES};
 use dock_tests::flat::{self, Fields};
 use dock_tests::samples::{day, entry, value};
@@ -12,7 +12,7 @@ const ROOM: usize = 2000;
 /// Both calls refuse this value so, the planner with any buffer: a value's own rows stand above 11.
 #[track_caller]
 fn refused(fields: &Fields, number: u32, carries: usize) {
-    not_tested(fields, number, carries);
+    test_refused(fields, number, carries);
     for room in [0, 1, 99, 100, ROOM] {
         not_planned(fields, room, number, carries);
     }

@@ -12,23 +12,23 @@ use Rattle.list.specs.DayLists.{entriesOf, blank, SameList}
 use Rattle.list.specs.declared.types.Entry.{Entry}
 use Rattle.list.specs.declared.types.Frame.{Frame}
 use Rattle.list.specs.declared.types.DayList.{DayList}
-use Rattle.jackson.specs.Windows.{windowsOf, plain, SameNumbers}
+use Rattle.jackson.specs.Windows.{windowsOf, plain, SameWindows}
 use Rattle.jackson.specs.Minutes.{dayStart, schedule}
 use Rattle.jackson.specs.Intervals.{overloadOf}
 use Rattle.jackson.specs.Testing.{testOf}
 use Rattle.jackson.specs.Planning.{listBeside, fillOf, planAfter}
 
--- the value check reads numbers only
+-- the value check reads H, n, r, d and p only
 plain-checked : (f : Frame) (i : ℕ) (es : List Entry) → entriesFault f i es ≡ entriesFault f i (map plain es)
 unfolding entriesFault entryFault
 plain-checked f i [] = refl
 plain-checked f i (e ∷ es) = ap (λ (o : Outcome (Unit {0})). andThen (entryFault f i e) (λ _. o)) (plain-checked f (i + 1) es)
 
 -- lists that are equal have the same numbers
-pub same-alike : {a b : DayList} → SameList a b → SameNumbers a b
+pub same-alike : {a b : DayList} → SameList a b → SameWindows a b
 same-alike s = record { frame = s .frame; n = s .n; entries = ap (map plain) (s .entries) }
 
-module _ {a b : DayList} (s : SameNumbers a b) where
+module _ {a b : DayList} (s : SameWindows a b) where
   -- lists of the same numbers have the same windows
   pub alike-windows : windowsOf a ≡ windowsOf b
   alike-windows =

@@ -24,7 +24,7 @@ use Rattle.jackson.specs.Intervals.{overloadOf}
 use Rattle.jackson.specs.Plans.{PlanBytes}
 use Rattle.jackson.specs.Testing.{Holds, Tests, testOf}
 use Rattle.jackson.specs.Planning.{Advances, Starts, Fills, listBeside, fillOf, planAfter}
-use Rattle.jackson.specs.Steps.{Advanced}
+use Rattle.jackson.specs.Steps.{IsAfter}
 use Rattle.jackson.specs.declared.types.WindowSet.{WindowSet}
 use Rattle.jackson.specs.declared.types.Day.{Day}
 use Rattle.jackson.specs.declared.types.DayAnswer.{DayAnswer}
@@ -39,7 +39,7 @@ module _ (day : Day) where
       let e = minute-over (stateOf day) h in
       record { place = rw e refl; next = rw e refl; n = refl }
 
-  pub advances-on : (next : Day) (k : ℕ) → day .t < day .windows .h → k ≡ chosen (stateOf day) → Advanced day k next
+  pub advances-on : (next : Day) (k : ℕ) → day .t < day .windows .h → k ≡ chosen (stateOf day) → IsAfter day k next
       → Advances day (record { place = k; day = next })
   advances-on next k h place step =
       let e = minute-on (stateOf day) h in

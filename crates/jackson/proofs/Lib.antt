@@ -5,11 +5,11 @@ pub mod Scans
 pub mod Searches
 -- Facts about plans alone: the mirror, other windows, room, starts and ends.
 pub mod PlanFacts
--- The law that a plan exists exactly without overload, from its steps to its form for lists; the crates above cite Law and ListLaws,
--- and Runs and Schedules for days that are running.
-pub mod Counted
+-- The law that a plan exists exactly without overload: its steps, its form for windows and its form for lists. The crates above are to
+-- cite Law and ListLaws, and Runs and Schedules for days that are running.
+mod Counted
+mod OneMinute
 pub mod PlanWork
-pub mod OneMinute
 pub mod Runs
 pub mod Endpoints
 pub mod Choices
@@ -17,6 +17,7 @@ pub mod ShownInterval
 pub mod Schedules
 pub mod Law
 pub mod ListLaws
+-- Lists that are planned alike.
 pub mod Alike
 -- What the code's proofs cite, case by case.
 mod ScanSteps

@@ -29,7 +29,3 @@ pub list-is : (n : ℕ) (f : ℕ → ℕ) (z : ℕ) (xs : List ℕ) → length x
 list-is n f z xs long each =
     ext-getD z (listOf n f) xs (list-length n f ∙ sym long)
     (λ t h. let below : t < n = omega (arith, list-length n f) in list-at n f z t below ∙ each t below)
-
--- a list is the list of its own values
-pub list-own : (n z : ℕ) (xs : List ℕ) → length xs ≡ n → listOf n (λ t. getD xs t z) ≡ xs
-list-own n z xs long = list-is n (λ t. getD xs t z) z xs long (λ _ _. refl)

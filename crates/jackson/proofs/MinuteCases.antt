@@ -13,7 +13,7 @@ use Rattle.jackson.specs.Counting.{same, better, smaller}
 use Rattle.jackson.specs.Windows.{withLeft, windowsIn}
 use Rattle.jackson.specs.Plans.{idle}
 use Rattle.jackson.specs.Minutes.{State, isReady, earliestDeadline, chosen}
-use Rattle.jackson.specs.Steps.{arrived, Advanced}
+use Rattle.jackson.specs.Steps.{arrived, IsAfter}
 use Rattle.jackson.specs.declared.types.WindowSet.{WindowSet}
 use Rattle.jackson.specs.declared.types.Day.{Day}
 use Rattle.jackson.proofs.Sums.{le-or-lt, same-cases}
@@ -47,7 +47,7 @@ module _ (i k t : ℕ) (r d left : List ℕ) (b : Bool) (says : b ≡ leb (getD 
   pub no-smaller : (k ≡ 255 → ⊥) → getD d k 0 ≤ getD d i 0 → k ≡ better idle passes sooner i k
   no-smaller z h = stays idle passes sooner i k z (le-ltb (getD d i 0) (getD d k 0) h)
 
--- the choice: k is the earliest ready place of the n that the arrays hold, b says whether the entry that had the minute before is ready
+-- the choice: k is the ready place with the smallest d of the n that the arrays hold, b says whether the entry that had the minute before is ready
 module _ (s : WindowSet) (n : ℕ) (holds : n ≡ min (s .n) 64) (t last k : ℕ) (first : k ≡ earliestDeadline (arrived n t (s .r) (s .d) (s .p))) where
   abbrev now : State
   now = record { windows = windowsIn s; t = t; last = last }
@@ -105,15 +105,15 @@ module _ (day : Day) (k : ℕ) where
         last = k;
       }
 
-  advanced-with : (p : List ℕ) → ((i : ℕ) → getD p i 0 ≡ getD (day .windows .p) i 0 - same k i) → Advanced day k (dayWith p)
+  advanced-with : (p : List ℕ) → ((i : ℕ) → getD p i 0 ≡ getD (day .windows .p) i 0 - same k i) → IsAfter day k (dayWith p)
   advanced-with p left =
       record {
         state = ap (λ (z : ℕ → ℕ). record { windows = withLeft (windowsIn (day .windows)) z; t = day .t + 1; last = k }) (fun-ext left);
         n = refl;
       }
 
-  pub after-place : (x : ℕ) → x ≡ getD (day .windows .p) k 0 - 1 → Advanced day k (dayWith (set (day .windows .p) k x))
+  pub after-place : (x : ℕ) → x ≡ getD (day .windows .p) k 0 - 1 → IsAfter day k (dayWith (set (day .windows .p) k x))
   after-place x e = rw e (advanced-with (set (day .windows .p) k (getD (day .windows .p) k 0 - 1)) (stored-less (day .windows .p) k))
 
-  pub after-none : length (day .windows .p) ≤ k → Advanced day k (dayWith (day .windows .p))
+  pub after-none : length (day .windows .p) ≤ k → IsAfter day k (dayWith (day .windows .p))
   after-none h = advanced-with (day .windows .p) (λ i. nobody-less (day .windows .p) k i h)

@@ -6,7 +6,7 @@ use native.Mathlib.Omega.{arith}
 use Rattle.jackson.specs.Counting.{same}
 use Rattle.jackson.specs.Windows.{Windows, withLeft, restFrom}
 use Rattle.jackson.specs.Intervals.{work, Fits}
-use Rattle.jackson.specs.Rules.{Ready, LeastDeadline}
+use Rattle.jackson.specs.Rules.{Ready, EarliestDeadlineFirst}
 use Rattle.jackson.proofs.Sums.{le-or-lt, same-refl, sum-lt}
 use Rattle.jackson.proofs.Counted.{counted, counted-is, counted-le, work-under}
 
@@ -65,7 +65,7 @@ module _ (w : Windows) (p : ℕ → ℕ) (t k : ℕ) where
             (λ r. omega (arith, counted-is before (suc t) b i (omega arith) d))
 
   pub minute-fits : Fits (restFrom t (withLeft w p))
-      → LeastDeadline (withLeft w p) t k
+      → EarliestDeadlineFirst (withLeft w p) t k
       → Fits (restFrom (suc t) (withLeft w (λ i. p i - same k i)))
   minute-fits fits rule a b =
       le-or-lt a (suc t)

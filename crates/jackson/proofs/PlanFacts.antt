@@ -141,14 +141,14 @@ plan-same w m x agrees plan =
     }
 
 -- a plan whose minutes lie in other windows is a plan in those
-pub pin : (w : Windows) (r d m : ℕ → ℕ) → Plan w m
+pub other-windows : (w : Windows) (r d m : ℕ → ℕ) → Plan w m
     → ((i t : ℕ) → i < w .n → t < w .h → m t ≡ i → (r i ≤ t) × (t < d i)) → Plan (withWindows w r d) m
-pin w r d m plan inside = record { exact = plan .exact; inside = inside }
+other-windows w r d m plan inside = record { exact = plan .exact; inside = inside }
 
 -- a plan for windows is one for those that they lie inside
 pub widen : (w : Windows) (r d m : ℕ → ℕ) → Inside (withWindows w r d) w → Plan (withWindows w r d) m → Plan w m
 widen w r d m narrow plan =
-    pin (withWindows w r d) (w .r) (w .d) m plan
+    other-windows (withWindows w r d) (w .r) (w .d) m plan
     (λ i t place below e.
     let z = plan .inside i t place below e in
     (omega (arith, narrow .r i place), omega (arith, narrow .d i place)))

@@ -1,5 +1,5 @@
 -- The run of Jackson's minutes from a state: it follows the rule, so it is a plan of the rest of the day where no interval has more work
--- than minutes. The day's schedule is the run from the morning.
+-- than minutes. The day's schedule is the run from its first minute.
 -- Assumes nothing.
 use mathlib.Core.Path.{_≡_, refl, ap, _∙_}
 use mathlib.Core.Bool.{cond}
@@ -12,7 +12,7 @@ use Rattle.jackson.specs.Counting.{same, listOf}
 use Rattle.jackson.specs.Windows.{Windows, withLeft, restFrom}
 use Rattle.jackson.specs.Plans.{Plan, PlanBytes, idle, placesIn}
 use Rattle.jackson.specs.Minutes.{State, dayStart, chosen, after, minuteOf, later, placeAt, schedule}
-use Rattle.jackson.specs.Rules.{LeastDeadline, Takes, Follows}
+use Rattle.jackson.specs.Rules.{EarliestDeadlineFirst, Takes, Follows}
 use Rattle.jackson.specs.Intervals.{Fits}
 use Rattle.jackson.proofs.Sums.{le-or-lt}
 use Rattle.jackson.proofs.Listed.{list-length, list-at}
@@ -115,7 +115,7 @@ module _ (s : State) where
   run-at t h = rw (le-ltb t (s .t) h)
 
   module _ (few : s .windows .n ≤ 255) where
-    run-takes : (t : ℕ) → s .t ≤ t → t < s .windows .h → LeastDeadline (withLeft (s .windows) (runLeft t)) t (runPlace t)
+    run-takes : (t : ℕ) → s .t ≤ t → t < s .windows .h → EarliestDeadlineFirst (withLeft (s .windows) (runLeft t)) t (runPlace t)
     run-takes t h l =
         let k = t - s .t in
         let e : later k s .t ≡ t = omega (arith, later-time s k (omega arith)) in

@@ -9,7 +9,7 @@ use borrow.Author.Tests.{ltb-true, ltb-false, lt-ltb}
 use lib.Dec.{ltb}
 use Rattle.list.specs.Outcomes.{Code, code, Outcome, answered, refused}
 use Rattle.jackson.specs.Windows.{Windows}
-use Rattle.jackson.specs.Intervals.{work, Overloaded, Shown, NoOverload, ShowsOverload, isOverloaded, leftEnd, rightEnd, overloadOf}
+use Rattle.jackson.specs.Intervals.{work, Overloaded, Shown, NoOverload, ShowsOverload, isOverloaded, leftOf, leftEnd, rightOf, rightEnd, overloadOf}
 use Rattle.jackson.proofs.Scans.{smaller-ranks, larger-ranks, best-below, best-some, best-smallest, best-largest}
 
 -- what the overload test says by its answer, and by a refusal
@@ -22,7 +22,7 @@ module _ (w : Windows) where
   left-found : (b : ℕ) → leftEnd w b < w .n → (w .r (leftEnd w b) < b) × (b - w .r (leftEnd w b) < work w (w .r (leftEnd w b)) b)
   unfolding leftEnd
   left-found b h =
-      let best = best-below (w .n) (λ i. isOverloaded w (w .r i) b) _ (larger-ranks (w .r)) (w .n) (omega arith) h in
+      let best = best-below (w .n) (leftOf w b) _ (larger-ranks (w .r)) (w .n) (omega arith) h in
       let z = and-eq-true-iff (ltb (w .r (leftEnd w b)) b) _ .0 (best .passes) in
       (ltb-true _ _ (z .0), ltb-true _ _ (z .1))
 
@@ -33,14 +33,14 @@ module _ (w : Windows) where
       let h = o .earliest .1 in
       let e = o .earliest .2 in
       let passes : isOverloaded w (w .r i) b ≡ true = rw e (simp (lt-ltb _ _ (o .interval), lt-ltb _ _ (o .exceeds))) in
-      let best = best-some (w .n) (λ i. isOverloaded w (w .r i) b) _ (larger-ranks (w .r)) (w .n) (omega arith) i h passes in
+      let best = best-some (w .n) (leftOf w b) _ (larger-ranks (w .r)) (w .n) (omega arith) i h passes in
       (best .below, rw (← e) (best-largest (w .n) _ (w .r) _ best i h passes))
 
   -- the right end found is below n exactly if there is one, and is then the smallest
   pub right-found : rightEnd w < w .n → leftEnd w (w .d (rightEnd w)) < w .n
   unfolding rightEnd
   right-found h =
-      let best = best-below (w .n) (λ j. ltb (leftEnd w (w .d j)) (w .n)) _ (smaller-ranks (w .d)) (w .n) (omega arith) h in
+      let best = best-below (w .n) (rightOf w) _ (smaller-ranks (w .d)) (w .n) (omega arith) h in
       ltb-true _ _ (best .passes)
 
   right-smallest : (a b : ℕ) → Overloaded w a b → (rightEnd w < w .n) × (w .d (rightEnd w) ≤ b)
@@ -50,7 +50,7 @@ module _ (w : Windows) where
       let h = o .latest .1 in
       let e = o .latest .2 in
       let passes : ltb (leftEnd w (w .d j)) (w .n) ≡ true = rw e (lt-ltb _ _ (left-largest a b o .0)) in
-      let best = best-some (w .n) (λ j. ltb (leftEnd w (w .d j)) (w .n)) _ (smaller-ranks (w .d)) (w .n) (omega arith) j h passes in
+      let best = best-some (w .n) (rightOf w) _ (smaller-ranks (w .d)) (w .n) (omega arith) j h passes in
       (best .below, rw (← e) (best-smallest (w .n) _ (w .d) _ best j h passes))
 
   -- what the two ends found are

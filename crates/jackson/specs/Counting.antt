@@ -1,4 +1,4 @@
--- Sums, counts and searches over the numbers below a bound.
+-- Sums, searches, scans and lists over the numbers below a bound.
 use Prim.Native.Nat.{ℕ, zero, suc, _+_}
 use mathlib.Core.Bool.{Bool, cond, _&&_, _||_}
 use mathlib.Core.List.{List, [], _∷_, _++_}
@@ -23,7 +23,7 @@ unfoldable pub lastBelow : ℕ → (ℕ → Bool) → ℕ
 lastBelow zero f = 0
 lastBelow (suc n) f = cond (f n) (suc n) (lastBelow n f)
 
--- i if it passes the test and there is no best so far, or it is strictly better than that, k; else k. `before` says which is better.
+-- the better of i and the best so far, k: i if it passes the test and k is none or i is strictly better (`before i k`), else k
 abbrev pub better : ℕ → (ℕ → Bool) → (ℕ → ℕ → Bool) → ℕ → ℕ → ℕ
 better none f before i k = cond (f i && (eqb k none || before i k)) i k
 

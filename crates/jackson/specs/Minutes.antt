@@ -33,7 +33,7 @@ module _ (s : State) where
   earliestDeadline = best idle (s .windows .n) isReady (smaller (s .windows .d))
 
   -- "The entry that had the minute before, if it has minutes left, goes on unless another d is strictly smaller." Its r was reached then;
-  -- of days that no one should make it is asked here
+  -- in other values of a day it may not be, so it is tested here
   abbrev pub goesOn : Bool
   goesOn = ltb (s .last) (s .windows .n) && (isReady (s .last) && not (ltb (s .windows .d earliestDeadline) (s .windows .d (s .last))))
 
@@ -41,7 +41,7 @@ module _ (s : State) where
   unfoldable pub chosen : ℕ
   chosen = cond goesOn (s .last) earliestDeadline
 
--- one minute less for the entry at place k, if k is a place
+-- one minute less at k; idle is no place, so then no entry has less
 abbrev pub lessOne : Windows → ℕ → Windows
 lessOne w k = withLeft w (λ i. w .p i - same k i)
 
@@ -49,12 +49,13 @@ lessOne w k = withLeft w (λ i. w .p i - same k i)
 abbrev pub after : State → ℕ → State
 after s k = record { windows = lessOne (s .windows) k; t = s .t + 1; last = k }
 
--- "Each minute takes the day's state and gives the next one." A day past its end is idle and stays as it is.
-pub record Advance : Type 0 where
+-- what a minute gives
+pub record MinuteAnswer : Type 0 where
   pub place : ℕ
   pub next : State
 
-unfoldable pub minuteOf : State → Advance
+-- "Each minute takes the day's state and gives the next one." A day past its end is idle and stays as it is.
+unfoldable pub minuteOf : State → MinuteAnswer
 minuteOf s =
     cond (ltb (s .t) (s .windows .h))
     (let k = chosen s in record { place = k; next = after s k })

@@ -1,4 +1,4 @@
--- "the mirror (minute t becomes H-1-t, [r, d) becomes [H-d, H-r), places kept)". Numbers that are no places stay as they are.
+-- "the mirror (minute t becomes H-1-t, [r, d) becomes [H-d, H-r), places kept)". From place n on r and d stay as they are.
 use Prim.Native.Nat.{ℕ, suc, _-_}
 use mathlib.Core.Bool.{cond}
 use mathlib.Core.List.{List}

@@ -13,7 +13,8 @@ abbrev pub minutesOf : ℕ → (ℕ → ℕ) → ℕ → ℕ
 minutesOf h m i = sum h (λ t. same (m t) i)
 
 -- "A plan gives each minute 0 to H-1 to one entry or none; entry i has exactly p minutes, all in [r, d)."
--- m t is the place that has minute t; a number that is no place is none.
+-- m t is the place that has minute t; a number that is no place is none. "A plan may break a whole entry.": kinds are no part of the
+-- windows, and an entry's minutes need not be consecutive.
 pub record Plan (w : Windows) (m : ℕ → ℕ) : Type 0 where
   pub exact : (i : ℕ) → i < w .n → minutesOf (w .h) m i ≡ w .p i
   pub inside : (i t : ℕ) → i < w .n → t < w .h → m t ≡ i → (w .r i ≤ t) × (t < w .d i)
@@ -39,7 +40,7 @@ pub record IsStart (h : ℕ) (m : ℕ → ℕ) (i s : ℕ) : Type 0 where
   pub minute : m s ≡ i
   pub none-before : (t : ℕ) → t < s → m t ≡ i → ⊥
 
--- "A plan is H bytes: the place, or 255 for idle."
+-- the byte of a minute that no entry has
 abbrev pub idle : ℕ
 idle = 255
 
@@ -47,6 +48,7 @@ idle = 255
 abbrev pub placesIn : List ℕ → ℕ → ℕ
 placesIn bytes t = getD bytes t idle
 
+-- "A plan is H bytes: the place, or 255 for idle."
 pub record PlanBytes (w : Windows) (bytes : List ℕ) : Type 0 where
   pub long : length bytes ≡ w .h
   pub places : (t : ℕ) → t < w .h → (placesIn bytes t < w .n) ⊎ (placesIn bytes t ≡ idle)

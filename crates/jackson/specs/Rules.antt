@@ -16,14 +16,14 @@ pub record Ready (w : Windows) (t i : ℕ) : Type 0 where
 
 -- "at each minute, among entries with r reached and minutes left, take the smallest d"; none is taken only if there is none.
 -- w .p is the minutes left. This says nothing of ties: the law on plans holds for every rule of this kind.
-pub record LeastDeadline (w : Windows) (t k : ℕ) : Type 0 where
+pub record EarliestDeadlineFirst (w : Windows) (t k : ℕ) : Type 0 where
   pub taken : k < w .n → Ready w t k
   pub least : (i : ℕ) → k < w .n → Ready w t i → w .d k ≤ w .d i
   pub none : (i : ℕ) → w .n ≤ k → Ready w t i → ⊥
 
 -- the rule with its ties
 pub record Takes (s : State) (k : ℕ) : Type 0 where
-  pub deadline : LeastDeadline (s .windows) (s .t) k
+  pub deadline : EarliestDeadlineFirst (s .windows) (s .t) k
   -- "The entry that had the minute before, if it has minutes left, goes on unless another d is strictly smaller."
   pub goes-on : Ready (s .windows) (s .t) (s .last)
       → ((i : ℕ) → Ready (s .windows) (s .t) i → s .windows .d i < s .windows .d (s .last) → ⊥)
@@ -41,7 +41,7 @@ pub record Follows (w : Windows) (t₀ : ℕ) (m : ℕ → ℕ) (left : ℕ → 
   pub before : (t : ℕ) → t < t₀ → w .n ≤ m t
   pub start : (i : ℕ) → i < w .n → left t₀ i ≡ w .p i
   pub next : (t i : ℕ) → t₀ ≤ t → t < w .h → i < w .n → left (suc t) i ≡ left t i - same (m t) i
-  pub takes : (t : ℕ) → t₀ ≤ t → t < w .h → LeastDeadline (withLeft w (left t)) t (m t)
+  pub takes : (t : ℕ) → t₀ ≤ t → t < w .h → EarliestDeadlineFirst (withLeft w (left t)) t (m t)
 
 -- the law of Jackson's preemptive schedule, for at most 255 windows that have room: it is a plan exactly if there is one, and each of
 -- its minutes has the place that the rule takes

@@ -12,6 +12,6 @@ abbrev pub arrived : ℕ → ℕ → List ℕ → List ℕ → List ℕ → Stat
 arrived n t r d left = record { windows = columns 0 n r d left; t = t; last = idle }
 
 -- the day after place k, or none, had its minute
-pub record Advanced (day : Day) (k : ℕ) (next : Day) : Type 0 where
+pub record IsAfter (day : Day) (k : ℕ) (next : Day) : Type 0 where
   pub state : stateOf next ≡ after (stateOf day) k
   pub n : next .windows .n ≡ day .windows .n

@@ -18,7 +18,7 @@ ghost use Rattle.jackson.specs.Minutes.{stateOf, placeAt};
 ghost use Rattle.jackson.specs.Planning.{Starts, Fills};
 
 // A day's first state.
-fn first_minute(windows: WindowSet) -> Day
+fn day_start(windows: WindowSet) -> Day
     ensures { λ day. ⌜ day ≡ record { windows = windows; t = 0; last = idle } ⌝ }
 {
     Day {
@@ -36,12 +36,12 @@ pub fn start_day(list: DayList) -> DayAnswer
     let Verdict::Accepted = verdict else {
         return DayAnswer {
             verdict: verdict,
-            day: first_minute(no_windows()),
+            day: day_start(no_windows()),
         };
     };
     DayAnswer {
         verdict: verdict,
-        day: first_minute(untested_windows(list)),
+        day: day_start(untested_windows(list)),
     }
 }
 

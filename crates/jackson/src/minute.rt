@@ -13,7 +13,7 @@ ghost use Rattle.jackson.specs.Windows.{windowsIn};
 ghost use Rattle.jackson.specs.Plans.{idle};
 ghost use Rattle.jackson.specs.Minutes.{isReady, earliestDeadline, chosen};
 ghost use Rattle.jackson.specs.Planning.{Advances};
-ghost use Rattle.jackson.specs.Steps.{arrived, Advanced};
+ghost use Rattle.jackson.specs.Steps.{arrived, IsAfter};
 
 // An entry has its r reached and minutes left.
 fn is_ready(t: u16, r: u16, left: u16) -> bool
@@ -22,7 +22,7 @@ fn is_ready(t: u16, r: u16, left: u16) -> bool
     if r <= t { 0 < left } else { false }
 }
 
-// The better of place i and the best so far, 255 for none: the ready one with the smaller d, else the lower.
+// The better of place i and the best so far, k or 255 for none: i if it is ready and its d is smaller, else k.
 fn sooner(i: usize, k: u8, t: u16, r: &[u16; 64], d: &[u16; 64], left: &[u16; 64]) -> u8
     requires { ⌜ i < 64 ⌝ }
     requires { ⌜ ((k ≡ idle → ⊥) → k < 64) ⌝ }
@@ -85,7 +85,7 @@ fn one_less(x: u16) -> u16
 // The day after place k, or none, had its minute.
 fn advanced(day: Day, k: u8) -> Day
     requires { ⌜ day .t < 65535 ⌝ }
-    ensures { λ next. ⌜ Advanced day k next ⌝ }
+    ensures { λ next. ⌜ IsAfter day k next ⌝ }
 {
     let mut windows = day.windows;
     let place = k as usize;

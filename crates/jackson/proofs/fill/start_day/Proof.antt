@@ -17,20 +17,20 @@ enum-told-2 c = search needs
 no-windows-requires : tie.Need-no-windows-requires
 no-windows-requires c κs = search needs
 
-first-minute-requires : tie.Need-first-minute-requires
-first-minute-requires c κs = search needs
+day-start-requires : tie.Need-day-start-requires
+day-start-requires c κs = search needs
 
 returns : tie.Need-returns
-returns c = not-started (c .before .before .before .before .before .args .list) (c .before .before .before .before .check .result) (c .before .before .before .before .check .ensures) (c .before .no-windows .result) (c .first-minute .result) (c .first-minute .ensures) _ (c .before .before .enum-told2 .given .1) (c .before .no-windows .ensures)
+returns c = not-started (c .before .before .before .before .before .args .list) (c .before .before .before .before .check .result) (c .before .before .before .before .check .ensures) (c .before .no-windows .result) (c .day-start .result) (c .day-start .ensures) _ (c .before .before .enum-told2 .given .1) (c .before .no-windows .ensures)
 
 untested-windows-requires : tie.Need-untested-windows-requires
 untested-windows-requires c κs = search needs
 
-first-minute-requires-2 : tie.Need-first-minute-requires-2
-first-minute-requires-2 c κs = search needs
+day-start-requires-2 : tie.Need-day-start-requires-2
+day-start-requires-2 c κs = search needs
 
 returns-2 : tie.Need-returns-2
-returns-2 c = started (c .before .before .before .before .before .args .list) (c .before .before .before .before .check .result) (c .before .before .before .before .check .ensures) (c .before .untested-windows .result) (c .first-minute2 .result) (c .first-minute2 .ensures) (c .before .before .enum-told .given .1) (c .before .untested-windows .ensures)
+returns-2 c = started (c .before .before .before .before .before .args .list) (c .before .before .before .before .check .result) (c .before .before .before .before .check .ensures) (c .before .untested-windows .result) (c .day-start2 .result) (c .day-start2 .ensures) (c .before .before .enum-told .given .1) (c .before .untested-windows .ensures)
 
 pub start-day-spec : {M : Type 1} → statement M
 start-day-spec =
@@ -40,8 +40,8 @@ start-day-spec =
     enum-told
     enum-told-2
     no-windows-requires
-    first-minute-requires
+    day-start-requires
     returns
     untested-windows-requires
-    first-minute-requires-2
+    day-start-requires-2
     returns-2)
