@@ -2,9 +2,9 @@
 //! the entry's place", then 11, then 9.
 
 use dock_tests::check::{not_planned, overload, schedule, test_refused};
-use dock_tests::day::{Entry, MOST_ENTRIES};
+use dock_tests::day::MOST_ENTRIES;
 use dock_tests::flat::{self, Fields};
-use dock_tests::samples::{day, entry, value};
+use dock_tests::samples::{day, entry, value, wrong_at_each_place};
 
 /// More room than any day needs.
 const ROOM: usize = 2000;
@@ -77,24 +77,21 @@ fn the_header_comes_before_the_entries() {
     refused(&value(100, 64, &wrong), 6, 0);
 }
 
-/// One entry of a full day is made wrong, at each place in turn.
-fn wrong_at_each_place(number: u32, spoil: fn(&mut Entry)) {
-    for place in 0..MOST_ENTRIES {
-        let mut entries = vec![entry(0, 100, 1); MOST_ENTRIES];
-        spoil(&mut entries[place]);
-        refused(&day(&entries), number, place);
+#[test]
+fn no_minutes_is_6_with_the_entrys_place() {
+    for (place, fields) in wrong_at_each_place(|entry| entry.p = 0) {
+        refused(&fields, 6, place);
     }
 }
 
 #[test]
-fn no_minutes_is_6_with_the_entrys_place() {
-    wrong_at_each_place(6, |entry| entry.p = 0);
-}
-
-#[test]
 fn a_wrong_window_is_7_with_the_entrys_place() {
-    wrong_at_each_place(7, |entry| entry.d = 101);
-    wrong_at_each_place(7, |entry| entry.p = 101);
+    for (place, fields) in wrong_at_each_place(|entry| entry.d = 101) {
+        refused(&fields, 7, place);
+    }
+    for (place, fields) in wrong_at_each_place(|entry| entry.p = 101) {
+        refused(&fields, 7, place);
+    }
 }
 
 #[test]

@@ -3,7 +3,7 @@
 use dock_tests::check::{not_written, number, write, written};
 use dock_tests::day::{Entry, MOST_ENTRIES};
 use dock_tests::random::{self, Random};
-use dock_tests::samples::{day, entry, hex, value};
+use dock_tests::samples::{day, entry, hex, value, wrong_at_each_place};
 
 /// More room than any list needs.
 const ROOM: usize = 1000;
@@ -41,23 +41,18 @@ fn the_header_comes_before_the_entries() {
     not_written(&value(100, 64, &wrong), ROOM, 6, 0);
 }
 
-/// One entry of a full day is made wrong, at each place in turn.
-fn wrong_at_each_place(number: u32, spoil: fn(&mut Entry)) {
-    for place in 0..MOST_ENTRIES {
-        let mut entries = vec![entry(0, 100, 1); MOST_ENTRIES];
-        spoil(&mut entries[place]);
-        not_written(&day(&entries), ROOM, number, place);
+#[test]
+fn no_minutes_is_6_with_the_entrys_place() {
+    for (place, fields) in wrong_at_each_place(|entry| entry.p = 0) {
+        not_written(&fields, ROOM, 6, place);
     }
 }
 
 #[test]
-fn no_minutes_is_6_with_the_entrys_place() {
-    wrong_at_each_place(6, |entry| entry.p = 0);
-}
-
-#[test]
 fn a_wrong_window_is_7_with_the_entrys_place() {
-    wrong_at_each_place(7, |entry| entry.d = 101);
+    for (place, fields) in wrong_at_each_place(|entry| entry.d = 101) {
+        not_written(&fields, ROOM, 7, place);
+    }
 }
 
 #[test]

@@ -1,4 +1,4 @@
--- What the calls leave, from what the crate list answers.
+-- What the calls leave, from what the crates list and jackson answer.
 -- Assumes nothing.
 use mathlib.Core.Path.{_≡_, sym, ap, subst, _∙_}
 use mathlib.Core.List.{List, [], _∷_}

@@ -87,3 +87,10 @@ module _ {a b : DayList} (s : SameWindows a b) where
       go : (o : Outcome (Unit {0})) → windowsOf (listBeside o a) ≡ windowsOf (listBeside o b)
       go (answered t) = alike-windows
       go (refused k) = refl
+
+  pub alike-counted : listBeside (checkOf a) a .n ≡ listBeside (checkOf b) b .n
+  alike-counted = rw alike-checked (go (checkOf b))
+    where
+      go : (o : Outcome (Unit {0})) → listBeside o a .n ≡ listBeside o b .n
+      go (answered t) = s .n
+      go (refused k) = refl

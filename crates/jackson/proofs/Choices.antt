@@ -120,7 +120,3 @@ not-above s j k a b = go (decLt j (s .windows .n)) (decLt k (s .windows .n)) (�
 
 pub takes-one : (s : State) (j k : ℕ) → Takes s j → Takes s k → j ≡ k
 takes-one s j k a b = le-antisymm (not-above s j k a b) (not-above s k j b a)
-
--- so the rule takes the place chosen, and no other
-pub takes-chosen : (s : State) (k : ℕ) → s .windows .n ≤ 255 → Takes s k → k ≡ chosen s
-takes-chosen s k few h = takes-one s k (chosen s) h (chosen-takes s few)
