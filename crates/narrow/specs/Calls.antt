@@ -1,0 +1,73 @@
+-- Narrowing a list: what the calls answer.
+use Prim.Native.Nat.{ℕ, _+_}
+use mathlib.Core.Path.{_≡_}
+use mathlib.Core.Bool.{Bool, true, false}
+use mathlib.Core.List.{List, [], _∷_}
+use lib.ListN.{getD}
+use Rattle.list.specs.Outcomes.{Code, Outcome, answered, refused, andThen}
+use Rattle.list.specs.Refusals.{codeOf}
+use Rattle.list.specs.DayLists.{entriesOf, blank, dayList, emptyList}
+use Rattle.list.specs.Checks.{checkOf, WellFormed}
+use Rattle.list.specs.declared.types.Kind.{Kind}
+use Rattle.list.specs.declared.types.Kind.the-variants.{Pause, Whole}
+use Rattle.list.specs.declared.types.Entry.{Entry}
+use Rattle.list.specs.declared.types.DayList.{DayList}
+use Rattle.list.specs.declared.types.Verdict.{Verdict}
+use Rattle.list.specs.declared.types.Verdict.the-variants.{Accepted, Refused}
+use Rattle.jackson.specs.Windows.{Windows, windowsOf}
+use Rattle.jackson.specs.Intervals.{ShowsOverload, overloadOf}
+use Rattle.narrow.specs.Rounds.{Narrowed, unmoved, round, narrowing}
+use Rattle.narrow.specs.Laws.{NarrowLaw}
+use Rattle.narrow.specs.declared.types.NarrowAnswer.{NarrowAnswer}
+
+-- "the entry is whole (unpausable)"
+abbrev pub isWhole : Kind → Bool
+isWhole Pause = false
+isWhole Whole = true
+
+abbrev pub wholeIn : DayList → ℕ → Bool
+wholeIn l i = isWhole (getD (entriesOf l) i blank .kind)
+
+-- an entry with another window
+abbrev pub withTimes : Entry → ℕ → ℕ → Entry
+withTimes e r d = record { serial = e .serial; seal = e .seal; r = r; d = d; p = e .p; kind = e .kind }
+
+-- entries with the windows of w, the first at place i
+unfoldable pub entriesWith : Windows → ℕ → List Entry → List Entry
+entriesWith w i [] = []
+entriesWith w i (e ∷ es) = withTimes e (w .r i) (w .d i) ∷ entriesWith w (i + 1) es
+
+-- the list with the windows of w
+unfoldable pub listWith : DayList → Windows → DayList
+listWith l w = dayList (l .frame) (entriesWith w 0 (entriesOf l))
+
+-- narrowing a list: the value check, row 9, then rounds and row 10
+unfoldable pub settleOf : DayList → Outcome Narrowed
+settleOf l = andThen (checkOf l) (λ _. narrowing overloadOf (wholeIn l) (windowsOf l))
+
+-- one round: the value check, then the round and row 10
+unfoldable pub roundOf : DayList → Outcome Narrowed
+roundOf l = andThen (checkOf l) (λ _. round overloadOf (wholeIn l) (unmoved (windowsOf l)))
+
+-- the list with the windows answered, and the moves
+abbrev pub listed : DayList → Outcome Narrowed → Outcome (DayList × ℕ)
+listed l o = andThen o (λ v. answered (listWith l (v .windows), v .moves))
+
+-- the answer of a call
+abbrev pub outcomeIn : Verdict → DayList × ℕ → Outcome (DayList × ℕ)
+outcomeIn Accepted a = answered a
+outcomeIn (Refused x) a = refused (codeOf x)
+
+abbrev pub narrowAnswerOf : NarrowAnswer → Outcome (DayList × ℕ)
+narrowAnswerOf a = outcomeIn (a .verdict) (a .list, a .moves)
+
+-- what stands in it: the list and the moves, or the empty list and 0 beside a refusal
+abbrev pub standing : Outcome (DayList × ℕ) → DayList × ℕ
+standing (answered a) = a
+standing (refused k) = (emptyList, 0)
+
+-- an answer with this outcome of the list l
+pub record AnswersAs (l : DayList) (o : Outcome Narrowed) (a : NarrowAnswer) : Type 0 where
+  pub outcome : narrowAnswerOf a ≡ listed l o
+  pub beside : (a .list, a .moves) ≡ standing (listed l o)
+  pub windows : (v : Narrowed) → o ≡ answered v → windowsOf (a .list) ≡ v .windows

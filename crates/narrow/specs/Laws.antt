@@ -1,0 +1,52 @@
+-- What narrowing answers, over all sets of windows, all plans and all lists of steps.
+use Prim.Native.Nat.{ℕ, _+_, _<_, _≤_}
+use mathlib.Core.Path.{_≡_}
+use mathlib.Core.Logic.{_↔_, _⊎_}
+use mathlib.Core.Bool.{Bool, true}
+use mathlib.Core.List.{List, [], _∷_}
+use Rattle.list.specs.Outcomes.{Code, code, Outcome, answered, refused}
+use Rattle.jackson.specs.Windows.{Windows, Inside, withWindows}
+use Rattle.jackson.specs.Plans.{Plan}
+use Rattle.jackson.specs.Existence.{Plannable}
+use Rattle.narrow.specs.Searching.{Test, SearchLaw}
+use Rattle.narrow.specs.Settling.{NoneSettled, Widest, Unbroken, minutesCut}
+use Rattle.narrow.specs.Rounds.{Narrowed, unmoved, Rounds}
+use Rattle.narrow.specs.StepLists.{Step, NamesWhole, stepsLeave, someRefused, Completes}
+
+-- windows as the value check lets them through: at most 255 entries, each of which needs a minute and has room in the day
+pub record Formed (w : Windows) : Type 0 where
+  pub few : w .n ≤ 255
+  pub minutes : (i : ℕ) → i < w .n → 1 ≤ w .p i
+  pub in-day : (i : ℕ) → i < w .n → w .d i ≤ w .h
+  pub room : (i : ℕ) → i < w .n → w .r i + w .p i ≤ w .d i
+
+-- why narrowing w is turned back: the test's own refusal of the given windows, where no plan exists, or row 10 with a whole entry's place,
+-- where one does
+abbrev pub Reason : Test → (ℕ → Bool) → Windows → Code → Type 0
+Reason test whole w k =
+    ((test w ≡ refused k) × (Plannable w → ⊥))
+    ⊎ ((i : ℕ) × (i < w .n) × (whole i ≡ true) × (k ≡ code 10 (i ∷ [])) × Plannable w)
+
+-- the outcome o of narrowing the given windows w
+pub record NarrowLaw (test : Test) (whole : ℕ → Bool) (w : Windows) (o : Outcome Narrowed) : Type 0 where
+  -- a search, in any windows with room inside those given, answers the minute of which document 01 speaks
+  pub searches : (r d : ℕ → ℕ) → Formed (withWindows w r d) → Inside (withWindows w r d) w → (k : ℕ) → k < w .n → SearchLaw test (withWindows w r d) k
+  -- the answer is that of the rounds as document 01 has them
+  pub by-rounds : Plannable w → Rounds test whole (unmoved w) o
+  -- it is the widest settled set of windows inside those given
+  pub widest : (v : Narrowed) → o ≡ answered v → Widest whole w (v .windows)
+  -- or a refusal, exactly when there is none
+  pub refused-exactly : ((k : Code) × (o ≡ refused k)) ↔ NoneSettled whole w
+  pub reason : (k : Code) → o ≡ refused k → Reason test whole w k
+  -- lists of steps: if one is refused then the rounds give 10
+  pub steps-refused : Plannable w → (ss : List Step) → NamesWhole whole (w .n) ss → someRefused test ss w ≡ true → (i : ℕ) × (o ≡ refused (code 10 (i ∷ [])))
+  -- if none is and nothing is left to do, the rounds answer these windows
+  pub steps-settled : Plannable w → (ss : List Step) → Completes test whole w ss → (moves : ℕ) × (o ≡ answered (record { windows = stepsLeave test ss w; moves = moves }))
+  -- so two such lists leave the same windows, and if some list meets a refusal there is no such list
+  pub order-free : Plannable w → (ss xs : List Step) → Completes test whole w ss → Completes test whole w xs → stepsLeave test ss w ≡ stepsLeave test xs w
+  pub refused-once : Plannable w → (ss xs : List Step) → NamesWhole whole (w .n) ss → someRefused test ss w ≡ true → Completes test whole w xs → ⊥
+  -- plans that keep all whole entries in one piece are kept, and under a refusal there is none
+  pub unbroken-kept : (v : Narrowed) → o ≡ answered v → (m : ℕ → ℕ) → Plan w m → Unbroken whole w m → Plan (v .windows) m
+  pub unbroken-none : (k : Code) → o ≡ refused k → (m : ℕ → ℕ) → Plan w m → Unbroken whole w m → ⊥
+  -- each move cuts a minute
+  pub moves-cut : (v : Narrowed) → o ≡ answered v → v .moves ≤ minutesCut w (v .windows)

@@ -1,0 +1,6 @@
+pub mod Searching
+pub mod Settling
+pub mod Rounds
+pub mod StepLists
+pub mod Laws
+pub mod Calls

@@ -1,0 +1,88 @@
+-- The two searches of a visit, for an entry's r and for its d.
+use Prim.Native.Nat.{ℕ, suc, _+_, _-_, _<_, _≤_}
+use mathlib.Core.Path.{_≡_}
+use mathlib.Core.Logic.{_↔_}
+use mathlib.Core.Bool.{Bool, true, false, cond}
+use mathlib.Core.List.{[], _∷_}
+use lib.Dec.{eqb}
+use Rattle.list.specs.Outcomes.{code, Outcome, answered, refused, row, firstOf}
+use Rattle.jackson.specs.Counting.{firstBelow}
+use Rattle.jackson.specs.Windows.{Windows, withWindows}
+use Rattle.jackson.specs.Existence.{Plannable}
+
+-- a planner's test of windows: narrowing asks only whether it accepts them
+abbrev pub Test : Type 0
+Test = Windows → Outcome (Unit {0})
+
+abbrev pub accepts : {A : Type 0} → Outcome A → Bool
+accepts (answered a) = true
+accepts (refused k) = false
+
+-- f, but x at place k
+abbrev pub put : ℕ → ℕ → (ℕ → ℕ) → ℕ → ℕ
+put k x f i = cond (eqb i k) x (f i)
+
+-- the windows with another r, with another d of entry k
+abbrev pub withR : Windows → ℕ → ℕ → Windows
+withR w k s = withWindows w (put k s (w .r)) (w .d)
+
+abbrev pub withD : Windows → ℕ → ℕ → Windows
+withD w k e = withWindows w (w .r) (put k e (w .d))
+
+-- the windows "when its window is [s, s + p) and the others keep theirs"
+abbrev pub fixedAt : Windows → ℕ → ℕ → Windows
+fixedAt w k s = withWindows w (put k s (w .r)) (put k (s + w .p k) (w .d))
+
+-- how many starts s, from its r up, have s + p at most its d; as many ends e, from its d down, have r + p at most e
+abbrev pub trials : Windows → ℕ → ℕ
+trials w k = suc (w .d k) - (w .r k + w .p k)
+
+-- "the search ends at the first start that has a plan": how many starts before it have none, or the number of trials
+unfoldable pub startsSkipped : Test → Windows → ℕ → ℕ
+startsSkipped test w k = firstBelow (trials w k) (λ j. accepts (test (fixedAt w k (w .r k + j))))
+
+-- "a plan exists when its window is [e - p, e)": how many ends before the first that has one have none, or the number of trials
+unfoldable pub endsSkipped : Test → Windows → ℕ → ℕ
+endsSkipped test w k = firstBelow (trials w k) (λ j. accepts (test (fixedAt w k (w .d k - j - w .p k))))
+
+-- "its r becomes the least s ..; or the list is refused", by row 10, which carries the place
+unfoldable pub leastStart : Test → Windows → ℕ → Outcome ℕ
+leastStart test w k =
+    let j = startsSkipped test w k in
+    firstOf (row 10 (eqb j (trials w k)) k ∷ []) (answered (w .r k + j))
+
+-- "Then its d becomes the greatest e"
+unfoldable pub greatestEnd : Test → Windows → ℕ → Outcome ℕ
+greatestEnd test w k =
+    let j = endsSkipped test w k in
+    firstOf (row 10 (eqb j (trials w k)) k ∷ []) (answered (w .d k - j))
+
+-- What they find, said of plans and not of the test.
+
+-- "the least s, from its r up, with s + p at most its d, for which a plan exists when its window is [s, s + p) and the others keep theirs"
+pub record IsLeastStart (w : Windows) (k s : ℕ) : Type 0 where
+  pub from-r : w .r k ≤ s
+  pub room : s + w .p k ≤ w .d k
+  pub plan : Plannable (fixedAt w k s)
+  pub least : (x : ℕ) → w .r k ≤ x → x < s → Plannable (fixedAt w k x) → ⊥
+
+abbrev pub NoStart : Windows → ℕ → Type 0
+NoStart w k = (s : ℕ) → w .r k ≤ s → s + w .p k ≤ w .d k → Plannable (fixedAt w k s) → ⊥
+
+-- "the greatest e, from its d down, with the r just found plus p at most e, for which a plan exists when its window is [e - p, e) and
+-- the others keep theirs"
+pub record IsGreatestEnd (w : Windows) (k e : ℕ) : Type 0 where
+  pub to-d : e ≤ w .d k
+  pub room : w .r k + w .p k ≤ e
+  pub plan : Plannable (fixedAt w k (e - w .p k))
+  pub greatest : (x : ℕ) → e < x → x ≤ w .d k → Plannable (fixedAt w k (x - w .p k)) → ⊥
+
+abbrev pub NoEnd : Windows → ℕ → Type 0
+NoEnd w k = (e : ℕ) → e ≤ w .d k → w .r k + w .p k ≤ e → Plannable (fixedAt w k (e - w .p k)) → ⊥
+
+-- a search answers the minute exactly when it is the one, and refuses exactly when there is none
+pub record SearchLaw (test : Test) (w : Windows) (k : ℕ) : Type 0 where
+  pub start-is : (s : ℕ) → (leastStart test w k ≡ answered s) ↔ IsLeastStart w k s
+  pub no-start : (leastStart test w k ≡ refused (code 10 (k ∷ []))) ↔ NoStart w k
+  pub end-is : (e : ℕ) → (greatestEnd test w k ≡ answered e) ↔ IsGreatestEnd w k e
+  pub no-end : (greatestEnd test w k ≡ refused (code 10 (k ∷ []))) ↔ NoEnd w k

@@ -1,0 +1,2 @@
+// Narrowing (document 01, "Narrowing").
+pub mod types;
