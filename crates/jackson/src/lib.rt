@@ -12,4 +12,5 @@ pub use fill::schedule;
 pub use fill::start_day;
 pub use interval::overload;
 pub use interval::untested_overload;
+pub use window_set::places_held;
 pub use window_set::untested_windows;

@@ -8,7 +8,7 @@ ghost use Rattle.list.specs.DayLists.{emptyList};
 ghost use Rattle.jackson.specs.Testing.{Holds};
 
 // How many of n places the arrays have.
-pub(crate) fn places_held(n: u8) -> usize
+pub fn places_held(n: u8) -> usize
     ensures { λ k. ⌜ k ≡ min n 64 ⌝ }
 {
     if n < 64 { n as usize } else { 64 }

@@ -7,7 +7,8 @@ use crate::types::Seal;
 ghost use mathlib.Core.Path.{_≡_};
 ghost use Rattle.list.specs.DayLists.{emptyList};
 
-pub(crate) fn empty_list() -> DayList
+// The list that stands beside a refusal.
+pub fn empty_list() -> DayList
     ensures { λ l. ⌜ l ≡ emptyList ⌝ }
 {
     let blank = Entry {

@@ -1,1 +1,3 @@
 mod Planners
+mod ArrayCases
+mod SearchCases

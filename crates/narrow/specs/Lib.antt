@@ -4,3 +4,4 @@ pub mod Rounds
 pub mod StepLists
 pub mod Laws
 pub mod Calls
+pub mod Parts

@@ -1,0 +1,60 @@
+-- The loop's invariant is `Turning`, the measure what is left of the entries.
+-- Assumes nothing.
+use borrow.Author.Needs.{needs}
+use Prim.Native.Nat.{_-_}
+use Rattle.narrow.proofs.ArrayCases.{Turning, turn-start, turn-next, turn-done}
+use Rattle.narrow.proofs.mirror.turned.Statement.{statement}
+use Rattle.narrow.proofs.mirror.turned.Tie as tie
+
+abbrev Inv-loop : tie.InvT-loop
+Inv-loop h count other xs₀ i₀ xs i = Turning h count xs₀ other xs i
+
+abbrev μ-loop : tie.MeasureT-loop
+μ-loop h count other xs₀ i₀ xs i = count - i
+
+loop-holds : tie.Need-loop-holds Inv-loop μ-loop
+loop-holds c = turn-start _ _ _ _ (c .pre) (search needs)
+
+mul-minutes-after : tie.Need-mul-minutes-after Inv-loop μ-loop
+mul-minutes-after c = search needs
+
+element-copy-out-minutes-after : tie.Need-element-copy-out-minutes-after Inv-loop μ-loop
+element-copy-out-minutes-after c = search needs
+
+minutes-after-requires : tie.Need-minutes-after-requires Inv-loop μ-loop
+minutes-after-requires c κs = search needs
+
+mul-xs : tie.Need-mul-xs Inv-loop μ-loop
+mul-xs c = search needs
+
+array-write-xs : tie.Need-array-write-xs Inv-loop μ-loop
+array-write-xs c = search needs
+
+add-i : tie.Need-add-i Inv-loop μ-loop
+add-i c = search needs
+
+loop-less : tie.Need-loop-less Inv-loop μ-loop
+loop-less c = search needs
+
+loop-again : tie.Need-loop-again Inv-loop μ-loop
+loop-again c = turn-next _ _ _ _ _ _ _ (c .before .before .before .loop .inv) (c .before .before .loop-test .taken) (c .minutes-after .ensures)
+
+returns : tie.Need-returns Inv-loop μ-loop
+returns c = turn-done _ _ _ _ _ _ (c .before .loop .inv) (c .loop-test .left)
+
+pub turned-spec : {M : Type 1} → statement M
+turned-spec =
+    tie.close
+    (tie.spec
+    Inv-loop
+    μ-loop
+    loop-holds
+    mul-minutes-after
+    element-copy-out-minutes-after
+    minutes-after-requires
+    mul-xs
+    array-write-xs
+    add-i
+    loop-less
+    loop-again
+    returns)

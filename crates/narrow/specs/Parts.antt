@@ -1,0 +1,52 @@
+-- What the code's own functions answer, as the outcomes of the rules. Nothing that another crate must believe.
+use Prim.Native.Nat.{ℕ, _+_, _-_, _<_, _≤_}
+use mathlib.Core.Path.{_≡_}
+use mathlib.Core.Bool.{cond}
+use mathlib.Core.List.{List, [], _∷_}
+use lib.Dec.{ltb}
+use lib.ListN.{getD}
+use Rattle.list.specs.Outcomes.{code, Outcome, answered, refused}
+use Rattle.list.specs.Refusals.{codeOf}
+use Rattle.list.specs.declared.types.DayList.{DayList}
+use Rattle.list.specs.declared.types.Verdict.{Verdict}
+use Rattle.list.specs.declared.types.Verdict.the-variants.{Accepted, Refused}
+use Rattle.jackson.specs.Windows.{windowsIn}
+use Rattle.jackson.specs.declared.types.WindowSet.{WindowSet}
+use Rattle.narrow.specs.Rounds.{Narrowed, slack}
+use Rattle.narrow.specs.Laws.{Formed}
+use Rattle.narrow.specs.Calls.{wholeIn}
+use Rattle.narrow.specs.declared.search.Found.{Found}
+use Rattle.narrow.specs.declared.search.Found.the-variants.{Minute, NoMinute}
+use Rattle.narrow.specs.declared.rounds.Narrowing.{Narrowing}
+
+-- the outcome of a search for entry k
+abbrev pub foundOf : ℕ → Found → Outcome ℕ
+foundOf k (Minute t) = answered t
+foundOf k NoMinute = refused (code 10 (k ∷ []))
+
+-- windows and moves, as the rules have them
+abbrev pub stateOf : WindowSet → ℕ → Narrowed
+stateOf s moves = record { windows = windowsIn s; moves = moves }
+
+-- the outcome of visits
+abbrev pub outcomeWith : Verdict → Narrowed → Outcome Narrowed
+outcomeWith Accepted s = answered s
+outcomeWith (Refused x) s = refused (codeOf x)
+
+abbrev pub narrowedOf : Narrowing → Outcome Narrowed
+narrowedOf a = outcomeWith (a .verdict) (stateOf (a .windows) (a .moves))
+
+-- arrays with windows that have room, and an entry
+pub record Searchable (s : WindowSet) (k : ℕ) : Type 0 where
+  pub formed : Formed (windowsIn s)
+  pub place : k < windowsIn s .n
+
+-- windows of a list's entries, and moves so few that counting on does not pass 32 bits: each further one takes one of the minutes left
+pub record Countable (l : DayList) (s : WindowSet) (moves : ℕ) : Type 0 where
+  pub formed : Formed (windowsIn s)
+  pub count : windowsIn s .n ≡ l .n
+  pub few : moves + slack (wholeIn l) (windowsIn s) ≤ 4194240
+
+-- one side of the mirrored windows: of the first count entries h minus the other side, of the rest the side as it is
+abbrev pub Turned : ℕ → ℕ → List ℕ → List ℕ → List ℕ → Type 0
+Turned h count side other xs = (i : ℕ) → getD xs i 0 ≡ cond (ltb i count) (h - getD other i 0) (getD side i 0)

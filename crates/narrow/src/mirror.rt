@@ -1,0 +1,53 @@
+// The mirror of windows.
+use jackson::places_held;
+use jackson::types::WindowSet;
+ghost use mathlib.Core.Path.{_≡_};
+ghost use mathlib.Core.Bool.{cond};
+ghost use Prim.Native.Nat.{ℕ, _-_, _≤_};
+ghost use lib.Dec.{ltb};
+ghost use lib.ListN.{getD, length};
+ghost use Rattle.jackson.specs.Windows.{windowsIn};
+ghost use Rattle.jackson.specs.Mirrors.{mirror};
+ghost use Rattle.narrow.specs.Parts.{Turned};
+
+// The minutes from x to the day's end.
+fn minutes_after(h: u16, x: u16) -> u16
+    ensures { λ y. ⌜ y ≡ h - x ⌝ }
+{
+    if h < x { 0 } else { h - x }
+}
+
+// One side of the mirrored windows: of the first count entries h minus the other side, of the rest the side as it is.
+fn turned(h: u16, count: usize, side: [u16; 64], other: &[u16; 64]) -> [u16; 64]
+    requires { ⌜ count ≤ 64 ⌝ }
+    ensures { λ xs. ⌜ Turned h count side (now (other .entry)) xs ⌝ }
+{
+    let mut xs = side;
+    let mut i: usize = 0;
+    while i < count {
+        xs[i] = minutes_after(h, other[i]);
+        i += 1;
+    }
+    xs
+}
+
+// "[r, d) becomes [H-d, H-r), places kept"
+pub(crate) fn mirrored(windows: WindowSet) -> WindowSet
+    ensures { λ w. ⌜ windowsIn w ≡ mirror (windowsIn windows) ⌝ }
+{
+    let h = windows.h;
+    let n = windows.n;
+    let count = places_held(n);
+    let r = windows.r;
+    let d = windows.d;
+    let p = windows.p;
+    let first = turned(h, count, r, &d);
+    let end = turned(h, count, d, &r);
+    WindowSet {
+        h: h,
+        n: n,
+        r: first,
+        d: end,
+        p: p,
+    }
+}

@@ -1,0 +1,150 @@
+// Visits and rounds.
+use crate::search::Found;
+use crate::search::greatest_end;
+use crate::search::least_start;
+use jackson::types::WindowSet;
+use list::types::DayList;
+use list::types::Kind;
+use list::types::Refusal;
+use list::types::Verdict;
+ghost use mathlib.Core.Path.{_≡_};
+ghost use mathlib.Core.List.{[], _∷_};
+ghost use Prim.Native.Nat.{suc, _<_};
+ghost use Rattle.list.specs.Outcomes.{code, refused, andThen};
+ghost use Rattle.jackson.specs.Windows.{windowsIn};
+ghost use Rattle.jackson.specs.Intervals.{overloadOf};
+ghost use Rattle.narrow.specs.Rounds.{earliest, latest, moved, narrowSide, unmoved, round, rounds, slack};
+ghost use Rattle.narrow.specs.Calls.{isWhole, wholeIn};
+ghost use Rattle.narrow.specs.Parts.{Searchable, Countable, stateOf, narrowedOf};
+
+// The windows and the moves made so far, or a refusal.
+pub(crate) struct Narrowing {
+    pub verdict: Verdict,
+    pub windows: WindowSet,
+    pub moves: u32,
+}
+
+fn is_whole(kind: Kind) -> bool
+    ensures { λ b. ⌜ b ≡ isWhole kind ⌝ }
+{
+    match kind {
+        Kind::Pause => false,
+        Kind::Whole => true,
+    }
+}
+
+// "A changed r is one move, a changed d another."
+fn moved_from(before: u16, after: u16) -> u32
+    ensures { λ x. ⌜ x ≡ moved before after ⌝ }
+{
+    if before == after { 0 } else { 1 }
+}
+
+// The answer where a search for entry k found no minute.
+fn refused_at(windows: WindowSet, moves: u32, k: usize) -> Narrowing
+    ensures { λ a. ⌜ narrowedOf a ≡ refused (code 10 (k ∷ [])) ⌝ }
+{
+    Narrowing {
+        verdict: Verdict::Refused(Refusal::NoStart(k)),
+        windows: windows,
+        moves: moves,
+    }
+}
+
+// The search for entry k's r, with its move.
+fn narrow_start(windows: WindowSet, moves: u32, k: usize) -> Narrowing
+    requires { ⌜ Searchable windows k ⌝ }
+    requires { ⌜ moves < 4294967295 ⌝ }
+    ensures { λ a. ⌜ narrowedOf a ≡ narrowSide overloadOf earliest k (stateOf windows moves) ⌝ }
+{
+    let Found::Minute(s) = least_start(windows, k) else {
+        return refused_at(windows, moves, k);
+    };
+    let mut next = windows;
+    next.r[k] = s;
+    Narrowing {
+        verdict: Verdict::Accepted,
+        windows: next,
+        moves: moves + moved_from(windows.r[k], s),
+    }
+}
+
+// The search for entry k's d, with its move.
+fn narrow_end(windows: WindowSet, moves: u32, k: usize) -> Narrowing
+    requires { ⌜ Searchable windows k ⌝ }
+    requires { ⌜ moves < 4294967295 ⌝ }
+    ensures { λ a. ⌜ narrowedOf a ≡ narrowSide overloadOf latest k (stateOf windows moves) ⌝ }
+{
+    let Found::Minute(e) = greatest_end(windows, k) else {
+        return refused_at(windows, moves, k);
+    };
+    let mut next = windows;
+    next.d[k] = e;
+    Narrowing {
+        verdict: Verdict::Accepted,
+        windows: next,
+        moves: moves + moved_from(windows.d[k], e),
+    }
+}
+
+// Visits entry k, a whole one: its r, then its d.
+fn visit(windows: WindowSet, moves: u32, k: usize) -> Narrowing
+    requires { ⌜ Searchable windows k ⌝ }
+    requires { ⌜ moves < 4294967294 ⌝ }
+    ensures { λ a. ⌜ narrowedOf a ≡ andThen (narrowSide overloadOf earliest k (stateOf windows moves)) (narrowSide overloadOf latest k) ⌝ }
+{
+    let started = narrow_start(windows, moves, k);
+    let verdict = started.verdict;
+    let Verdict::Accepted = verdict else {
+        return started;
+    };
+    narrow_end(started.windows, started.moves, k)
+}
+
+// One round: visits the whole entries from place 0 up.
+pub(crate) fn one_round(list: DayList, windows: WindowSet, moves: u32) -> Narrowing
+    requires { ⌜ Countable list windows moves ⌝ }
+    ensures { λ a. ⌜ narrowedOf a ≡ round overloadOf (wholeIn list) (stateOf windows moves) ⌝ }
+{
+    let mut now = Narrowing {
+        verdict: Verdict::Accepted,
+        windows: windows,
+        moves: moves,
+    };
+    let count = list.n as usize;
+    let mut k: usize = 0;
+    while k < count {
+        let e = list.entries[k];
+        let kind = e.kind;
+        if is_whole(kind) {
+            now = visit(now.windows, now.moves, k);
+            let verdict = now.verdict;
+            let Verdict::Accepted = verdict else {
+                return now;
+            };
+        }
+        k += 1;
+    }
+    now
+}
+
+// Rounds until one makes no move, or a refusal.
+pub(crate) fn all_rounds(list: DayList, windows: WindowSet) -> Narrowing
+    requires { ⌜ Countable list windows 0 ⌝ }
+    ensures { λ a. ⌜ narrowedOf a ≡ rounds overloadOf (wholeIn list) (suc (slack (wholeIn list) (windowsIn windows))) (unmoved (windowsIn windows)) ⌝ }
+{
+    let mut now = windows;
+    let mut moves: u32 = 0;
+    loop {
+        let next = one_round(list, now, moves);
+        let verdict = next.verdict;
+        let Verdict::Accepted = verdict else {
+            break next;
+        };
+        if next.moves == moves {
+            break next;
+        }
+        now = next.windows;
+        moves = next.moves;
+    }
+}

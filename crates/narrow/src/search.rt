@@ -1,0 +1,71 @@
+// A visit's two searches.
+use crate::mirror::mirrored;
+use jackson::types::WindowSet;
+use jackson::untested_overload;
+use list::types::Verdict;
+ghost use mathlib.Core.Path.{_≡_};
+ghost use Prim.Native.Nat.{_+_, _≤_};
+ghost use lib.ListN.{getD};
+ghost use Rattle.list.specs.Refusals.{verdictOf};
+ghost use Rattle.jackson.specs.Windows.{windowsIn};
+ghost use Rattle.jackson.specs.Intervals.{overloadOf};
+ghost use Rattle.narrow.specs.Searching.{accepts, fixedAt, leastStart, greatestEnd};
+ghost use Rattle.narrow.specs.Parts.{foundOf, Searchable};
+
+// What a search answers.
+pub(crate) enum Found {
+    Minute(u16),
+    NoMinute,
+}
+
+fn is_accepted(verdict: Verdict) -> bool
+    ensures { λ b. ⌜ b ≡ accepts (verdictOf verdict) ⌝ }
+{
+    match verdict {
+        Verdict::Accepted => true,
+        Verdict::Refused(_) => false,
+    }
+}
+
+// Whether a plan exists when entry k's window is [s, s + p) and the others keep theirs.
+fn has_plan_at(windows: WindowSet, k: usize, s: u16) -> bool
+    requires { ⌜ Searchable windows k ⌝ }
+    requires { ⌜ s + getD (windows .p) k 0 ≤ 65535 ⌝ }
+    ensures { λ b. ⌜ b ≡ accepts (overloadOf (fixedAt (windowsIn windows) k s)) ⌝ }
+{
+    let mut trial = windows;
+    trial.r[k] = s;
+    trial.d[k] = s + windows.p[k];
+    is_accepted(untested_overload(trial))
+}
+
+// The least start of entry k, from its r up. "The search ends at the first start that has a plan".
+pub(crate) fn least_start(windows: WindowSet, k: usize) -> Found
+    requires { ⌜ Searchable windows k ⌝ }
+    ensures { λ f. ⌜ foundOf k f ≡ leastStart overloadOf (windowsIn windows) k ⌝ }
+{
+    let d = windows.d[k];
+    let p = windows.p[k];
+    let mut s = windows.r[k];
+    loop {
+        if (d as u32) < s as u32 + p as u32 {
+            break Found::NoMinute;
+        }
+        if has_plan_at(windows, k, s) {
+            break Found::Minute(s);
+        }
+        s += 1;
+    }
+}
+
+// The greatest end of entry k, from its d down: its least start in the mirror.
+pub(crate) fn greatest_end(windows: WindowSet, k: usize) -> Found
+    requires { ⌜ Searchable windows k ⌝ }
+    ensures { λ f. ⌜ foundOf k f ≡ greatestEnd overloadOf (windowsIn windows) k ⌝ }
+{
+    let found = least_start(mirrored(windows), k);
+    match found {
+        Found::Minute(s) => Found::Minute(windows.h - s),
+        Found::NoMinute => Found::NoMinute,
+    }
+}
