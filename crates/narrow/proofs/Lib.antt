@@ -1,1 +1,2 @@
 mod Planners
+mod Puts
