@@ -1,2 +1,3 @@
 mod Planners
 mod Puts
+mod MirrorSearches
