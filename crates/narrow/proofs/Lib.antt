@@ -1,3 +1,4 @@
 mod Planners
 mod Puts
 mod MirrorSearches
+mod Costs
