@@ -1,3 +1,6 @@
 mod Planners
+mod Puts
+mod MirrorSearches
+mod Costs
 mod ArrayCases
 mod SearchCases

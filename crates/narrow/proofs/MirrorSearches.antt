@@ -1,0 +1,129 @@
+-- The search for an entry's d is the search for its r in the mirrored windows.
+-- Assumes nothing.
+use mathlib.Core.Path.{_≡_, refl, sym, ap, fun-ext}
+use mathlib.Core.Bool.{Bool, true, false, cond}
+use mathlib.Core.List.{[], _∷_}
+use Prim.Native.Nat.{ℕ, zero, suc, _+_, _-_, _<_}
+use native.Mathlib.Omega.{arith}
+use borrow.Author.Tests.{lt-ltb}
+use lib.Dec.{eqb, ltb}
+use Rattle.list.specs.Outcomes.{Outcome, answered, refused, andThen, row, firstOf}
+use Rattle.jackson.specs.Counting.{firstBelow}
+use Rattle.jackson.specs.Windows.{Windows}
+use Rattle.jackson.specs.Existence.{Plannable}
+use Rattle.jackson.specs.Mirrors.{mirror, mirrorPlan}
+use Rattle.jackson.proofs.PlanFacts.{mirror-plan, mirror-mirror}
+use Rattle.narrow.specs.Searching.{Test, accepts, put, fixedAt, trials, startsSkipped, endsSkipped, leastStart, greatestEnd}
+use Rattle.narrow.specs.Laws.{Formed}
+use Rattle.narrow.proofs.Planners.{Planner}
+use Rattle.narrow.proofs.Puts.{place-cases, fixed-formed}
+
+-- a search for the first looks at the tests below n alone
+first-cong : (n : ℕ) (f g : ℕ → Bool) → ((i : ℕ) → i < n → f i ≡ g i) → firstBelow n f ≡ firstBelow n g
+unfolding firstBelow
+first-cong zero f g h = refl
+first-cong (suc n) f g h = rw (h 0 (omega arith), first-cong n _ _ (λ i l. h (suc i) (omega arith)))
+
+-- where a plan exists, its mirror is one in the mirrored windows
+pub plannable-mirror : (w : Windows) → Plannable w → Plannable (mirror w)
+plannable-mirror w plan = (mirrorPlan (w .h) (plan .0), mirror-plan w (plan .0) (plan .1))
+
+-- two outcomes of a test are alike if one accepts exactly when the other does
+alike : (a b : Outcome (Unit {0})) → (a ≡ answered tt → b ≡ answered tt) → (b ≡ answered tt → a ≡ answered tt) → accepts a ≡ accepts b
+alike (answered _) (answered _) f g = refl
+alike (answered _) (refused k) f g = ap accepts (sym (f refl))
+alike (refused k) (answered _) f g = ap accepts (g refl)
+alike (refused k) (refused x) f g = refl
+
+-- one column of the windows fixed in the mirror, of f below n and g from there on
+column : (h n k a b c : ℕ) (f g : ℕ → ℕ) → k < n → a ≡ h - b
+    → (i : ℕ) → put k a (λ x. cond (ltb x n) (h - f x) (g x)) i ≡ cond (ltb i n) (h - put k b f i) (put k c g i)
+column h n k a b c f g place e i =
+    place-cases (λ t. cond t a (cond (ltb i n) (h - f i) (g i)) ≡ cond (ltb i n) (h - cond t b (f i)) (cond t c (g i))) i k
+    (λ q. let z : i < n = omega arith in rw (lt-ltb i n z) e)
+    (λ _. refl)
+
+module _ (w : Windows) (formed : Formed w) where
+  -- windows with room have it in the mirror
+  pub formed-mirror : Formed (mirror w)
+  formed-mirror =
+      record {
+        few = formed .few;
+        minutes = formed .minutes;
+        in-day = λ i place. rw (lt-ltb i (w .n) place) (omega arith);
+        room = λ i place. rw (lt-ltb i (w .n) place) (omega (arith, formed .in-day i place, formed .room i place));
+      }
+
+  -- and are the mirror of their mirror
+  pub mirror-back : mirror (mirror w) ≡ w
+  mirror-back = mirror-mirror w (λ i place. omega (arith, formed .in-day i place, formed .room i place)) (formed .in-day)
+
+  -- so a plan exists if one does in the mirror
+  pub mirror-plannable : Plannable (mirror w) → Plannable w
+  mirror-plannable plan = rw mirror-back at (plannable-mirror (mirror w) plan)
+
+-- and a planner's test accepts the mirror exactly when it accepts them
+pub test-mirror : {test : Test} → Planner test → (w : Windows) → Formed w → accepts (test (mirror w)) ≡ accepts (test w)
+test-mirror {test} planner w formed =
+    let here = planner .exact w formed in
+    let there = planner .exact (mirror w) (formed-mirror w formed) in
+    alike (test (mirror w)) (test w)
+    (λ e. here .0 (mirror-plannable w formed (there .1 e)))
+    (λ e. there .0 (plannable-mirror w (here .1 e)))
+
+module _ (w : Windows) (k : ℕ) (place : k < w .n) where
+  -- the mirrored window of k
+  pub mirror-r : mirror w .r k ≡ w .h - w .d k
+  mirror-r = rw (lt-ltb k (w .n) place)
+
+  pub mirror-d : mirror w .d k ≡ w .h - w .r k
+  mirror-d = rw (lt-ltb k (w .n) place)
+
+module _ (w : Windows) (formed : Formed w) (k : ℕ) (place : k < w .n) where
+  -- as many starts are tried in the mirror
+  pub trials-mirror : trials (mirror w) k ≡ trials w k
+  trials-mirror = omega (arith, mirror-r w k place, mirror-d w k place, formed .in-day k place, formed .room k place)
+
+  -- the start j minutes after the mirrored r is the mirror of the end j minutes before d
+  pub fixed-mirror : (j : ℕ) → j < trials w k → fixedAt (mirror w) k (mirror w .r k + j) ≡ mirror (fixedAt w k (w .d k - j - w .p k))
+  fixed-mirror j below =
+      let s = w .d k - j - w .p k in
+      let a : mirror w .r k + j ≡ w .h - (s + w .p k) = omega (arith, mirror-r w k place, formed .in-day k place) in
+      let b : mirror w .r k + j + w .p k ≡ w .h - s = omega (arith, mirror-r w k place, formed .in-day k place) in
+      λ x.
+      record {
+        h = w .h;
+        n = w .n;
+        r = fun-ext (column (w .h) (w .n) k _ _ s (w .d) (w .r) place a) x;
+        d = fun-ext (column (w .h) (w .n) k _ _ (s + w .p k) (w .r) (w .d) place b) x;
+        p = w .p;
+      }
+
+module _ {test : Test} (planner : Planner test) (w : Windows) (formed : Formed w) (k : ℕ) (place : k < w .n) where
+  -- as many ends are skipped as starts in the mirror
+  pub ends-mirror : endsSkipped test w k ≡ startsSkipped test (mirror w) k
+  unfolding startsSkipped endsSkipped
+  ends-mirror = rw (trials-mirror w formed k place) (first-cong (trials w k) _ _ each)
+    where
+      each : (j : ℕ) → j < trials w k
+          → accepts (test (fixedAt w k (w .d k - j - w .p k))) ≡ accepts (test (fixedAt (mirror w) k (mirror w .r k + j)))
+      each j below =
+          let s = w .d k - j - w .p k in
+          rw (fixed-mirror w formed k place j below)
+          (sym (test-mirror planner (fixedAt w k s) (fixed-formed w formed k s place (omega arith))))
+
+  -- the greatest end is the least start of the mirror, mirrored
+  pub end-by-mirror : greatestEnd test w k ≡ andThen (leastStart test (mirror w) k) (λ s. answered (w .h - s))
+  unfolding leastStart greatestEnd
+  end-by-mirror = rw (trials-mirror w formed k place, ends-mirror) (go (eqb j (trials w k)))
+    where
+      j : ℕ
+      j = startsSkipped test (mirror w) k
+
+      at-d : w .d k - j ≡ w .h - (mirror w .r k + j)
+      at-d = omega (arith, mirror-r w k place, formed .in-day k place)
+
+      go : (t : Bool) → firstOf (row 10 t k ∷ []) (answered (w .d k - j))
+          ≡ andThen (firstOf (row 10 t k ∷ []) (answered (mirror w .r k + j))) (λ s. answered (w .h - s))
+      go true = refl
+      go false = ap answered at-d
