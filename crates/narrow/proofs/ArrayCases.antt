@@ -49,9 +49,9 @@ module _ (s : WindowSet) where
     held-fixed h l = held (set (s .r) k x) (set (s .d) k (x + getD (s .p) k 0)) _ _ (set-put (s .r) k x h) (set-put (s .d) k _ l)
 
   -- both sides turned
-  pub held-mirror : (r d : List ℕ) → Turned (s .h) (min (s .n) 64) (s .r) (s .d) r → Turned (s .h) (min (s .n) 64) (s .d) (s .r) d
+  pub held-mirror : (count : ℕ) → count ≡ min (s .n) 64 → (r d : List ℕ) → Turned (s .h) count (s .r) (s .d) r → Turned (s .h) count (s .d) (s .r) d
       → columns (s .h) (min (s .n) 64) r d (s .p) ≡ mirror (windowsIn s)
-  held-mirror r d a b = held r d _ _ a b
+  held-mirror count e r d a b = held r d _ _ (rw e at a) (rw e at b)
 
 -- the first i entries are turned
 pub record Turning (h count : ℕ) (side other xs : List ℕ) (i : ℕ) : Type 0 where

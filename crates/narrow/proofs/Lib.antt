@@ -2,5 +2,8 @@ mod Planners
 mod Puts
 mod MirrorSearches
 mod Costs
+mod OverloadPlanner
 mod ArrayCases
 mod SearchCases
+mod EndCases
+mod RoundCases

@@ -8,9 +8,10 @@ use list::types::Kind;
 use list::types::Refusal;
 use list::types::Verdict;
 ghost use mathlib.Core.Path.{_≡_};
+ghost use mathlib.Core.Bool.{cond};
 ghost use mathlib.Core.List.{[], _∷_};
 ghost use Prim.Native.Nat.{suc, _<_};
-ghost use Rattle.list.specs.Outcomes.{code, refused, andThen};
+ghost use Rattle.list.specs.Outcomes.{code, answered, refused, andThen};
 ghost use Rattle.jackson.specs.Windows.{windowsIn};
 ghost use Rattle.jackson.specs.Intervals.{overloadOf};
 ghost use Rattle.narrow.specs.Rounds.{earliest, latest, moved, narrowSide, unmoved, round, rounds, slack};
@@ -87,12 +88,19 @@ fn narrow_end(windows: WindowSet, moves: u32, k: usize) -> Narrowing
     }
 }
 
-// Visits entry k, a whole one: its r, then its d.
-fn visit(windows: WindowSet, moves: u32, k: usize) -> Narrowing
+// Visits entry k: a pause entry is passed over; of a whole one the r is searched for, then the d.
+fn visit(whole: bool, windows: WindowSet, moves: u32, k: usize) -> Narrowing
     requires { ⌜ Searchable windows k ⌝ }
-    requires { ⌜ moves < 4294967294 ⌝ }
-    ensures { λ a. ⌜ narrowedOf a ≡ andThen (narrowSide overloadOf earliest k (stateOf windows moves)) (narrowSide overloadOf latest k) ⌝ }
+    requires { ⌜ moves < 4294967290 ⌝ }
+    ensures { λ a. ⌜ narrowedOf a ≡ cond whole (andThen (narrowSide overloadOf earliest k (stateOf windows moves)) (narrowSide overloadOf latest k)) (answered (stateOf windows moves)) ⌝ }
 {
+    if !whole {
+        return Narrowing {
+            verdict: Verdict::Accepted,
+            windows: windows,
+            moves: moves,
+        };
+    }
     let started = narrow_start(windows, moves, k);
     let verdict = started.verdict;
     let Verdict::Accepted = verdict else {
@@ -101,7 +109,7 @@ fn visit(windows: WindowSet, moves: u32, k: usize) -> Narrowing
     narrow_end(started.windows, started.moves, k)
 }
 
-// One round: visits the whole entries from place 0 up.
+// One round: visits the entries from place 0 up.
 pub(crate) fn one_round(list: DayList, windows: WindowSet, moves: u32) -> Narrowing
     requires { ⌜ Countable list windows moves ⌝ }
     ensures { λ a. ⌜ narrowedOf a ≡ round overloadOf (wholeIn list) (stateOf windows moves) ⌝ }
@@ -116,13 +124,11 @@ pub(crate) fn one_round(list: DayList, windows: WindowSet, moves: u32) -> Narrow
     while k < count {
         let e = list.entries[k];
         let kind = e.kind;
-        if is_whole(kind) {
-            now = visit(now.windows, now.moves, k);
-            let verdict = now.verdict;
-            let Verdict::Accepted = verdict else {
-                return now;
-            };
-        }
+        now = visit(is_whole(kind), now.windows, now.moves, k);
+        let verdict = now.verdict;
+        let Verdict::Accepted = verdict else {
+            return now;
+        };
         k += 1;
     }
     now

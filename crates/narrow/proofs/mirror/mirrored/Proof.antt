@@ -1,0 +1,21 @@
+-- Both sides are turned.
+-- Assumes nothing.
+use borrow.Author.Needs.{needs}
+use Rattle.narrow.proofs.ArrayCases.{held-mirror}
+use Rattle.narrow.proofs.mirror.mirrored.Statement.{statement}
+use Rattle.narrow.proofs.mirror.mirrored.Tie as tie
+
+places-held-requires : tie.Need-places-held-requires
+places-held-requires c κs = search needs
+
+turned-requires : tie.Need-turned-requires
+turned-requires c κs = search needs
+
+turned-requires-2 : tie.Need-turned-requires-2
+turned-requires-2 c κs = search needs
+
+returns : tie.Need-returns
+returns c = held-mirror (c .before .before .before .before .before .before .before .before .args .windows) _ (c .before .before .before .before .before .before .before .places-held .ensures) _ _ (c .before .before .turned .ensures) (c .turned2 .ensures)
+
+pub mirrored-spec : {M : Type 1} → statement M
+mirrored-spec = tie.close (tie.spec places-held-requires turned-requires turned-requires-2 returns)
