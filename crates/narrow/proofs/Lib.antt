@@ -2,3 +2,4 @@ mod Planners
 mod Puts
 mod MirrorSearches
 mod Costs
+mod Exact
