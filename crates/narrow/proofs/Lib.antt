@@ -2,6 +2,7 @@ mod Planners
 mod Puts
 mod MirrorSearches
 mod Costs
+mod Exact
 mod OverloadPlanner
 mod ArrayCases
 mod SearchCases

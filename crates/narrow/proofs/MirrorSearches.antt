@@ -3,7 +3,7 @@
 use mathlib.Core.Path.{_≡_, refl, sym, ap, fun-ext}
 use mathlib.Core.Bool.{Bool, true, false, cond}
 use mathlib.Core.List.{[], _∷_}
-use Prim.Native.Nat.{ℕ, zero, suc, _+_, _-_, _<_}
+use Prim.Native.Nat.{ℕ, zero, suc, _+_, _-_, _<_, _≤_}
 use native.Mathlib.Omega.{arith}
 use borrow.Author.Tests.{lt-ltb}
 use lib.Dec.{eqb, ltb}
@@ -79,17 +79,12 @@ module _ (w : Windows) (k : ℕ) (place : k < w .n) where
   pub mirror-d : mirror w .d k ≡ w .h - w .r k
   mirror-d = rw (lt-ltb k (w .n) place)
 
-module _ (w : Windows) (formed : Formed w) (k : ℕ) (place : k < w .n) where
-  -- as many starts are tried in the mirror
-  pub trials-mirror : trials (mirror w) k ≡ trials w k
-  trials-mirror = omega (arith, mirror-r w k place, mirror-d w k place, formed .in-day k place, formed .room k place)
-
-  -- the start j minutes after the mirrored r is the mirror of the end j minutes before d
-  pub fixed-mirror : (j : ℕ) → j < trials w k → fixedAt (mirror w) k (mirror w .r k + j) ≡ mirror (fixedAt w k (w .d k - j - w .p k))
-  fixed-mirror j below =
-      let s = w .d k - j - w .p k in
-      let a : mirror w .r k + j ≡ w .h - (s + w .p k) = omega (arith, mirror-r w k place, formed .in-day k place) in
-      let b : mirror w .r k + j + w .p k ≡ w .h - s = omega (arith, mirror-r w k place, formed .in-day k place) in
+  -- k up to e, in the mirror from h - e on
+  pub fixed-at-mirror : (e : ℕ) → w .p k ≤ e → e ≤ w .h → fixedAt (mirror w) k (w .h - e) ≡ mirror (fixedAt w k (e - w .p k))
+  fixed-at-mirror e long in-day =
+      let s = e - w .p k in
+      let a : w .h - e ≡ w .h - (s + w .p k) = omega arith in
+      let b : w .h - e + w .p k ≡ w .h - s = omega arith in
       λ x.
       record {
         h = w .h;
@@ -98,6 +93,18 @@ module _ (w : Windows) (formed : Formed w) (k : ℕ) (place : k < w .n) where
         d = fun-ext (column (w .h) (w .n) k _ _ (s + w .p k) (w .r) (w .d) place b) x;
         p = w .p;
       }
+
+module _ (w : Windows) (formed : Formed w) (k : ℕ) (place : k < w .n) where
+  -- as many starts are tried in the mirror
+  pub trials-mirror : trials (mirror w) k ≡ trials w k
+  trials-mirror = omega (arith, mirror-r w k place, mirror-d w k place, formed .in-day k place, formed .room k place)
+
+  -- the start j minutes after the mirrored r is the mirror of the end j minutes before d
+  pub fixed-mirror : (j : ℕ) → j < trials w k → fixedAt (mirror w) k (mirror w .r k + j) ≡ mirror (fixedAt w k (w .d k - j - w .p k))
+  fixed-mirror j below =
+      let due = formed .in-day k place in
+      let a : mirror w .r k + j ≡ w .h - (w .d k - j) = omega (arith, mirror-r w k place) in
+      rw a (fixed-at-mirror w k place (w .d k - j) (omega arith) (omega arith))
 
 module _ {test : Test} (planner : Planner test) (w : Windows) (formed : Formed w) (k : ℕ) (place : k < w .n) where
   -- as many ends are skipped as starts in the mirror
