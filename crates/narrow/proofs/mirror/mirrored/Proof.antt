@@ -15,7 +15,7 @@ turned-requires-2 : tie.Need-turned-requires-2
 turned-requires-2 c κs = search needs
 
 returns : tie.Need-returns
-returns c = held-mirror (c .before .before .before .before .before .before .before .before .args .windows) _ (c .before .before .before .before .before .before .before .places-held .ensures) _ _ (c .before .before .turned .ensures) (c .turned2 .ensures)
+returns c = held-mirror (c .before .before .before .before .before .before .before .before .args .windows) _ (c .before .before .before .before .before .before .before .places-held .ensures) (c .before .before .turned .result) (c .turned2 .result) (c .before .before .turned .ensures) (c .turned2 .ensures)
 
 pub mirrored-spec : {M : Type 1} → statement M
 mirrored-spec = tie.close (tie.spec places-held-requires turned-requires turned-requires-2 returns)
