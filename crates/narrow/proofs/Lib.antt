@@ -3,3 +3,4 @@ mod Puts
 mod MirrorSearches
 mod Costs
 mod Exact
+mod SettledSteps
