@@ -4,3 +4,4 @@ mod MirrorSearches
 mod Costs
 mod Exact
 mod SettledSteps
+mod Fixpoints
