@@ -5,3 +5,4 @@ mod Costs
 mod Exact
 mod SettledSteps
 mod Fixpoints
+mod UnbrokenPlans
