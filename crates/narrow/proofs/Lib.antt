@@ -6,3 +6,4 @@ mod Exact
 mod SettledSteps
 mod Fixpoints
 mod UnbrokenPlans
+mod NarrowLaws
