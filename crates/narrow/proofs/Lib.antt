@@ -3,6 +3,10 @@ mod Puts
 mod MirrorSearches
 mod Costs
 mod Exact
+mod SettledSteps
+mod Fixpoints
+mod UnbrokenPlans
+pub mod NarrowLaws
 mod OverloadPlanner
 mod ArrayCases
 mod SearchCases

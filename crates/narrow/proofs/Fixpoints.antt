@@ -1,0 +1,196 @@
+-- Windows that no step changes are settled. A round without moves leaves such windows, and they are the widest settled ones.
+-- Assumes nothing.
+use mathlib.Core.Path.{_≡_, refl, sym, ap, _∙_, fun-ext}
+use mathlib.Core.Bool.{Bool, true, false, cond, false≢true}
+use Prim.Native.Nat.{ℕ, zero, suc, _+_, _-_, _<_, _≤_}
+use native.Mathlib.Omega.{arith}
+use Rattle.list.specs.Outcomes.{Outcome, answered, refused, andThen}
+use Rattle.list.proofs.Inversion.{Says, by-step, Anything}
+use Rattle.jackson.specs.Windows.{Windows, withWindows}
+use Rattle.jackson.specs.Plans.{Plan}
+use Rattle.jackson.specs.Existence.{Plannable}
+use Rattle.jackson.proofs.Sums.{le-or-lt, below-suc}
+use Rattle.jackson.proofs.PlanFacts.{widen}
+use Rattle.narrow.specs.Searching.{Test, withR, withD, fixedAt, leastStart, greatestEnd, SearchLaw}
+use Rattle.narrow.specs.Settling.{Consecutive, Settled, SettledInside, Widest}
+use Rattle.narrow.specs.Rounds.{Side, earliest, latest, step, Narrowed, moved, movesOf, narrowSide, visit, visits, round, Rounds, last, next, stopped, rounds, slack}
+use Rattle.narrow.specs.StepLists.{leftBy, NothingLeft}
+use Rattle.narrow.specs.Laws.{Formed}
+use Rattle.narrow.proofs.Puts.{place-cases, put-same, put-back, fixed-consecutive, fixed-inside}
+use Rattle.narrow.proofs.Costs.{rounds-are}
+use Rattle.narrow.proofs.SettledSteps.{Narrows, NarrowsOr, start-found, end-found, rounds-narrow}
+
+-- Windows that no step changes.
+
+module _ (test : Test) (whole : ℕ → Bool) (w : Windows) (formed : Formed w) (laws : (k : ℕ) → k < w .n → SearchLaw test w k) where
+  -- a plan for k's window fixed to [s, e) is one for w, and k has all of these minutes
+  fixed-run : (k : ℕ) → k < w .n → (s e : ℕ) → s + w .p k ≡ e → w .r k ≤ s → e ≤ w .d k → Plannable (fixedAt w k s)
+      → (m : ℕ → ℕ) × Plan w m × Consecutive (w .h) m k s e
+  fixed-run k place s e full from to z =
+      let room : s + w .p k ≤ w .d k = omega arith in
+      (z .0, widen w _ _ (z .0) (fixed-inside w k s from room) (z .1), rw full at (fixed-consecutive w formed k s place room (z .0) (z .1)))
+
+  -- the searches answer r and d as they are, so there are plans with consecutive minutes from r on and up to d
+  pub nothing-settled : Plannable w → NothingLeft test whole w → Settled whole w
+  nothing-settled planned nothing =
+      record {
+        plan = planned;
+        from-r =
+            λ k place q.
+            let found = laws k place .start-is (w .r k) .0 (start-found test k w w (nothing k earliest place q) .0) in
+            fixed-run k place (w .r k) (w .r k + w .p k) refl (omega arith) (found .room) (found .plan);
+        up-to-d =
+            λ k place q.
+            let found = laws k place .end-is (w .d k) .0 (end-found test k w w (nothing k latest place q) .0) in
+            fixed-run k place (w .d k - w .p k) (w .d k) (omega (arith, found .room)) (omega (arith, found .room)) (omega arith) (found .plan);
+      }
+
+-- settled sets stay inside on the way, so windows at which nothing is left to do are the widest
+pub nothing-widest : (test : Test) (whole : ℕ → Bool) (w v : Windows) → ((k : ℕ) → k < v .n → SearchLaw test v k)
+    → Plannable w → Narrows whole w v → NothingLeft test whole v → Widest whole w v
+nothing-widest test whole w v laws planned narrows nothing =
+    record {
+      entries = narrows .keeps .entries;
+      inside = narrows .keeps .inside;
+      settled = nothing-settled test whole v (narrows .keeps .formed) laws (narrows .plannable planned) nothing;
+      widest = λ r d set. let z = narrows .stays r d set .inside in record { r = z .r; d = z .d };
+    }
+
+-- Rounds without moves.
+
+-- no move is no change
+moved-none : (a b : ℕ) → moved a b ≡ 0 → a ≡ b
+moved-none a b = place-cases (λ t. _≡_ {A = ℕ} (cond t 0 1) 0 → a ≡ b) a b (λ e _. e) (λ _ z. absurd (omega arith))
+
+-- so a step without a move leaves the windows as they are
+step-still : (test : Test) (side : Side) (k : ℕ) (w v : Windows) → step test side k w ≡ answered v → movesOf k w v ≡ 0 → v ≡ w
+step-still test earliest k w v e none =
+    let at = moved-none (w .r k) (v .r k) (omega arith) in
+    start-found test k w v e .1 ∙ ap (withR w k) (sym at) ∙ (λ i. withWindows w (fun-ext (put-back k (w .r)) i) (w .d))
+step-still test latest k w v e none =
+    let at = moved-none (w .d k) (v .d k) (omega arith) in
+    end-found test k w v e .1 ∙ ap (withD w k) (sym at) ∙ (λ i. withWindows w (w .r) (fun-ext (put-back k (w .d)) i))
+
+-- from s to v: moves are only added, and if none is, nothing has changed and X holds
+record Still (X : Type 0) (s v : Narrowed) : Type 0 where
+  more : s .moves ≤ v .moves
+  same : v .moves ≡ s .moves → (v ≡ s) × X
+
+-- one outcome, then the next
+still-then : (X Z : Type 0) (Y : Narrowed → Type 0) (s : Narrowed) (o : Outcome Narrowed) (f : Narrowed → Outcome Narrowed) → (X → Y s → Z)
+    → Says (Still X s) Anything o → ((u : Narrowed) → Says (Still (Y u) u) Anything (f u)) → Says (Still Z s) Anything (andThen o f)
+still-then X Z Y s o f both first rest = by-step _ _ _ o f first (λ u a. onward u a (f u) (rest u))
+  where
+    onward : (u : Narrowed) → Still X s u → (o : Outcome Narrowed) → Says (Still (Y u) u) Anything o → Says (Still Z s) Anything o
+    onward u a (answered v) b =
+        record {
+          more = omega (arith, a .more, b .more);
+          same =
+              λ e.
+              let x = a .same (omega (arith, a .more, b .more)) in
+              let y = b .same (omega (arith, a .more, b .more)) in
+              (y .0 ∙ x .0, both (x .1) (rw (x .0) at (y .1)));
+        }
+    onward u a (refused k) b = tt
+
+-- nothing is done
+still-idle : (X : Type 0) (s : Narrowed) → X → Still X s s
+still-idle X s x = record { more = omega arith; same = λ _. (refl, x) }
+
+module _ (test : Test) (whole : ℕ → Bool) where
+  -- a step for entry k changes nothing
+  abbrev Stays : Side → ℕ → Narrowed → Type 0
+  Stays side k s = step test side k (s .windows) ≡ answered (s .windows)
+
+  side-still : (side : Side) (k : ℕ) (s : Narrowed) → Says (Still (Stays side k s) s) Anything (narrowSide test side k s)
+  unfolding narrowSide
+  side-still side k s = go (step test side k (s .windows)) refl
+    where
+      go : (o : Outcome Windows) → step test side k (s .windows) ≡ o
+          → Says (Still (Stays side k s) s) Anything
+          (andThen o (λ v. answered (record { windows = v; moves = s .moves + movesOf k (s .windows) v })))
+      go (answered v) e =
+          record {
+            more = omega arith;
+            same =
+                λ q.
+                let z = step-still test side k (s .windows) v e (omega arith) in
+                (λ i. record { windows = z i; moves = q i }, e ∙ ap answered z);
+          }
+      go (refused x) e = tt
+
+  -- neither step for it does, if it is whole
+  abbrev Passed : ℕ → Narrowed → Type 0
+  Passed k s = (side : Side) → whole k ≡ true → Stays side k s
+
+  visit-still : (k : ℕ) (s : Narrowed) → Says (Still (Passed k s) s) Anything (visit test whole k s)
+  unfolding visit
+  visit-still k s = go (whole k) refl
+    where
+      both : Stays earliest k s → Stays latest k s → Passed k s
+      both a b earliest _ = a
+      both a b latest _ = b
+
+      go : (t : Bool) → whole k ≡ t
+          → Says (Still (Passed k s) s) Anything (cond t (andThen (narrowSide test earliest k s) (narrowSide test latest k)) (answered s))
+      go true e =
+          still-then (Stays earliest k s) (Passed k s) (Stays latest k) s (narrowSide test earliest k s) (narrowSide test latest k) both
+          (side-still earliest k s)
+          (side-still latest k)
+      go false e = still-idle (Passed k s) s (λ side q. absurd (false≢true (sym e ∙ q)))
+
+  visits-still : (k : ℕ) (s : Narrowed) → Says (Still ((i : ℕ) → i < k → Passed i s) s) Anything (visits test whole k s)
+  unfolding visits
+  visits-still zero s = still-idle _ s (λ i below. absurd (omega arith))
+  visits-still (suc k) s =
+      still-then ((i : ℕ) → i < k → Passed i s) _ (Passed k) s (visits test whole k s) (visit test whole k)
+      (below-suc k (λ i. Passed i s))
+      (visits-still k s)
+      (visit-still k)
+
+  -- a round without moves leaves the windows as they were, and nothing to do
+  pub round-still : (s v : Narrowed) → round test whole s ≡ answered v → v .moves ≡ s .moves → (v ≡ s) × NothingLeft test whole (v .windows)
+  round-still s v e none =
+      let z = (rw e at (visits-still (s .windows .n) s)) .same none in
+      (z .0, rw (z .0) (λ k side place q. z .1 k place side q))
+
+  -- so rounds end with nothing to do
+  pub rounds-end : {s : Narrowed} {o : Outcome Narrowed} → Rounds test whole s o → Says (λ v. NothingLeft test whole (v .windows)) Anything o
+  rounds-end (last {s = s} {v = v} e none) = round-still s v e none .1
+  rounds-end (next e some rest) = rounds-end rest
+  rounds-end (stopped e) = tt
+
+-- so they answer the widest settled windows
+pub rounds-widest : (test : Test) (whole : ℕ → Bool) → ((w : Windows) → Formed w → (k : ℕ) → k < w .n → SearchLaw test w k)
+    → (fuel : ℕ) (s : Narrowed) → Formed (s .windows) → Plannable (s .windows) → slack whole (s .windows) < fuel
+    → Says (λ v. Widest whole (s .windows) (v .windows)) Anything (rounds test whole fuel s)
+rounds-widest test whole laws fuel s formed planned enough =
+    go (rounds test whole fuel s) (rounds-narrow test whole laws fuel s formed) (rounds-end test whole (rounds-are test whole fuel s formed enough))
+  where
+    go : (o : Outcome Narrowed) → NarrowsOr whole (s .windows) o → Says (λ v. NothingLeft test whole (v .windows)) Anything o
+        → Says (λ v. Widest whole (s .windows) (v .windows)) Anything o
+    go (answered v) a nothing = nothing-widest test whole (s .windows) (v .windows) (laws (v .windows) (a .keeps .formed)) planned a nothing
+    go (refused k) none nothing = tt
+
+-- Two widest settled sets lie inside each other: they are the same windows, if they are the same past the entries.
+module _ (whole : ℕ → Bool) (w : Windows) where
+  pub widest-set : (v : Windows) → Widest whole w v → SettledInside whole w (v .r) (v .d)
+  widest-set v a = record { inside = record { r = a .inside .r; d = a .inside .d }; settled = rw (a .entries) at (a .settled) }
+
+  lies-inside : (v u : Windows) → Widest whole w v → Widest whole w u → (i : ℕ) → i < w .n → (u .r i ≤ v .r i) × (v .d i ≤ u .d i)
+  lies-inside v u a b i place =
+      let below : i < u .n = rw (ap (λ (x : Windows). x .n) (b .entries)) place in
+      let z = b .widest (v .r) (v .d) (widest-set v a) in
+      (z .r i below, z .d i below)
+
+  pub widest-unique : (v u : Windows) → Widest whole w v → Widest whole w u → ((i : ℕ) → w .n ≤ i → (v .r i ≡ u .r i) × (v .d i ≡ u .d i)) → v ≡ u
+  widest-unique v u a b past =
+      a .entries ∙ (λ j. withWindows w (fun-ext (λ i. same i .0) j) (fun-ext (λ i. same i .1) j)) ∙ sym (b .entries)
+    where
+      same : (i : ℕ) → (v .r i ≡ u .r i) × (v .d i ≡ u .d i)
+      same i =
+          le-or-lt (w .n) i (past i)
+          (λ place.
+          let x = lies-inside v u a b i place in
+          let y = lies-inside u v b a i place in
+          (omega (arith, x .0, y .0), omega (arith, x .1, y .1)))
