@@ -12,3 +12,4 @@ mod ArrayCases
 mod SearchCases
 mod EndCases
 mod RoundCases
+mod VisitCases

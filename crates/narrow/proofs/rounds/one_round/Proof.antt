@@ -1,66 +1,59 @@
+-- The loop's invariant is `Visited`, the measure what is left of the places.
+-- Assumes nothing.
+use borrow.Author.Needs.{needs}
+use mathlib.Core.Path.{_≡_}
+use Prim.Native.Nat.{_-_}
+use lib.ListN.{length}
+use Rattle.list.proofs.Walk.{length-mapped}
+use Rattle.narrow.specs.Parts.{stateOf}
+use Rattle.narrow.proofs.VisitCases.{Visited, visited-none, next-ready, next-few, visited-next, visited-stopped, visited-all}
 use Rattle.narrow.proofs.rounds.one_round.Statement.{statement}
 use Rattle.narrow.proofs.rounds.one_round.Tie as tie
-use Rattle.narrow.proofs.rounds.one_round.Reads as reads
-use Rattle.narrow.proofs.rounds.one_round.Lts as lts
-use Rattle.narrow.proofs.rounds.is_whole.Reads as is-whole-reads
-use Rattle.narrow.proofs.rounds.visit.Reads as visit-reads
 
 abbrev Inv-loop : tie.InvT-loop
-Inv-loop moves list now₀ count k₀ now k = ?
+Inv-loop moves list now₀ count k₀ now k = Visited list (stateOf (now₀ .windows) moves) now k
 
 abbrev μ-loop : tie.MeasureT-loop
-μ-loop moves list now₀ count k₀ now k = ?
+μ-loop moves list now₀ count k₀ now k = count - k
 
--- src/rounds.rt:122:17
 cast-count : tie.Need-cast-count Inv-loop μ-loop
-cast-count c = ?
+cast-count c = search needs
 
--- src/rounds.rt:124:5
 loop-holds : tie.Need-loop-holds Inv-loop μ-loop
-loop-holds c = ?
+loop-holds c = visited-none (c .args .t1) (c .args .windows) (c .args .moves) (c .pre)
 
--- src/rounds.rt:125:17
 mul-e : tie.Need-mul-e Inv-loop μ-loop
-mul-e c = ?
+mul-e c = search needs
 
--- src/rounds.rt:125:17
 element-copy-out-e : tie.Need-element-copy-out-e Inv-loop μ-loop
-element-copy-out-e c = ?
+element-copy-out-e c = search needs
 
--- src/rounds.rt:127:21
 is-whole-requires : tie.Need-is-whole-requires Inv-loop μ-loop
-is-whole-requires c κs = ?
+is-whole-requires c κs = search needs
 
--- src/rounds.rt:127:9
 visit-requires : tie.Need-visit-requires Inv-loop μ-loop
-visit-requires c κs = ?
+visit-requires c κs = (next-ready (c .before .before .before .before .args .t1) (c .before .before .before .before .args .windows) (c .before .before .before .before .args .moves) (c .before .before .before .before .pre) (c .before .before .before .loop .now) (c .before .before .before .loop .k) (c .before .before .before .loop .inv) (c .before .before .loop-test .taken), next-few (c .before .before .before .before .args .t1) (c .before .before .before .before .args .windows) (c .before .before .before .before .args .moves) (c .before .before .before .before .pre) (c .before .before .before .loop .now) (c .before .before .before .loop .k) (c .before .before .before .loop .inv) (c .before .before .loop-test .taken))
 
 enum-told : tie.Need-enum-told Inv-loop μ-loop
-enum-told c = ?
+enum-told c = search needs
 
--- src/rounds.rt:130:13
 enum-told-2 : tie.Need-enum-told-2 Inv-loop μ-loop
-enum-told-2 c = ?
+enum-told-2 c = search needs
 
--- src/rounds.rt:130:13
 returns : tie.Need-returns Inv-loop μ-loop
-returns c = ?
+returns c = let long : length (c .before .before .before .before .before .before .before .args .t1 .entries) ≡ 64 = search (needs, length-mapped) in visited-stopped (c .before .before .before .before .before .before .before .args .t1) (c .before .before .before .before .before .before .before .args .windows) (c .before .before .before .before .before .before .before .args .moves) (c .before .before .before .before .before .before .before .pre) (c .before .before .before .before .before .before .loop .now) (c .before .before .before .before .before .before .loop .k) (c .before .before .before .before .before .before .loop .inv) (c .before .before .before .before .before .loop-test .taken) long (c .before .before .before .is-whole .result) (c .before .before .before .is-whole .ensures) (c .before .before .visit .result) (c .before .before .visit .ensures) _ (c .enum-told2 .given .1)
 
--- src/rounds.rt:132:9
 add-k : tie.Need-add-k Inv-loop μ-loop
-add-k c = ?
+add-k c = search needs
 
--- src/rounds.rt:124:5
 loop-less : tie.Need-loop-less Inv-loop μ-loop
-loop-less c = ?
+loop-less c = search needs
 
--- src/rounds.rt:124:5
 loop-again : tie.Need-loop-again Inv-loop μ-loop
-loop-again c = ?
+loop-again c = let long : length (c .before .before .before .before .before .before .before .args .t1 .entries) ≡ 64 = search (needs, length-mapped) in visited-next (c .before .before .before .before .before .before .before .args .t1) (c .before .before .before .before .before .before .before .args .windows) (c .before .before .before .before .before .before .before .args .moves) (c .before .before .before .before .before .before .before .pre) (c .before .before .before .before .before .before .loop .now) (c .before .before .before .before .before .before .loop .k) (c .before .before .before .before .before .before .loop .inv) (c .before .before .before .before .before .loop-test .taken) long (c .before .before .before .is-whole .result) (c .before .before .before .is-whole .ensures) (c .before .before .visit .result) (c .before .before .visit .ensures) (c .enum-told .given .1)
 
--- src/rounds.rt:113:1
 returns-2 : tie.Need-returns-2 Inv-loop μ-loop
-returns-2 c = ?
+returns-2 c = visited-all (c .before .before .args .t1) (c .before .before .args .windows) (c .before .before .args .moves) (c .before .before .pre) (c .before .loop .now) (c .before .loop .k) (c .before .loop .inv) (c .loop-test .left)
 
 pub one-round-spec : {M : Type 1} → statement M
 one-round-spec =

@@ -1,0 +1,175 @@
+-- Visits and rounds, as code makes them.
+-- Assumes nothing.
+use mathlib.Core.Path.{_≡_, refl, sym, ap, _∙_}
+use mathlib.Core.Bool.{Bool, true, false, cond, not}
+use Prim.Native.Nat.{ℕ, zero, suc, _+_, _-_, _<_, _≤_}
+use native.Mathlib.Numerals.{add-one}
+use native.Mathlib.Omega.{arith}
+use borrow.Author.Tests.{eq-eqb, ne-eqb}
+use lib.Dec.{eqb}
+use lib.ListN.{length, getD}
+use lib.Seq.{getD-take}
+use Rattle.list.specs.Outcomes.{Code, Outcome, answered, refused, andThen}
+use Rattle.list.specs.Refusals.{codeOf}
+use Rattle.list.specs.DayLists.{blank}
+use Rattle.list.specs.declared.types.DayList.{DayList}
+use Rattle.list.specs.declared.types.Refusal.{Refusal}
+use Rattle.list.specs.declared.types.Verdict.the-variants.{Accepted, Refused}
+use Rattle.list.proofs.Inversion.{Says}
+use Rattle.jackson.specs.Windows.{Windows, windowsIn}
+use Rattle.jackson.specs.Intervals.{overloadOf}
+use Rattle.jackson.specs.declared.types.WindowSet.{WindowSet}
+use Rattle.jackson.proofs.Sums.{le-or-lt}
+use Rattle.narrow.specs.Searching.{Test}
+use Rattle.narrow.specs.Rounds.{Side, earliest, latest, Narrowed, unmoved, step, movesOf, narrowSide, visit, visits, round, rounds, slack}
+use Rattle.narrow.specs.Laws.{Formed}
+use Rattle.narrow.specs.Calls.{isWhole, wholeIn}
+use Rattle.narrow.specs.Parts.{stateOf, narrowedOf, Searchable, Countable}
+use Rattle.narrow.specs.declared.rounds.Narrowing.{Narrowing}
+use Rattle.narrow.proofs.Costs.{Costs, keeps-n, side-cost, visits-cost, round-cost}
+use Rattle.narrow.proofs.RoundCases.{moved-one}
+
+-- a search makes at most two moves
+side-moves : (test : Test) (side : Side) (k : ℕ) (s : Narrowed) → Says (λ (v : Narrowed). v .moves ≤ s .moves + 2) (λ _. Unit {0}) (narrowSide test side k s)
+unfolding narrowSide
+side-moves test side k s = go (step test side k (s .windows))
+  where
+    go : (o : Outcome Windows) → Says (λ (v : Narrowed). v .moves ≤ s .moves + 2) (λ _. Unit {0})
+        (andThen o (λ v. answered (record { windows = v; moves = s .moves + movesOf k (s .windows) v })))
+    go (answered v) = omega (arith, moved-one (s .windows .r k) (v .r k), moved-one (s .windows .d k) (v .d k))
+    go (refused x) = tt
+
+-- a visit, after its first search
+module _ (s : WindowSet) (moves k : ℕ) (ready : Searchable s k) (a : Narrowing)
+    (is : narrowedOf a ≡ narrowSide overloadOf earliest k (stateOf s moves)) where
+  started : a .verdict ≡ Accepted → narrowSide overloadOf earliest k (stateOf s moves) ≡ answered (stateOf (a .windows) (a .moves))
+  started e = rw e at (sym is)
+
+  pub visit-stopped : (x : Refusal) → a .verdict ≡ Refused x
+      → narrowedOf a ≡ andThen (narrowSide overloadOf earliest k (stateOf s moves)) (narrowSide overloadOf latest k)
+  visit-stopped x e = let z : narrowSide overloadOf earliest k (stateOf s moves) ≡ refused (codeOf x) = rw e at (sym is) in rw (z, e)
+
+  module _ (e : a .verdict ≡ Accepted) where
+    pub visit-on : Searchable (a .windows) k
+    visit-on =
+        let cost = side-cost overloadOf (λ _. true) (stateOf s moves) (ready .formed) earliest k (ready .place) refl _ (started e) in
+        record { formed = cost .keeps .formed; place = omega (arith, keeps-n (cost .keeps), ready .place) }
+
+    pub visit-moves : a .moves ≤ moves + 2
+    visit-moves = rw (started e) at (side-moves overloadOf earliest k (stateOf s moves))
+
+    pub visit-ends : (b : Narrowing) → narrowedOf b ≡ narrowSide overloadOf latest k (stateOf (a .windows) (a .moves))
+        → narrowedOf b ≡ andThen (narrowSide overloadOf earliest k (stateOf s moves)) (narrowSide overloadOf latest k)
+    visit-ends b last = rw (started e) last
+
+-- a refusal of earlier visits stays
+visits-stay : (test : Test) (whole : ℕ → Bool) (s : Narrowed) (x : Code) (k n : ℕ) → k ≤ n → visits test whole k s ≡ refused x → visits test whole n s ≡ refused x
+unfolding visits
+visits-stay test whole s x k zero h e = let z : k ≡ 0 = omega arith in rw z at e
+visits-stay test whole s x k (suc n) h e =
+    le-or-lt k n
+    (λ l. rw (visits-stay test whole s x k n l e))
+    (λ l. let z : k ≡ suc n = omega arith in rw z at e)
+
+-- the places below k were visited, with this result
+pub record Visited (l : DayList) (s : Narrowed) (now : Narrowing) (k : ℕ) : Type 0 where
+  pub passed : k ≤ l .n
+  pub accepted : now .verdict ≡ Accepted
+  pub so : visits overloadOf (wholeIn l) k s ≡ answered (stateOf (now .windows) (now .moves))
+
+module _ (l : DayList) (s : WindowSet) (moves : ℕ) (ready : Countable l s moves) where
+  pub visited-none : Visited l (stateOf s moves) (record { verdict = Accepted; windows = s; moves = moves }) 0
+  unfolding visits
+  visited-none = record { passed = omega arith; accepted = refl; so = refl }
+
+  module _ (now : Narrowing) (k : ℕ) (v : Visited l (stateOf s moves) now k) where
+    pub visited-all : l .n ≤ k → narrowedOf now ≡ round overloadOf (wholeIn l) (stateOf s moves)
+    visited-all h =
+        let z : windowsIn s .n ≡ k = omega (arith, ready .count, v .passed) in
+        rw (v .accepted) (sym (ap (λ (j : ℕ). visits overloadOf (wholeIn l) j (stateOf s moves)) z ∙ v .so))
+
+    module _ (h : k < l .n) where
+      cost : Costs (wholeIn l) (stateOf s moves) (stateOf (now .windows) (now .moves))
+      cost = visits-cost overloadOf (wholeIn l) (stateOf s moves) (ready .formed) k (omega (arith, ready .count)) _ (v .so)
+
+      -- the next place can be visited, and its moves be counted
+      pub next-ready : Searchable (now .windows) k
+      next-ready = record { formed = cost .keeps .formed; place = omega (arith, keeps-n (cost .keeps), ready .count, h) }
+
+      pub next-few : now .moves < 4294967290
+      next-few = omega (arith, cost .paid, ready .few)
+
+      module _ (long : length (l .entries) ≡ 64) (whole : Bool) (kind : whole ≡ isWhole (getD (l .entries) k blank .kind)) (a : Narrowing)
+          (is : narrowedOf a ≡ cond whole (andThen (narrowSide overloadOf earliest k (stateOf (now .windows) (now .moves))) (narrowSide overloadOf latest k)) (answered (stateOf (now .windows) (now .moves)))) where
+        after : visits overloadOf (wholeIn l) (k + 1) (stateOf s moves) ≡ narrowedOf a
+        unfolding visits visit
+        after =
+            let z : wholeIn l k ≡ whole = rw (getD-take (l .n) (l .entries) k blank h) (sym kind) in
+            rw (add-one, v .so, z) (sym is)
+
+        pub visited-next : a .verdict ≡ Accepted → Visited l (stateOf s moves) a (k + 1)
+        visited-next e = record { passed = omega (arith, h); accepted = e; so = after ∙ rw e }
+
+        pub visited-stopped : (x : Refusal) → a .verdict ≡ Refused x → narrowedOf a ≡ round overloadOf (wholeIn l) (stateOf s moves)
+        visited-stopped x e =
+            let z : visits overloadOf (wholeIn l) (k + 1) (stateOf s moves) ≡ refused (codeOf x) = after ∙ rw e in
+            rw e (sym (visits-stay overloadOf (wholeIn l) (stateOf s moves) (codeOf x) (k + 1) _ (omega (arith, ready .count, h)) z))
+
+-- the rounds from now on are those of the whole; so much fuel is left
+pub record Rounded (l : DayList) (given now : WindowSet) (moves : ℕ) : Type 0 where
+  pub ready : Countable l now moves
+  pub fuel : ℕ
+  pub enough : slack (wholeIn l) (windowsIn now) < fuel
+  pub same : rounds overloadOf (wholeIn l) (suc (slack (wholeIn l) (windowsIn given))) (unmoved (windowsIn given))
+      ≡ rounds overloadOf (wholeIn l) fuel (stateOf now moves)
+
+-- what follows a round, when there were so many moves before it
+goes-on : DayList → ℕ → ℕ → Narrowed → Outcome Narrowed
+goes-on l moves fuel v = cond (eqb (v .moves) moves) (answered v) (rounds overloadOf (wholeIn l) fuel v)
+
+module _ (l : DayList) (given : WindowSet) where
+  pub rounded-none : Countable l given 0 → Rounded l given given 0
+  rounded-none ready = record { ready = ready; fuel = suc (slack (wholeIn l) (windowsIn given)); enough = omega arith; same = refl }
+
+  module _ (now : WindowSet) (moves : ℕ) (so : Rounded l given now moves) (a : Narrowing)
+      (is : narrowedOf a ≡ round overloadOf (wholeIn l) (stateOf now moves)) where
+    abbrev The : Outcome Narrowed
+    The = rounds overloadOf (wholeIn l) (suc (slack (wholeIn l) (windowsIn given))) (unmoved (windowsIn given))
+
+    one-more : The ≡ andThen (narrowedOf a) (goes-on l moves (so .fuel - 1))
+    unfolding rounds goes-on
+    one-more =
+        let z : so .fuel ≡ suc (so .fuel - 1) = omega (arith, so .enough) in
+        so .same
+        ∙ ap (λ (f : ℕ). rounds overloadOf (wholeIn l) f (stateOf now moves)) z
+        ∙ ap (λ (o : Outcome Narrowed). andThen o (goes-on l moves (so .fuel - 1))) (sym is)
+
+    pub rounded-stopped : (x : Refusal) → a .verdict ≡ Refused x → narrowedOf a ≡ The
+    rounded-stopped x e = rw e (sym (one-more ∙ rw e))
+
+    module _ (e : a .verdict ≡ Accepted) where
+      pub rounded-last : a .moves ≡ moves → narrowedOf a ≡ The
+      unfolding goes-on
+      rounded-last q = rw e (sym (one-more ∙ rw (e, eq-eqb _ _ q)))
+
+      cost-of : Costs (wholeIn l) (stateOf now moves) (stateOf (a .windows) (a .moves))
+      cost-of = round-cost overloadOf (wholeIn l) (stateOf now moves) (so .ready .formed) _ (rw e at (sym is))
+
+      module _ (moved : a .moves ≡ moves → ⊥) where
+        pub rounded-less : slack (wholeIn l) (windowsIn (a .windows)) < slack (wholeIn l) (windowsIn now)
+        rounded-less = omega (arith, cost-of .paid, cost-of .more, moved)
+
+        pub rounded-next : Rounded l given (a .windows) (a .moves)
+        unfolding goes-on
+        rounded-next =
+            record {
+              ready =
+                  record {
+                    formed = cost-of .keeps .formed;
+                    count = keeps-n (cost-of .keeps) ∙ so .ready .count;
+                    few = omega (arith, cost-of .paid, so .ready .few);
+                  };
+              fuel = so .fuel - 1;
+              enough = omega (arith, rounded-less, so .enough);
+              same = one-more ∙ rw (e, ne-eqb _ _ moved);
+            }
