@@ -13,3 +13,5 @@ mod SearchCases
 mod EndCases
 mod RoundCases
 mod VisitCases
+mod ListCases
+mod CallCases

@@ -70,4 +70,21 @@ standing (refused k) = (emptyList, 0)
 pub record AnswersAs (l : DayList) (o : Outcome Narrowed) (a : NarrowAnswer) : Type 0 where
   pub outcome : narrowAnswerOf a ≡ listed l o
   pub beside : (a .list, a .moves) ≡ standing (listed l o)
+
+-- beside that, of an answer: the list answered has these windows, and passes the value check itself
+pub record HoldsAnswer (o : Outcome Narrowed) (a : NarrowAnswer) : Type 0 where
   pub windows : (v : Narrowed) → o ≡ answered v → windowsOf (a .list) ≡ v .windows
+  pub formed : (v : Narrowed) → o ≡ answered v → WellFormed (a .list)
+
+-- what `settle` answers of the list l
+pub record Settles (l : DayList) (a : NarrowAnswer) : Type 0 where
+  pub answers : AnswersAs l (settleOf l) a
+  pub holds : HoldsAnswer (settleOf l) a
+  -- the law, for a list that passes the value check; and what row 9 shows
+  pub law : WellFormed l → NarrowLaw overloadOf (wholeIn l) (windowsOf l) (settleOf l)
+  pub shown : (k : Code) → settleOf l ≡ refused k → k .number ≡ 9 → ShowsOverload (windowsOf l) k
+
+-- what `round` answers of the list l
+pub record MakesRound (l : DayList) (a : NarrowAnswer) : Type 0 where
+  pub answers : AnswersAs l (roundOf l) a
+  pub holds : HoldsAnswer (roundOf l) a

@@ -41,11 +41,11 @@ pub record Searchable (s : WindowSet) (k : ℕ) : Type 0 where
   pub formed : Formed (windowsIn s)
   pub place : k < windowsIn s .n
 
--- windows of a list's entries, and moves so few that counting on does not pass 32 bits: each further one takes one of the minutes left
+-- windows of a list's entries, and moves so few that counting on does not pass 32 bits: with the minutes that can still be cut, at most 64 days of 1,440
 pub record Countable (l : DayList) (s : WindowSet) (moves : ℕ) : Type 0 where
   pub formed : Formed (windowsIn s)
   pub count : windowsIn s .n ≡ l .n
-  pub few : moves + slack (wholeIn l) (windowsIn s) ≤ 4194240
+  pub few : moves + slack (wholeIn l) (windowsIn s) ≤ 92160
 
 -- one side of the mirrored windows: of the first count entries h minus the other side, of the rest the side as it is
 abbrev pub Turned : ℕ → ℕ → List ℕ → List ℕ → List ℕ → Type 0

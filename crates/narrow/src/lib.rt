@@ -2,11 +2,11 @@
 // Promises: `settle` narrows a list, `round` makes one round of it. Each is total: its contract states the answer by equality with
 // definitions of specs/, for every value, and beside it the law of specs/Laws.antt. Uses the crate list, and of the crate jackson the
 // overload test's promise, the law that a plan exists exactly without overload, and facts about plans alone; no schedule.
+mod calls;
 mod mirror;
 mod rounds;
 mod search;
-mod settle;
 pub mod types;
 
-//pub use settle::round;
-//pub use settle::settle;
+pub use calls::round;
+pub use calls::settle;

@@ -1,0 +1,223 @@
+-- The public calls: what their answers say, and how code makes them.
+-- Assumes nothing.
+use mathlib.Core.Path.{_≡_, refl, sym, ap, _∙_}
+use mathlib.Core.Bool.{Bool, true, false, cond}
+use mathlib.Core.List.{[]}
+use Prim.Native.Nat.{ℕ, zero, suc, _+_, _*_, _-_, _<_, _≤_}
+use native.Mathlib.Omega.{arith}
+use lib.ListN.{length}
+use lib.Seq.{length-take-le}
+use Rattle.list.specs.Outcomes.{Code, Outcome, answered, refused, andThen}
+use Rattle.list.specs.Refusals.{codeOf, verdictOf}
+use Rattle.list.specs.DayLists.{entriesOf, emptyList}
+use Rattle.list.specs.Checks.{checkOf, WellFormed}
+use Rattle.list.specs.declared.types.DayList.{DayList}
+use Rattle.list.specs.declared.types.Refusal.{Refusal}
+use Rattle.list.specs.declared.types.Verdict.{Verdict}
+use Rattle.list.specs.declared.types.Verdict.the-variants.{Accepted, Refused}
+use Rattle.list.proofs.Inversion.{Says}
+use Rattle.list.proofs.Sound.{SoundList, check-says, sound-list}
+use Rattle.jackson.specs.Counting.{sum}
+use Rattle.jackson.specs.Windows.{Windows, windowsOf, windowsIn}
+use Rattle.jackson.specs.Intervals.{ShowsOverload, overloadOf}
+use Rattle.jackson.specs.Testing.{Holds}
+use Rattle.jackson.specs.declared.types.WindowSet.{WindowSet}
+use Rattle.jackson.proofs.ListLaws.{list-roomy, list-few, list-minutes, list-law}
+use Rattle.narrow.specs.Rounds.{Narrowed, unmoved, round, rounds, narrowing, slack}
+use Rattle.narrow.specs.Laws.{Formed, NarrowLaw}
+use Rattle.narrow.specs.Calls.{wholeIn, listWith, settleOf, roundOf, AnswersAs, HoldsAnswer, Settles, MakesRound}
+use Rattle.narrow.specs.Parts.{stateOf, narrowedOf, Countable}
+use Rattle.narrow.specs.declared.types.NarrowAnswer.{NarrowAnswer}
+use Rattle.narrow.specs.declared.rounds.Narrowing.{Narrowing}
+use Rattle.narrow.proofs.Planners.{Keeps}
+use Rattle.narrow.proofs.Costs.{WholeRefused, round-cost, rounds-cost, rounds-refused, answered-refused}
+use Rattle.narrow.proofs.NarrowLaws.{narrow-law}
+use Rattle.narrow.proofs.OverloadPlanner.{overload-planner}
+use Rattle.narrow.proofs.ListCases.{listed-windows, listed-formed}
+
+-- The windows of a list that passes the value check.
+module _ (l : DayList) (formed : WellFormed l) where
+  pub list-formed : Formed (windowsOf l)
+  list-formed =
+      record {
+        few = omega (arith, list-few l formed);
+        minutes = list-minutes l formed;
+        in-day = λ i h. list-roomy l formed .in-day i h (list-minutes l formed i h);
+        room = λ i h. list-roomy l formed .room i h (list-minutes l formed i h);
+      }
+
+  -- the law of narrowing holds of them
+  pub settle-law : NarrowLaw overloadOf (wholeIn l) (windowsOf l) (settleOf l)
+  unfolding settleOf
+  settle-law = rw formed (narrow-law overload-planner (wholeIn l) (windowsOf l) list-formed)
+
+-- a sum of n numbers of at most 1,440
+sum-days : (n : ℕ) (f : ℕ → ℕ) → ((i : ℕ) → i < n → f i ≤ 1440) → sum n f ≤ n * 1440
+unfolding sum
+sum-days zero f h = omega arith
+sum-days (suc n) f h = omega (arith, sum-days n f (λ i l. h i (omega arith)), h n (omega arith))
+
+-- what rounds of the list need
+pub list-countable : (l : DayList) (s : WindowSet) → length (l .entries) ≡ 64 → WellFormed l → Holds l s → Countable l s 0
+list-countable l s long formed holds =
+    let same : slack (wholeIn l) (windowsIn s) ≡ slack (wholeIn l) (windowsOf l) = ap (λ (w : Windows). slack (wholeIn l) w) (holds .windows) in
+    record {
+      formed = rw (holds .windows) (list-formed l formed);
+      count = ap (λ (w : Windows). w .n) (holds .windows) ∙ count;
+      few = omega (arith, same, sum-days (windowsOf l .n) _ each, list-few l formed);
+    }
+  where
+    header : SoundList l
+    header = sound-list l formed
+
+    count : windowsOf l .n ≡ l .n
+    count = length-take-le (l .n) (l .entries) (omega (arith, long, header .header .room))
+
+    each : (i : ℕ) → i < windowsOf l .n → cond (wholeIn l i) (windowsOf l .d i - (windowsOf l .r i + windowsOf l .p i)) 0 ≤ 1440
+    each i h = go (wholeIn l i)
+      where
+        go : (t : Bool) → cond t (windowsOf l .d i - (windowsOf l .r i + windowsOf l .p i)) 0 ≤ 1440
+        go true = omega (arith, list-formed l formed .in-day i h, header .header .one-day)
+        go false = omega arith
+
+-- Answers.
+module _ (l : DayList) (a : NarrowAnswer) where
+  -- a refusal
+  pub answers-refused : (o : Outcome Narrowed) (v : Verdict) (x : Refusal) → a ≡ record { verdict = v; list = emptyList; moves = 0 } → v ≡ Refused x
+      → o ≡ refused (codeOf x) → AnswersAs l o a
+  answers-refused o v x is e q = record { outcome = rw (is, q, e); beside = rw (is, q) }
+
+  -- windows that narrowing leaves are those of the list answered
+  holds-answer : (o : Outcome Narrowed) → ((v : Narrowed) → o ≡ answered v → Keeps (windowsOf l) (v .windows) × WellFormed l) → AnswersAs l o a → HoldsAnswer o a
+  holds-answer o keeps answers =
+      record {
+        windows = λ v e. rw (list-is v e) (listed-windows l (v .windows) (keeps v e .0));
+        formed = λ v e. rw (list-is v e) (listed-formed l (v .windows) (keeps v e .0) (keeps v e .1));
+      }
+    where
+      list-is : (v : Narrowed) → o ≡ answered v → a .list ≡ listWith l (v .windows)
+      list-is v e = ap (λ (x : DayList × ℕ). x .0) (rw e at (answers .beside))
+
+-- the outcome of a call whose value check was passed, and not
+module _ (l : DayList) (f : Outcome Narrowed) where
+  passed-check : (v : Narrowed) → andThen (checkOf l) (λ _. f) ≡ answered v → WellFormed l × (f ≡ answered v)
+  passed-check v = go (checkOf l) refl
+    where
+      go : (c : Outcome (Unit {0})) → checkOf l ≡ c → andThen c (λ _. f) ≡ answered v → WellFormed l × (f ≡ answered v)
+      go (answered t) e q = (e, q)
+      go (refused k) e q = absurd (answered-refused q refl)
+
+-- a refusal that is not row 9
+abbrev NotNine : Code → Type 0
+NotNine k = k .number ≡ 9 → ⊥
+
+refused-same : {a b : Code} → _≡_ {A = Outcome Narrowed} (refused a) (refused b) → a ≡ b
+refused-same e = cc
+
+-- What `settle` answers.
+module _ (l : DayList) where
+  settle-keeps : (v : Narrowed) → settleOf l ≡ answered v → Keeps (windowsOf l) (v .windows) × WellFormed l
+  unfolding settleOf narrowing
+  settle-keeps v e =
+      let z = passed-check l (narrowing overloadOf (wholeIn l) (windowsOf l)) v e in
+      (go (overloadOf (windowsOf l)) (list-formed l (z .0)) (z .1), z .0)
+    where
+      go : (t : Outcome (Unit {0})) → Formed (windowsOf l)
+          → andThen t (λ _. rounds overloadOf (wholeIn l) (suc (slack (wholeIn l) (windowsOf l))) (unmoved (windowsOf l))) ≡ answered v
+          → Keeps (windowsOf l) (v .windows)
+      go (answered t) formed q = rounds-cost overloadOf (wholeIn l) (unmoved (windowsOf l)) formed _ v q .keeps
+      go (refused k) formed q = absurd (answered-refused q refl)
+
+  -- row 9 is the overload test's
+  settle-shown : (k : Code) → settleOf l ≡ refused k → k .number ≡ 9 → ShowsOverload (windowsOf l) k
+  unfolding settleOf narrowing
+  settle-shown k e nine = checked (checkOf l) refl (check-says l NotNine (λ z. omega arith) (λ z. omega arith) (λ _ z. omega arith) (λ _ z. omega arith)) e
+    where
+      after : WellFormed l → (t : Outcome (Unit {0})) → overloadOf (windowsOf l) ≡ t
+          → andThen t (λ _. rounds overloadOf (wholeIn l) (suc (slack (wholeIn l) (windowsOf l))) (unmoved (windowsOf l))) ≡ refused k
+          → ShowsOverload (windowsOf l) k
+      after formed (answered t) is q =
+          let z = rounds-refused overloadOf (wholeIn l) (unmoved (windowsOf l)) (list-formed l formed) _ k q in
+          absurd (omega (arith, nine, ap (λ (x : Code). x .number) (z .3)))
+      after formed (refused x) is q = list-law l formed .shown k (is ∙ ap (λ (c : Code). refused c) (refused-same q))
+
+      checked : (c : Outcome (Unit {0})) → checkOf l ≡ c → Says (λ _. SoundList l) NotNine c
+          → andThen c (λ _. andThen (overloadOf (windowsOf l)) (λ _. rounds overloadOf (wholeIn l) (suc (slack (wholeIn l) (windowsOf l))) (unmoved (windowsOf l)))) ≡ refused k
+          → ShowsOverload (windowsOf l) k
+      checked (answered t) is _ q = after is (overloadOf (windowsOf l)) refl q
+      checked (refused x) is other q = absurd ((rw (refused-same q) at other) nine)
+
+  pub settles : (a : NarrowAnswer) → AnswersAs l (settleOf l) a → Settles l a
+  settles a answers =
+      record {
+        answers = answers;
+        holds = holds-answer l a (settleOf l) settle-keeps answers;
+        law = settle-law l;
+        shown = settle-shown;
+      }
+
+  -- What `round` answers.
+  round-keeps : (v : Narrowed) → roundOf l ≡ answered v → Keeps (windowsOf l) (v .windows) × WellFormed l
+  unfolding roundOf
+  round-keeps v e =
+      let z = passed-check l (round overloadOf (wholeIn l) (unmoved (windowsOf l))) v e in
+      (round-cost overloadOf (wholeIn l) (unmoved (windowsOf l)) (list-formed l (z .0)) v (z .1) .keeps, z .0)
+
+  pub makes-round : (a : NarrowAnswer) → AnswersAs l (roundOf l) a → MakesRound l a
+  makes-round a answers = record { answers = answers; holds = holds-answer l a (roundOf l) round-keeps answers }
+
+-- the answer that code makes of what rounds gave
+module _ (l : DayList) (found : Narrowing) where
+  pub answers-found : (b : DayList) → found .verdict ≡ Accepted → b ≡ listWith l (windowsIn (found .windows))
+      → AnswersAs l (narrowedOf found) (record { verdict = found .verdict; list = b; moves = found .moves })
+  answers-found b e is = record { outcome = rw (e, is); beside = rw (e, is) }
+
+  pub answers-stopped : (a : NarrowAnswer) (x : Refusal) → found .verdict ≡ Refused x
+      → a ≡ record { verdict = found .verdict; list = emptyList; moves = 0 } → AnswersAs l (narrowedOf found) a
+  answers-stopped a x e is = answers-refused l a (narrowedOf found) (found .verdict) x is e (rw e)
+
+-- the calls, after the value check
+module _ (l : DayList) (v : Verdict) (checked : verdictOf v ≡ checkOf l) where
+  module _ (a : NarrowAnswer) (x : Refusal) (e : v ≡ Refused x) (is : a ≡ record { verdict = v; list = emptyList; moves = 0 }) where
+    turned-back : checkOf l ≡ refused (codeOf x)
+    turned-back = sym checked ∙ ap verdictOf e
+
+    pub settle-turned : Settles l a
+    unfolding settleOf
+    settle-turned = settles l a (answers-refused l a (settleOf l) v x is e (rw turned-back))
+
+    pub round-turned : MakesRound l a
+    unfolding roundOf
+    round-turned = makes-round l a (answers-refused l a (roundOf l) v x is e (rw turned-back))
+
+  module _ (e : v ≡ Accepted) where
+    pub check-passed : WellFormed l
+    check-passed = sym checked ∙ ap verdictOf e
+
+    pub check-few : l .n ≤ 64
+    check-few = sound-list l check-passed .header .room
+
+    module _ (s : WindowSet) (holds : Holds l s) (a : NarrowAnswer) where
+      module _ (t : Verdict) (tested : verdictOf t ≡ overloadOf (windowsIn s)) where
+        test-is : overloadOf (windowsOf l) ≡ verdictOf t
+        test-is = rw (holds .windows) at (sym tested)
+
+        pub settle-overloaded : (x : Refusal) → t ≡ Refused x → a ≡ record { verdict = t; list = emptyList; moves = 0 } → Settles l a
+        unfolding settleOf narrowing
+        settle-overloaded x q is = settles l a (answers-refused l a (settleOf l) t x is q (rw (check-passed, test-is, q)))
+
+        pub settle-found : t ≡ Accepted → (found : Narrowing)
+            → narrowedOf found ≡ rounds overloadOf (wholeIn l) (suc (slack (wholeIn l) (windowsIn s))) (unmoved (windowsIn s))
+            → AnswersAs l (narrowedOf found) a → Settles l a
+        unfolding settleOf narrowing
+        settle-found q found is answers =
+            let given : _ ≡ _ = ap (λ (w : Windows). rounds overloadOf (wholeIn l) (suc (slack (wholeIn l) w)) (unmoved w)) (holds .windows) in
+            let same : narrowedOf found ≡ settleOf l = is ∙ given ∙ rw (check-passed, test-is, q) in
+            settles l a (rw same at answers)
+
+      pub round-found : (found : Narrowing) → narrowedOf found ≡ round overloadOf (wholeIn l) (stateOf s 0) → AnswersAs l (narrowedOf found) a → MakesRound l a
+      unfolding roundOf
+      round-found found is answers =
+          let given : _ ≡ _ = ap (λ (w : Windows). round overloadOf (wholeIn l) (unmoved w)) (holds .windows) in
+          let same : narrowedOf found ≡ roundOf l = is ∙ given ∙ rw check-passed in
+          makes-round l a (rw same at answers)

@@ -1,0 +1,172 @@
+-- The list with other windows: how code makes it, and what its windows are.
+-- Assumes nothing.
+use mathlib.Core.Path.{_≡_, refl, sym, ap, _∙_, fun-ext}
+use mathlib.Core.List.{List, [], _∷_, _++_}
+use Prim.Native.Nat.{ℕ, zero, suc, _+_, _-_, _<_, _≤_}
+use native.Mathlib.Numerals.{add-one}
+use native.Mathlib.Omega.{arith}
+use lib.ListN.{length, getD, take, drop, set, replicate, length-take, length-set, take-append-drop, List·getD-eq-default}
+use lib.Seq.{length-take-le, take-suc, take-suc-set, drop-set-lt, drop-drop, take-append-seam}
+use Rattle.list.specs.DayLists.{entriesOf, blank, dayList}
+use Rattle.list.specs.Checks.{WellFormed}
+use Rattle.list.specs.declared.types.Entry.{Entry}
+use Rattle.list.specs.declared.types.Frame.{Frame}
+use Rattle.list.specs.declared.types.DayList.{DayList}
+use Rattle.list.proofs.Sound.{Sound, Every, SoundList, sound-list, well-formed}
+use Rattle.jackson.specs.Windows.{Windows, windowsOf}
+use Rattle.jackson.proofs.Sums.{le-or-lt}
+use Rattle.narrow.specs.Laws.{Formed}
+use Rattle.narrow.specs.Calls.{withTimes, entriesWith, listWith}
+use Rattle.narrow.proofs.Planners.{Keeps}
+use Rattle.narrow.proofs.Costs.{keeps-h, keeps-n, keeps-p}
+
+module _ (w : Windows) where
+  with-length : (i : ℕ) (es : List Entry) → length (entriesWith w i es) ≡ length es
+  unfolding entriesWith
+  with-length i [] = refl
+  with-length i (e ∷ es) = ap suc (with-length (i + 1) es)
+
+  -- one entry more
+  with-one : (i : ℕ) (es : List Entry) (e : Entry) (j : ℕ) → j ≡ i + length es
+      → entriesWith w i (es ++ (e ∷ [])) ≡ entriesWith w i es ++ (withTimes e (w .r j) (w .d j) ∷ [])
+  unfolding entriesWith
+  with-one i [] e j z = let q : j ≡ i = omega arith in rw q
+  with-one i (x ∷ es) e j z = ap (λ (l : List Entry). withTimes x (w .r i) (w .d i) ∷ l) (with-one (i + 1) es e j (omega arith))
+
+  -- the entry at a place
+  with-at : (i : ℕ) (es : List Entry) (j : ℕ) (k : ℕ) → k ≡ i + j → j < length es
+      → getD (entriesWith w i es) j blank ≡ withTimes (getD es j blank) (w .r k) (w .d k)
+  unfolding entriesWith
+  with-at i [] j k z h = absurd (omega arith)
+  with-at i (e ∷ es) zero k z h = let q : k ≡ i = omega arith in rw q
+  with-at i (e ∷ es) (suc j) k z h = with-at (i + 1) es j k (omega arith) (omega arith)
+
+  -- what holds of each of them
+  with-every : (P : Entry → Type 0) (i : ℕ) (es : List Entry) → ((j k : ℕ) → k ≡ i + j → j < length es → P (withTimes (getD es j blank) (w .r k) (w .d k)))
+      → Every P (entriesWith w i es)
+  unfolding entriesWith
+  with-every P i [] each = tt
+  with-every P i (e ∷ es) each =
+      (each 0 i (omega arith) (omega arith), with-every P (i + 1) es (λ j k z h. each (suc j) k (omega arith) (omega arith)))
+
+-- the first i entries stand with their windows, and blank ones after them
+pub record Filled (l : DayList) (w : Windows) (entries : List Entry) (i : ℕ) : Type 0 where
+  pub room : l .n ≤ 64
+  pub passed : i ≤ l .n
+  pub long : length entries ≡ 64
+  pub done : take i entries ≡ entriesWith w 0 (take i (l .entries))
+  pub unused : drop i entries ≡ replicate (64 - i) blank
+
+module _ (l : DayList) (w : Windows) where
+  pub filled-none : l .n ≤ 64 → Filled l w (replicate 64 blank) 0
+  unfolding entriesWith
+  filled-none room = record { room = room; passed = omega arith; long = refl; done = refl; unused = refl }
+
+  module _ (long : length (l .entries) ≡ 64) (entries : List Entry) (i : ℕ) (so : Filled l w entries i) where
+    pub filled-next : (e : Entry) → i < l .n → e ≡ withTimes (getD (l .entries) i blank) (w .r i) (w .d i) → Filled l w (set entries i e) (i + 1)
+    filled-next e h is =
+        record {
+          room = so .room;
+          passed = omega (arith, h);
+          long = length-set entries i e ∙ so .long;
+          done = rw add-one (take-suc-set entries i e (omega (arith, so .long, so .room)) ∙ one);
+          unused = drop-set-lt (i + 1) entries i e (omega arith) ∙ sym (drop-drop 1 i entries) ∙ rest;
+        }
+      where
+        one : take i entries ++ (e ∷ []) ≡ entriesWith w 0 (take (suc i) (l .entries))
+        one =
+            let k : i ≡ 0 + length (take i (l .entries)) = omega (arith, length-take-le i (l .entries) (omega (arith, long, so .room))) in
+            rw (is, take-suc (l .entries) i blank (omega (arith, long, so .room)), so .done)
+            (sym (with-one w 0 (take i (l .entries)) (getD (l .entries) i blank) i k))
+
+        rest : drop 1 (drop i entries) ≡ replicate (64 - (i + 1)) blank
+        rest = let z : 64 - i ≡ suc (64 - (i + 1)) = omega (arith, so .room) in rw (so .unused, z)
+
+    pub filled-all : l .n ≤ i → record { frame = l .frame; n = l .n; entries = entries } ≡ listWith l w
+    unfolding listWith
+    filled-all h =
+        let z : i ≡ l .n = omega (arith, so .passed) in
+        let es = entriesWith w 0 (entriesOf l) in
+        let done : take (l .n) entries ≡ es = rw z at (so .done) in
+        let unused : drop (l .n) entries ≡ replicate (64 - l .n) blank = rw z at (so .unused) in
+        let count : l .n ≡ length es = sym (with-length w 0 (entriesOf l) ∙ length-take-le (l .n) (l .entries) (omega (arith, long, so .room))) in
+        padded es entries count (sym (take-append-drop (l .n) entries) ∙ rw (done, unused))
+      where
+        padded : (es all : List Entry) → l .n ≡ length es → all ≡ es ++ replicate (64 - l .n) blank
+            → record { frame = l .frame; n = l .n; entries = all } ≡ dayList (l .frame) es
+        padded es all k e = rw (e, k)
+
+-- The windows of the list that is answered.
+module _ (l : DayList) (w : Windows) (keeps : Keeps (windowsOf l) w) where
+  entries-are : entriesOf (listWith l w) ≡ entriesWith w 0 (entriesOf l)
+  unfolding listWith
+  entries-are = take-append-seam (entriesWith w 0 (entriesOf l)) _
+
+  at-place : (i : ℕ) → i < windowsOf l .n → getD (entriesOf (listWith l w)) i blank ≡ withTimes (getD (entriesOf l) i blank) (w .r i) (w .d i)
+  at-place i h = rw entries-are (with-at w 0 (entriesOf l) i i (omega arith) h)
+
+  past-places : (i : ℕ) → windowsOf l .n ≤ i → (getD (entriesOf (listWith l w)) i blank ≡ blank) × (getD (entriesOf l) i blank ≡ blank)
+  past-places i h = (
+    rw entries-are (List·getD-eq-default (entriesWith w 0 (entriesOf l)) blank (omega (arith, with-length w 0 (entriesOf l)))),
+    List·getD-eq-default (entriesOf l) blank h,
+  )
+
+  listed-n : length (entriesOf (listWith l w)) ≡ length (entriesOf l)
+  listed-n = rw entries-are (with-length w 0 (entriesOf l))
+
+  pub listed-windows : windowsOf (listWith l w) ≡ w
+  unfolding listWith
+  listed-windows =
+      λ j.
+      record {
+        h = sym (keeps-h keeps) j;
+        n = (listed-n ∙ sym (keeps-n keeps)) j;
+        r = fun-ext {f = windowsOf (listWith l w) .r} {g = w .r} each-r j;
+        d = fun-ext {f = windowsOf (listWith l w) .d} {g = w .d} each-d j;
+        p = fun-ext {f = windowsOf (listWith l w) .p} {g = w .p} each-p j;
+      }
+    where
+      each-r : (i : ℕ) → windowsOf (listWith l w) .r i ≡ w .r i
+      each-r i =
+          le-or-lt (windowsOf l .n) i
+          (λ h. ap (λ (e : Entry). e .r) (past-places i h .0 ∙ sym (past-places i h .1)) ∙ sym (keeps .past i h .0))
+          (λ h. ap (λ (e : Entry). e .r) (at-place i h))
+
+      each-d : (i : ℕ) → windowsOf (listWith l w) .d i ≡ w .d i
+      each-d i =
+          le-or-lt (windowsOf l .n) i
+          (λ h. ap (λ (e : Entry). e .d) (past-places i h .0 ∙ sym (past-places i h .1)) ∙ sym (keeps .past i h .1))
+          (λ h. ap (λ (e : Entry). e .d) (at-place i h))
+
+      each-p : (i : ℕ) → windowsOf (listWith l w) .p i ≡ w .p i
+      each-p i =
+          le-or-lt (windowsOf l .n) i
+          (λ h. ap (λ (e : Entry). e .p) (past-places i h .0 ∙ sym (past-places i h .1)) ∙ sym (keeps-p keeps i))
+          (λ h. ap (λ (e : Entry). e .p) (at-place i h) ∙ sym (keeps-p keeps i))
+
+  -- it passes the value check, if the list given does
+  pub listed-formed : WellFormed l → WellFormed (listWith l w)
+  unfolding listWith
+  listed-formed formed =
+      let given = sound-list l formed .header in
+      well-formed (listWith l w)
+      (record {
+        header =
+            record {
+              some-minutes = given .some-minutes;
+              one-day = given .one-day;
+              room = omega (arith, given .room, with-length w 0 (entriesOf l), length-take (l .n) (l .entries));
+            };
+        entries = rw entries-are (with-every w (Sound (l .frame)) 0 (entriesOf l) sound);
+      })
+    where
+      sound : (j k : ℕ) → k ≡ 0 + j → j < length (entriesOf l) → Sound (l .frame) (withTimes (getD (entriesOf l) j blank) (w .r k) (w .d k))
+      sound j k z h =
+          let q : k ≡ j = omega arith in
+          let place : j < w .n = omega (arith, keeps-n keeps) in
+          rw q
+          (record {
+            some-minutes = omega (arith, keeps .formed .minutes j place, keeps-p keeps j);
+            in-day = omega (arith, keeps .formed .in-day j place, keeps-h keeps);
+            room = omega (arith, keeps .formed .room j place, keeps-p keeps j);
+          })

@@ -1,0 +1,88 @@
+-- The loop's invariant is `Filled`, the measure what is left of the places.
+-- Assumes nothing.
+use borrow.Author.Needs.{needs}
+use mathlib.Core.Path.{_≡_}
+use Prim.Native.Nat.{_-_}
+use lib.ListN.{length}
+use Rattle.list.proofs.Walk.{length-mapped}
+use Rattle.jackson.specs.Windows.{windowsIn}
+use Rattle.narrow.proofs.ListCases.{Filled, filled-none, filled-next, filled-all}
+use Rattle.narrow.proofs.calls.list_with.Statement.{statement}
+use Rattle.narrow.proofs.calls.list_with.Tie as tie
+
+abbrev Inv-loop : tie.InvT-loop
+Inv-loop list windows entries₀ count i₀ entries i = Filled list (windowsIn windows) entries i
+
+abbrev μ-loop : tie.MeasureT-loop
+μ-loop list windows entries₀ count i₀ entries i = count - i
+
+empty-list-requires : tie.Need-empty-list-requires Inv-loop μ-loop
+empty-list-requires c κs = search needs
+
+cast-count : tie.Need-cast-count Inv-loop μ-loop
+cast-count c = search needs
+
+loop-holds : tie.Need-loop-holds Inv-loop μ-loop
+loop-holds c = rw (c .before .empty-list .ensures) (filled-none _ _ (c .before .before .pre))
+
+mul-with-times : tie.Need-mul-with-times Inv-loop μ-loop
+mul-with-times c = search needs
+
+element-copy-out-with-times : tie.Need-element-copy-out-with-times Inv-loop μ-loop
+element-copy-out-with-times c = search needs
+
+mul-with-times-2 : tie.Need-mul-with-times-2 Inv-loop μ-loop
+mul-with-times-2 c = search needs
+
+element-copy-out-with-times-2 : tie.Need-element-copy-out-with-times-2 Inv-loop μ-loop
+element-copy-out-with-times-2 c = search needs
+
+mul-with-times-3 : tie.Need-mul-with-times-3 Inv-loop μ-loop
+mul-with-times-3 c = search needs
+
+element-copy-out-with-times-3 : tie.Need-element-copy-out-with-times-3 Inv-loop μ-loop
+element-copy-out-with-times-3 c = search needs
+
+with-times-requires : tie.Need-with-times-requires Inv-loop μ-loop
+with-times-requires c κs = search needs
+
+mul-entries : tie.Need-mul-entries Inv-loop μ-loop
+mul-entries c = search needs
+
+array-set-from-entries : tie.Need-array-set-from-entries Inv-loop μ-loop
+array-set-from-entries c = search needs
+
+add-i : tie.Need-add-i Inv-loop μ-loop
+add-i c = search needs
+
+loop-less : tie.Need-loop-less Inv-loop μ-loop
+loop-less c = search needs
+
+loop-again : tie.Need-loop-again Inv-loop μ-loop
+loop-again c = let long : length (c .before .before .before .before .before .before .before .before .args .t1 .entries) ≡ 64 = search (needs, length-mapped) in filled-next (c .before .before .before .before .before .before .before .before .args .t1) (windowsIn (c .before .before .before .before .before .before .before .before .args .t2)) long (c .before .before .before .before .before .loop .entries) (c .before .before .before .before .before .loop .i) (c .before .before .before .before .before .loop .inv) _ (c .before .before .before .before .loop-test .taken) (c .with-times .ensures)
+
+returns : tie.Need-returns Inv-loop μ-loop
+returns c = let long : length (c .before .before .before .before .before .args .t1 .entries) ≡ 64 = search (needs, length-mapped) in filled-all (c .before .before .before .before .before .args .t1) (windowsIn (c .before .before .before .before .before .args .t2)) long (c .before .before .loop .entries) (c .before .before .loop .i) (c .before .before .loop .inv) (c .before .loop-test .left)
+
+pub list-with-spec : {M : Type 1} → statement M
+list-with-spec =
+    tie.close
+    (tie.spec
+    Inv-loop
+    μ-loop
+    empty-list-requires
+    cast-count
+    loop-holds
+    mul-with-times
+    element-copy-out-with-times
+    mul-with-times-2
+    element-copy-out-with-times-2
+    mul-with-times-3
+    element-copy-out-with-times-3
+    with-times-requires
+    mul-entries
+    array-set-from-entries
+    add-i
+    loop-less
+    loop-again
+    returns)

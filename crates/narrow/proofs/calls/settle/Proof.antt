@@ -1,0 +1,70 @@
+-- Each way out has its outcome.
+-- Assumes nothing.
+use borrow.Author.Needs.{needs}
+use mathlib.Core.Path.{_≡_}
+use lib.ListN.{length}
+use Rattle.list.proofs.Walk.{length-mapped}
+use Rattle.narrow.proofs.CallCases.{list-countable, check-passed, check-few, settle-turned, settle-overloaded, settle-found}
+use Rattle.narrow.proofs.calls.settle.Statement.{statement}
+use Rattle.narrow.proofs.calls.settle.Tie as tie
+
+check-requires : tie.Need-check-requires
+check-requires c κs = search needs
+
+enum-told : tie.Need-enum-told
+enum-told c = search needs
+
+enum-told-2 : tie.Need-enum-told-2
+enum-told-2 c = search needs
+
+refused-with-requires : tie.Need-refused-with-requires
+refused-with-requires c κs = search needs
+
+returns : tie.Need-returns
+returns c = settle-turned (c .before .before .before .before .args .list) (c .before .before .before .check .result) (c .before .before .before .check .ensures) (c .refused-with .result) _ (c .before .enum-told2 .given .1) (c .refused-with .ensures)
+
+untested-windows-requires : tie.Need-untested-windows-requires
+untested-windows-requires c κs = search needs
+
+untested-overload-requires : tie.Need-untested-overload-requires
+untested-overload-requires c κs = search needs
+
+enum-told-3 : tie.Need-enum-told-3
+enum-told-3 c = search needs
+
+enum-told-4 : tie.Need-enum-told-4
+enum-told-4 c = search needs
+
+refused-with-requires-2 : tie.Need-refused-with-requires-2
+refused-with-requires-2 c κs = search needs
+
+returns-2 : tie.Need-returns-2
+returns-2 c = settle-overloaded (c .before .before .before .before .before .before .before .before .args .list) (c .before .before .before .before .before .before .before .check .result) (c .before .before .before .before .before .before .before .check .ensures) (c .before .before .before .before .before .enum-told .given .1) (c .before .before .before .before .untested-windows .result) (c .before .before .before .before .untested-windows .ensures) (c .refused-with2 .result) (c .before .before .before .untested-overload .result) (c .before .before .before .untested-overload .ensures) _ (c .before .enum-told4 .given .1) (c .refused-with2 .ensures)
+
+all-rounds-requires : tie.Need-all-rounds-requires
+all-rounds-requires c κs = let long : length (c .before .before .before .before .before .before .before .args .list .entries) ≡ 64 = search (needs, length-mapped) in list-countable (c .before .before .before .before .before .before .before .args .list) (c .before .before .before .untested-windows .result) long (check-passed (c .before .before .before .before .before .before .before .args .list) (c .before .before .before .before .before .before .check .result) (c .before .before .before .before .before .before .check .ensures) (c .before .before .before .before .enum-told .given .1)) (c .before .before .before .untested-windows .ensures)
+
+answer-with-requires : tie.Need-answer-with-requires
+answer-with-requires c κs = check-few (c .before .before .before .before .before .before .before .before .args .list) (c .before .before .before .before .before .before .before .check .result) (c .before .before .before .before .before .before .before .check .ensures) (c .before .before .before .before .before .enum-told .given .1)
+
+returns-3 : tie.Need-returns-3
+returns-3 c = settle-found (c .before .before .before .before .before .before .before .before .before .args .list) (c .before .before .before .before .before .before .before .before .check .result) (c .before .before .before .before .before .before .before .before .check .ensures) (c .before .before .before .before .before .before .enum-told .given .1) (c .before .before .before .before .before .untested-windows .result) (c .before .before .before .before .before .untested-windows .ensures) (c .answer-with .result) (c .before .before .before .before .untested-overload .result) (c .before .before .before .before .untested-overload .ensures) (c .before .before .enum-told3 .given .1) (c .before .all-rounds .result) (c .before .all-rounds .ensures) (c .answer-with .ensures)
+
+pub settle-spec : {M : Type 1} → statement M
+settle-spec =
+    tie.close
+    (tie.spec
+    check-requires
+    enum-told
+    enum-told-2
+    refused-with-requires
+    returns
+    untested-windows-requires
+    untested-overload-requires
+    enum-told-3
+    enum-told-4
+    refused-with-requires-2
+    returns-2
+    all-rounds-requires
+    answer-with-requires
+    returns-3)

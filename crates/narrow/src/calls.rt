@@ -1,0 +1,101 @@
+// Narrowing a list.
+use crate::rounds::Narrowing;
+use crate::rounds::all_rounds;
+use crate::rounds::one_round;
+use crate::types::NarrowAnswer;
+use jackson::types::WindowSet;
+use jackson::untested_overload;
+use jackson::untested_windows;
+use list::types::DayList;
+use list::types::Entry;
+use list::types::Verdict;
+ghost use mathlib.Core.Path.{_≡_};
+ghost use Prim.Native.Nat.{_≤_};
+ghost use Rattle.list.specs.DayLists.{emptyList};
+ghost use Rattle.jackson.specs.Windows.{windowsIn};
+ghost use Rattle.narrow.specs.Calls.{withTimes, listWith, AnswersAs, Settles, MakesRound};
+ghost use Rattle.narrow.specs.Parts.{narrowedOf};
+
+// An entry with another window.
+fn with_times(e: Entry, r: u16, d: u16) -> Entry
+    ensures { λ x. ⌜ x ≡ withTimes e r d ⌝ }
+{
+    let mut next = e;
+    next.r = r;
+    next.d = d;
+    next
+}
+
+// The list with these windows. Places from n on are blank.
+fn list_with(list: DayList, windows: WindowSet) -> DayList
+    requires { ⌜ list .n ≤ 64 ⌝ }
+    ensures { λ l. ⌜ l ≡ listWith list (windowsIn windows) ⌝ }
+{
+    let empty = list::empty_list();
+    let mut entries = empty.entries;
+    let count = list.n as usize;
+    let mut i: usize = 0;
+    while i < count {
+        entries[i] = with_times(list.entries[i], windows.r[i], windows.d[i]);
+        i += 1;
+    }
+    DayList {
+        frame: list.frame,
+        n: list.n,
+        entries: entries,
+    }
+}
+
+// A refusal, with what stands beside it.
+fn refused_with(verdict: Verdict) -> NarrowAnswer
+    ensures { λ a. ⌜ a ≡ record { verdict = verdict; list = emptyList; moves = 0 } ⌝ }
+{
+    NarrowAnswer {
+        verdict: verdict,
+        list: list::empty_list(),
+        moves: 0,
+    }
+}
+
+// The answer that rounds give.
+fn answer_with(list: DayList, found: Narrowing) -> NarrowAnswer
+    requires { ⌜ list .n ≤ 64 ⌝ }
+    ensures { λ a. ⌜ AnswersAs list (narrowedOf found) a ⌝ }
+{
+    let verdict = found.verdict;
+    let Verdict::Accepted = verdict else {
+        return refused_with(verdict);
+    };
+    NarrowAnswer {
+        verdict: verdict,
+        list: list_with(list, found.windows),
+        moves: found.moves,
+    }
+}
+
+// Narrows a list until its windows are settled: the value check, row 9 for the windows as given, then rounds and row 10.
+pub fn settle(list: DayList) -> NarrowAnswer
+    ensures { λ a. ⌜ Settles list a ⌝ }
+{
+    let verdict = list::check(list);
+    let Verdict::Accepted = verdict else {
+        return refused_with(verdict);
+    };
+    let windows = untested_windows(list);
+    let test = untested_overload(windows);
+    let Verdict::Accepted = test else {
+        return refused_with(test);
+    };
+    answer_with(list, all_rounds(list, windows))
+}
+
+// Makes one round of a list from its windows as given: the value check, then the round and row 10.
+pub fn round(list: DayList) -> NarrowAnswer
+    ensures { λ a. ⌜ MakesRound list a ⌝ }
+{
+    let verdict = list::check(list);
+    let Verdict::Accepted = verdict else {
+        return refused_with(verdict);
+    };
+    answer_with(list, one_round(list, untested_windows(list), 0))
+}

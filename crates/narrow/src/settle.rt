@@ -1,1 +1,0 @@
-// Narrowing a list.
