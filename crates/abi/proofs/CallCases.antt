@@ -1,10 +1,10 @@
--- What the calls leave, from what the crates list and jackson answer.
+-- What the calls leave, from what the crates list, jackson and narrow answer.
 -- Assumes nothing.
-use mathlib.Core.Path.{_≡_, sym, ap, subst, _∙_}
+use mathlib.Core.Path.{_≡_, refl, sym, ap, subst, _∙_}
 use mathlib.Core.List.{List, [], _∷_}
 use Prim.Native.Nat.{ℕ}
 use lib.ListN.{length}
-use Rattle.list.specs.Outcomes.{answered, refused}
+use Rattle.list.specs.Outcomes.{Outcome, answered, refused}
 use Rattle.list.specs.Refusals.{codeOf, verdictOf, listAnswerOf, writeAnswerOf}
 use Rattle.list.specs.Reading.{readOf}
 use Rattle.list.specs.Writing.{writeOf}
@@ -18,9 +18,11 @@ use Rattle.list.specs.declared.types.WriteAnswer.{WriteAnswer}
 use Rattle.list.specs.declared.types.WriteAnswer.the-variants.{Written, NotWritten}
 use Rattle.jackson.specs.Testing.{Tests}
 use Rattle.jackson.specs.Planning.{Fills}
+use Rattle.narrow.specs.Calls.{narrowAnswerOf, Settles, MakesRound}
+use Rattle.narrow.specs.declared.types.NarrowAnswer.{NarrowAnswer}
 use Rattle.codes.specs.Numbers.{three}
 use Rattle.abi.specs.Flat.{flatOf, valueOf}
-use Rattle.abi.specs.Calls.{answerWith, ReadCall, WriteCall, OverloadCall, ScheduleCall}
+use Rattle.abi.specs.Calls.{answerWith, ReadCall, WriteCall, OverloadCall, ScheduleCall, NarrowCall, SettleCall, RoundCall}
 use Rattle.abi.specs.declared.Answer.{Answer}
 
 -- an answer made of a refusal
@@ -60,3 +62,19 @@ module _ (xs : List ℕ) (l : DayList) (p : l ≡ valueOf xs) (v : Verdict) (b :
   schedule-said old new w =
       let f : Fills (valueOf xs) old v new = subst (λ (k : DayList). Fills k old v new) p w in
       record { answer = q ∙ ap (answerWith (λ _. [])) (f .outcome); buffer = f .buffer }
+
+-- what narrowing answered, in numbers
+module _ (old : List ℕ) (a : NarrowAnswer) where
+  pub narrowed-given : (fields : List ℕ) → a .verdict ≡ Accepted → fields ≡ flatOf (a .list)
+      → NarrowCall (narrowAnswerOf a) old (record { number = 0; values = a .moves ∷ 0 ∷ 0 ∷ [] }) fields
+  narrowed-given fields v q = rw v (record { answer = refl; buffer = q })
+
+  pub narrowed-refused : (x : Refusal) (b : Answer) → a .verdict ≡ Refused x → RefusedAs x b → NarrowCall (narrowAnswerOf a) old b old
+  narrowed-refused x b v q = rw v (record { answer = q; buffer = refl })
+
+module _ (xs old new : List ℕ) (l : DayList) (p : l ≡ valueOf xs) (a : NarrowAnswer) (b : Answer) (given : NarrowCall (narrowAnswerOf a) old b new) where
+  pub settle-said : Settles l a → SettleCall xs old b new
+  settle-said w = rw (← p) (subst (λ (o : Outcome (DayList × ℕ)). NarrowCall o old b new) (w .answers .outcome) given)
+
+  pub round-said : MakesRound l a → RoundCall xs old b new
+  round-said w = rw (← p) (subst (λ (o : Outcome (DayList × ℕ)). NarrowCall o old b new) (w .answers .outcome) given)

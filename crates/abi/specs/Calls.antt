@@ -9,6 +9,7 @@ use Rattle.list.specs.Writing.{writeOf, bufferAfter}
 use Rattle.list.specs.declared.types.DayList.{DayList}
 use Rattle.jackson.specs.Testing.{testOf}
 use Rattle.jackson.specs.Planning.{fillOf, planAfter}
+use Rattle.narrow.specs.Calls.{settleOf, roundOf, listed}
 use Rattle.codes.specs.Numbers.{three}
 use Rattle.abi.specs.Flat.{flatOf, valueOf}
 use Rattle.abi.specs.declared.Answer.{Answer}
@@ -41,3 +42,20 @@ OverloadCall xs a = a ≡ answerWith (λ _. []) (testOf (valueOf xs))
 pub record ScheduleCall (xs old : List ℕ) (a : Answer) (plan : List ℕ) : Type 0 where
   pub answer : a ≡ answerWith (λ _. []) (fillOf (valueOf xs) (length old))
   pub buffer : plan ≡ planAfter (fillOf (valueOf xs) (length old)) (valueOf xs) old
+
+-- the flat list after narrowing: the list answered, or what was there
+abbrev pub narrowedAfter : Outcome (DayList × ℕ) → List ℕ → List ℕ
+narrowedAfter (answered x) old = flatOf (x .0)
+narrowedAfter (refused k) old = old
+
+-- an answer where narrowing has the outcome o, with the moves first, and what it leaves in fields that held old
+pub record NarrowCall (o : Outcome (DayList × ℕ)) (old : List ℕ) (a : Answer) (fields : List ℕ) : Type 0 where
+  pub answer : a ≡ answerWith (λ x. x .1 ∷ []) o
+  pub buffer : fields ≡ narrowedAfter o old
+
+-- what `dock_settle` and `dock_round` answer of the list value that xs say, and leave in fields that held old
+abbrev pub SettleCall : List ℕ → List ℕ → Answer → List ℕ → Type 0
+SettleCall xs = NarrowCall (listed (valueOf xs) (settleOf (valueOf xs)))
+
+abbrev pub RoundCall : List ℕ → List ℕ → Answer → List ℕ → Type 0
+RoundCall xs = NarrowCall (listed (valueOf xs) (roundOf (valueOf xs)))

@@ -1,7 +1,7 @@
 // The planner's calls for programs in other languages: byte slices and numbers only.
 // Promises: each call answers 0 or a refusal's number of document 01, with its values, and leaves in its buffers what
 // specs/Calls.antt says, whatever the bytes and numbers are. What it cannot check are the pointers themselves: a caller lends
-// `bytes`, `out` and `plan` with their lengths, and `fields` with 450 numbers. Uses the crates list, jackson and codes.
+// `bytes`, `out` and `plan` with their lengths, and `fields` with 450 numbers. Uses the crates list, jackson, narrow and codes.
 mod flat;
 
 use flat::flat_of;
@@ -9,11 +9,13 @@ use flat::list_in;
 use list::types::Refusal;
 use list::types::Verdict;
 use list::types::WriteAnswer;
+use narrow::types::NarrowAnswer;
 ghost use mathlib.Core.Path.{_≡_};
 ghost use mathlib.Core.List.{[]};
 ghost use Rattle.list.specs.Refusals.{codeOf, verdictOf};
+ghost use Rattle.narrow.specs.Calls.{narrowAnswerOf};
 ghost use Rattle.codes.specs.Numbers.{three};
-ghost use Rattle.abi.specs.Calls.{answerWith, ReadCall, WriteCall, OverloadCall, ScheduleCall};
+ghost use Rattle.abi.specs.Calls.{answerWith, ReadCall, WriteCall, OverloadCall, ScheduleCall, NarrowCall, SettleCall, RoundCall};
 
 // What a call answers: 0 or a refusal's number, and three values, 0 where there are fewer.
 #[repr(C)]
@@ -95,4 +97,38 @@ pub extern "C" fn dock_schedule(fields: &[u32; 450], plan: &mut [u8]) -> Answer
 {
     let verdict = jackson::schedule(list_in(fields), plan);
     verdict_as(verdict)
+}
+
+// What narrowing answered: the first value is the moves, and `narrowed` the list, flat; refused, it keeps its values.
+fn give_narrowed(answer: NarrowAnswer, narrowed: &mut [u32; 450]) -> Answer
+    ensures { λ a. ⌜ NarrowCall (narrowAnswerOf answer) (now (narrowed .entry)) a (now (narrowed .exit)) ⌝ }
+{
+    let verdict = answer.verdict;
+    match verdict {
+        Verdict::Accepted => {
+            let l = answer.list;
+            *narrowed = flat_of(l);
+            Answer {
+                number: 0,
+                values: [answer.moves as u64, 0, 0],
+            }
+        }
+        Verdict::Refused(x) => refused_as(x),
+    }
+}
+
+// Narrows the list value that `fields` says until its windows are settled.
+#[no_mangle]
+pub extern "C" fn dock_settle(fields: &[u32; 450], narrowed: &mut [u32; 450]) -> Answer
+    ensures { λ a. ⌜ SettleCall (now (fields .entry)) (now (narrowed .entry)) a (now (narrowed .exit)) ⌝ }
+{
+    give_narrowed(narrow::settle(list_in(fields)), narrowed)
+}
+
+// Makes one round of the list value that `fields` says, from its windows as given.
+#[no_mangle]
+pub extern "C" fn dock_round(fields: &[u32; 450], narrowed: &mut [u32; 450]) -> Answer
+    ensures { λ a. ⌜ RoundCall (now (fields .entry)) (now (narrowed .entry)) a (now (narrowed .exit)) ⌝ }
+{
+    give_narrowed(narrow::round(list_in(fields)), narrowed)
 }
