@@ -8,6 +8,7 @@ mod Fixpoints
 mod UnbrokenPlans
 pub mod NarrowLaws
 mod OverloadPlanner
+pub mod Alike
 mod ArrayCases
 mod SearchCases
 mod EndCases

@@ -2,11 +2,11 @@
 -- Assumes nothing.
 use mathlib.Core.Path.{_≡_, refl, sym, ap, _∙_, fun-ext}
 use mathlib.Core.List.{List, [], _∷_, _++_}
-use Prim.Native.Nat.{ℕ, zero, suc, _+_, _-_, _<_, _≤_}
+use Prim.Native.Nat.{ℕ, suc, _+_, _-_, _<_, _≤_}
 use native.Mathlib.Numerals.{add-one}
 use native.Mathlib.Omega.{arith}
 use lib.ListN.{length, getD, take, drop, set, replicate, length-take, length-set, take-append-drop, List·getD-eq-default}
-use lib.Seq.{length-take-le, take-suc, take-suc-set, drop-set-lt, drop-drop, take-append-seam}
+use lib.Seq.{length-take-le, take-suc, take-suc-set, drop-set-lt, drop-drop}
 use Rattle.list.specs.DayLists.{entriesOf, blank, dayList}
 use Rattle.list.specs.Checks.{WellFormed}
 use Rattle.list.specs.declared.types.Entry.{Entry}
@@ -19,27 +19,15 @@ use Rattle.narrow.specs.Laws.{Formed}
 use Rattle.narrow.specs.Calls.{withTimes, entriesWith, listWith}
 use Rattle.narrow.proofs.Planners.{Keeps}
 use Rattle.narrow.proofs.Costs.{keeps-h, keeps-n, keeps-p}
+use Rattle.narrow.proofs.Alike.{with-length, listed-entries, listed-entry, listed-count}
 
 module _ (w : Windows) where
-  with-length : (i : ℕ) (es : List Entry) → length (entriesWith w i es) ≡ length es
-  unfolding entriesWith
-  with-length i [] = refl
-  with-length i (e ∷ es) = ap suc (with-length (i + 1) es)
-
   -- one entry more
   with-one : (i : ℕ) (es : List Entry) (e : Entry) (j : ℕ) → j ≡ i + length es
       → entriesWith w i (es ++ (e ∷ [])) ≡ entriesWith w i es ++ (withTimes e (w .r j) (w .d j) ∷ [])
   unfolding entriesWith
   with-one i [] e j z = let q : j ≡ i = omega arith in rw q
   with-one i (x ∷ es) e j z = ap (λ (l : List Entry). withTimes x (w .r i) (w .d i) ∷ l) (with-one (i + 1) es e j (omega arith))
-
-  -- the entry at a place
-  with-at : (i : ℕ) (es : List Entry) (j : ℕ) (k : ℕ) → k ≡ i + j → j < length es
-      → getD (entriesWith w i es) j blank ≡ withTimes (getD es j blank) (w .r k) (w .d k)
-  unfolding entriesWith
-  with-at i [] j k z h = absurd (omega arith)
-  with-at i (e ∷ es) zero k z h = let q : k ≡ i = omega arith in rw q
-  with-at i (e ∷ es) (suc j) k z h = with-at (i + 1) es j k (omega arith) (omega arith)
 
   -- what holds of each of them
   with-every : (P : Entry → Type 0) (i : ℕ) (es : List Entry) → ((j k : ℕ) → k ≡ i + j → j < length es → P (withTimes (getD es j blank) (w .r k) (w .d k)))
@@ -98,21 +86,11 @@ module _ (l : DayList) (w : Windows) where
 
 -- The windows of the list that is answered.
 module _ (l : DayList) (w : Windows) (keeps : Keeps (windowsOf l) w) where
-  entries-are : entriesOf (listWith l w) ≡ entriesWith w 0 (entriesOf l)
-  unfolding listWith
-  entries-are = take-append-seam (entriesWith w 0 (entriesOf l)) _
-
-  at-place : (i : ℕ) → i < windowsOf l .n → getD (entriesOf (listWith l w)) i blank ≡ withTimes (getD (entriesOf l) i blank) (w .r i) (w .d i)
-  at-place i h = rw entries-are (with-at w 0 (entriesOf l) i i (omega arith) h)
-
   past-places : (i : ℕ) → windowsOf l .n ≤ i → (getD (entriesOf (listWith l w)) i blank ≡ blank) × (getD (entriesOf l) i blank ≡ blank)
   past-places i h = (
-    rw entries-are (List·getD-eq-default (entriesWith w 0 (entriesOf l)) blank (omega (arith, with-length w 0 (entriesOf l)))),
+    List·getD-eq-default (entriesOf (listWith l w)) blank (omega (arith, listed-count l w)),
     List·getD-eq-default (entriesOf l) blank h,
   )
-
-  listed-n : length (entriesOf (listWith l w)) ≡ length (entriesOf l)
-  listed-n = rw entries-are (with-length w 0 (entriesOf l))
 
   pub listed-windows : windowsOf (listWith l w) ≡ w
   unfolding listWith
@@ -120,7 +98,7 @@ module _ (l : DayList) (w : Windows) (keeps : Keeps (windowsOf l) w) where
       λ j.
       record {
         h = sym (keeps-h keeps) j;
-        n = (listed-n ∙ sym (keeps-n keeps)) j;
+        n = (listed-count l w ∙ sym (keeps-n keeps)) j;
         r = fun-ext {f = windowsOf (listWith l w) .r} {g = w .r} each-r j;
         d = fun-ext {f = windowsOf (listWith l w) .d} {g = w .d} each-d j;
         p = fun-ext {f = windowsOf (listWith l w) .p} {g = w .p} each-p j;
@@ -130,19 +108,19 @@ module _ (l : DayList) (w : Windows) (keeps : Keeps (windowsOf l) w) where
       each-r i =
           le-or-lt (windowsOf l .n) i
           (λ h. ap (λ (e : Entry). e .r) (past-places i h .0 ∙ sym (past-places i h .1)) ∙ sym (keeps .past i h .0))
-          (λ h. ap (λ (e : Entry). e .r) (at-place i h))
+          (λ h. ap (λ (e : Entry). e .r) (listed-entry l w i h))
 
       each-d : (i : ℕ) → windowsOf (listWith l w) .d i ≡ w .d i
       each-d i =
           le-or-lt (windowsOf l .n) i
           (λ h. ap (λ (e : Entry). e .d) (past-places i h .0 ∙ sym (past-places i h .1)) ∙ sym (keeps .past i h .1))
-          (λ h. ap (λ (e : Entry). e .d) (at-place i h))
+          (λ h. ap (λ (e : Entry). e .d) (listed-entry l w i h))
 
       each-p : (i : ℕ) → windowsOf (listWith l w) .p i ≡ w .p i
       each-p i =
           le-or-lt (windowsOf l .n) i
           (λ h. ap (λ (e : Entry). e .p) (past-places i h .0 ∙ sym (past-places i h .1)) ∙ sym (keeps-p keeps i))
-          (λ h. ap (λ (e : Entry). e .p) (at-place i h) ∙ sym (keeps-p keeps i))
+          (λ h. ap (λ (e : Entry). e .p) (listed-entry l w i h) ∙ sym (keeps-p keeps i))
 
   -- it passes the value check, if the list given does
   pub listed-formed : WellFormed l → WellFormed (listWith l w)
@@ -157,7 +135,7 @@ module _ (l : DayList) (w : Windows) (keeps : Keeps (windowsOf l) w) where
               one-day = given .one-day;
               room = omega (arith, given .room, with-length w 0 (entriesOf l), length-take (l .n) (l .entries));
             };
-        entries = rw entries-are (with-every w (Sound (l .frame)) 0 (entriesOf l) sound);
+        entries = rw (listed-entries l w) (with-every w (Sound (l .frame)) 0 (entriesOf l) sound);
       })
     where
       sound : (j k : ℕ) → k ≡ 0 + j → j < length (entriesOf l) → Sound (l .frame) (withTimes (getD (entriesOf l) j blank) (w .r k) (w .d k))

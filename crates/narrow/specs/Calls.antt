@@ -2,12 +2,13 @@
 use Prim.Native.Nat.{ℕ, _+_}
 use mathlib.Core.Path.{_≡_}
 use mathlib.Core.Bool.{Bool, true, false}
-use mathlib.Core.List.{List, [], _∷_}
+use mathlib.Core.List.{List, [], _∷_, map}
 use lib.ListN.{getD}
 use Rattle.list.specs.Outcomes.{Code, Outcome, answered, refused, andThen}
 use Rattle.list.specs.Refusals.{codeOf}
 use Rattle.list.specs.DayLists.{entriesOf, blank, dayList, emptyList}
 use Rattle.list.specs.Checks.{checkOf, WellFormed}
+use Rattle.list.specs.declared.types.Seal.the-variants.{Missing}
 use Rattle.list.specs.declared.types.Kind.{Kind}
 use Rattle.list.specs.declared.types.Kind.the-variants.{Pause, Whole}
 use Rattle.list.specs.declared.types.Entry.{Entry}
@@ -27,6 +28,17 @@ isWhole Whole = true
 
 abbrev pub wholeIn : DayList → ℕ → Bool
 wholeIn l i = isWhole (getD (entriesOf l) i blank .kind)
+
+-- an entry without its serial and seal
+abbrev pub bare : Entry → Entry
+bare e = record { serial = 0; seal = Missing; r = e .r; d = e .d; p = e .p; kind = e .kind }
+
+-- two lists with the same H and n, and of each entry the same r, d, p and kind: serials and seals count for nothing, each only "travels
+-- inside its entry"
+pub record SameTimes (a b : DayList) : Type 0 where
+  pub frame : a .frame ≡ b .frame
+  pub n : a .n ≡ b .n
+  pub entries : map bare (entriesOf a) ≡ map bare (entriesOf b)
 
 -- an entry with another window
 abbrev pub withTimes : Entry → ℕ → ℕ → Entry
