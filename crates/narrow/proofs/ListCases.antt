@@ -46,9 +46,9 @@ pub record Filled (l : DayList) (w : Windows) (entries : List Entry) (i : ℕ) :
   pub unused : drop i entries ≡ replicate (64 - i) blank
 
 module _ (l : DayList) (w : Windows) where
-  pub filled-none : l .n ≤ 64 → Filled l w (replicate 64 blank) 0
+  pub filled-none : (entries : List Entry) → l .n ≤ 64 → entries ≡ replicate 64 blank → Filled l w entries 0
   unfolding entriesWith
-  filled-none room = record { room = room; passed = omega arith; long = refl; done = refl; unused = refl }
+  filled-none entries room e = rw e (record { room = room; passed = omega arith; long = refl; done = refl; unused = refl })
 
   module _ (long : length (l .entries) ≡ 64) (entries : List Entry) (i : ℕ) (so : Filled l w entries i) where
     pub filled-next : (e : Entry) → i < l .n → e ≡ withTimes (getD (l .entries) i blank) (w .r i) (w .d i) → Filled l w (set entries i e) (i + 1)

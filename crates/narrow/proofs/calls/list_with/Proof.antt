@@ -1,9 +1,10 @@
 -- The loop's invariant is `Filled`, the measure what is left of the places.
 -- Assumes nothing.
 use borrow.Author.Needs.{needs}
-use mathlib.Core.Path.{_≡_}
+use mathlib.Core.Path.{_≡_, ap}
 use Prim.Native.Nat.{_-_}
 use lib.ListN.{length}
+use Rattle.list.specs.declared.types.DayList.{DayList}
 use Rattle.list.proofs.Walk.{length-mapped}
 use Rattle.jackson.specs.Windows.{windowsIn}
 use Rattle.narrow.proofs.ListCases.{Filled, filled-none, filled-next, filled-all}
@@ -23,7 +24,7 @@ cast-count : tie.Need-cast-count Inv-loop μ-loop
 cast-count c = search needs
 
 loop-holds : tie.Need-loop-holds Inv-loop μ-loop
-loop-holds c = rw (c .before .empty-list .ensures) (filled-none _ _ (c .before .before .pre))
+loop-holds c = filled-none _ _ _ (c .before .before .pre) (ap (λ (l : DayList). l .entries) (c .before .empty-list .ensures))
 
 mul-with-times : tie.Need-mul-with-times Inv-loop μ-loop
 mul-with-times c = search needs
