@@ -2,14 +2,13 @@
 -- Assumes nothing.
 use mathlib.Core.Path.{_≡_, refl, sym, ap, _∙_}
 use mathlib.Core.Bool.{Bool, true, false, cond}
-use mathlib.Core.List.{[]}
 use Prim.Native.Nat.{ℕ, zero, suc, _+_, _*_, _-_, _<_, _≤_}
 use native.Mathlib.Omega.{arith}
 use lib.ListN.{length}
 use lib.Seq.{length-take-le}
 use Rattle.list.specs.Outcomes.{Code, Outcome, answered, refused, andThen}
 use Rattle.list.specs.Refusals.{codeOf, verdictOf}
-use Rattle.list.specs.DayLists.{entriesOf, emptyList}
+use Rattle.list.specs.DayLists.{emptyList}
 use Rattle.list.specs.Checks.{checkOf, WellFormed}
 use Rattle.list.specs.declared.types.DayList.{DayList}
 use Rattle.list.specs.declared.types.Refusal.{Refusal}
@@ -30,7 +29,7 @@ use Rattle.narrow.specs.Parts.{stateOf, narrowedOf, Countable}
 use Rattle.narrow.specs.declared.types.NarrowAnswer.{NarrowAnswer}
 use Rattle.narrow.specs.declared.rounds.Narrowing.{Narrowing}
 use Rattle.narrow.proofs.Planners.{Keeps}
-use Rattle.narrow.proofs.Costs.{WholeRefused, round-cost, rounds-cost, rounds-refused, answered-refused}
+use Rattle.narrow.proofs.Costs.{round-cost, rounds-cost, rounds-refused, answered-refused}
 use Rattle.narrow.proofs.NarrowLaws.{narrow-law}
 use Rattle.narrow.proofs.OverloadPlanner.{overload-planner}
 use Rattle.narrow.proofs.ListCases.{listed-windows, listed-formed}

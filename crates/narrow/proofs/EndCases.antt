@@ -2,10 +2,9 @@
 -- Assumes nothing.
 use mathlib.Core.Path.{_≡_, sym, ap, _∙_}
 use mathlib.Core.List.{[], _∷_}
-use Prim.Native.Nat.{ℕ, _+_, _-_, _≤_}
+use Prim.Native.Nat.{ℕ, _-_, _≤_}
 use native.Mathlib.Omega.{arith}
 use Rattle.list.specs.Outcomes.{code, answered, refused}
-use Rattle.list.proofs.Inversion.{Says}
 use Rattle.jackson.specs.Windows.{Windows, windowsIn}
 use Rattle.jackson.specs.Mirrors.{mirror}
 use Rattle.jackson.specs.Intervals.{overloadOf}
@@ -16,7 +15,7 @@ use Rattle.narrow.specs.declared.search.Found.{Found}
 use Rattle.narrow.specs.declared.search.Found.the-variants.{Minute, NoMinute}
 use Rattle.narrow.proofs.MirrorSearches.{formed-mirror, mirror-d, end-by-mirror}
 use Rattle.narrow.proofs.OverloadPlanner.{overload-planner}
-use Rattle.narrow.proofs.Costs.{StartTried, RefusedAt, start-says}
+use Rattle.narrow.proofs.Costs.{StartTried, start-says}
 
 module _ (s t : WindowSet) (k : ℕ) (turned : windowsIn t ≡ mirror (windowsIn s)) (ready : Searchable s k) where
   -- the mirror can be searched

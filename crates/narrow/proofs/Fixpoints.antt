@@ -11,12 +11,12 @@ use Rattle.jackson.specs.Plans.{Plan}
 use Rattle.jackson.specs.Existence.{Plannable}
 use Rattle.jackson.proofs.Sums.{le-or-lt, below-suc}
 use Rattle.jackson.proofs.PlanFacts.{widen}
-use Rattle.narrow.specs.Searching.{Test, withR, withD, fixedAt, leastStart, greatestEnd, SearchLaw}
+use Rattle.narrow.specs.Searching.{Test, withR, withD, fixedAt, SearchLaw}
 use Rattle.narrow.specs.Settling.{Consecutive, Settled, SettledInside, Widest}
 use Rattle.narrow.specs.Rounds.{Side, earliest, latest, step, Narrowed, moved, movesOf, narrowSide, visit, visits, round, Rounds, last, next, stopped, rounds, slack}
-use Rattle.narrow.specs.StepLists.{leftBy, NothingLeft}
+use Rattle.narrow.specs.StepLists.{NothingLeft}
 use Rattle.narrow.specs.Laws.{Formed}
-use Rattle.narrow.proofs.Puts.{place-cases, put-same, put-back, fixed-consecutive, fixed-inside}
+use Rattle.narrow.proofs.Puts.{place-cases, put-back, fixed-consecutive, fixed-inside}
 use Rattle.narrow.proofs.Costs.{rounds-are}
 use Rattle.narrow.proofs.SettledSteps.{Narrows, NarrowsOr, start-found, end-found, rounds-narrow}
 

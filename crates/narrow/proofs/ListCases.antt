@@ -10,12 +10,10 @@ use lib.Seq.{length-take-le, take-suc, take-suc-set, drop-set-lt, drop-drop}
 use Rattle.list.specs.DayLists.{entriesOf, blank, dayList}
 use Rattle.list.specs.Checks.{WellFormed}
 use Rattle.list.specs.declared.types.Entry.{Entry}
-use Rattle.list.specs.declared.types.Frame.{Frame}
 use Rattle.list.specs.declared.types.DayList.{DayList}
-use Rattle.list.proofs.Sound.{Sound, Every, SoundList, sound-list, well-formed}
+use Rattle.list.proofs.Sound.{Sound, Every, sound-list, well-formed}
 use Rattle.jackson.specs.Windows.{Windows, windowsOf}
 use Rattle.jackson.proofs.Sums.{le-or-lt}
-use Rattle.narrow.specs.Laws.{Formed}
 use Rattle.narrow.specs.Calls.{withTimes, entriesWith, listWith}
 use Rattle.narrow.proofs.Planners.{Keeps}
 use Rattle.narrow.proofs.Costs.{keeps-h, keeps-n, keeps-p}

@@ -1,6 +1,5 @@
 -- The overload test is a planner's test: the one place where narrowing cites the law that a plan exists exactly without overload.
 -- Assumes nothing.
-use native.Mathlib.Omega.{arith}
 use Rattle.jackson.specs.Windows.{Windows, Roomy}
 use Rattle.jackson.specs.Intervals.{overloadOf}
 use Rattle.jackson.proofs.Law.{plan-law}

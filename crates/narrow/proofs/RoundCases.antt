@@ -1,21 +1,17 @@
 -- Searches with their moves, visits and rounds, as code makes them.
 -- Assumes nothing.
-use mathlib.Core.Path.{_≡_, refl, sym, ap, _∙_}
-use mathlib.Core.Bool.{Bool, true, false, cond}
-use mathlib.Core.List.{[], _∷_}
-use Prim.Native.Nat.{ℕ, zero, suc, _+_, _-_, _<_, _≤_, min}
-use native.Mathlib.Numerals.{add-one}
+use mathlib.Core.Path.{_≡_, refl, sym, ap}
+use Prim.Native.Nat.{ℕ, _+_, _<_, _≤_, min}
 use native.Mathlib.Omega.{arith}
 use borrow.Author.Tests.{eq-eqb, ne-eqb}
-use lib.Dec.{eqb}
 use lib.ListN.{length, getD, set}
-use Rattle.list.specs.Outcomes.{Code, code, Outcome, answered, refused, andThen}
-use Rattle.jackson.specs.Windows.{Windows, columns, windowsIn}
+use Rattle.list.specs.Outcomes.{Code, answered, refused}
+use Rattle.jackson.specs.Windows.{columns, windowsIn}
 use Rattle.jackson.specs.Intervals.{overloadOf}
 use Rattle.jackson.specs.declared.types.WindowSet.{WindowSet}
-use Rattle.jackson.proofs.Sums.{same-cases, le-or-lt}
+use Rattle.jackson.proofs.Sums.{same-cases}
 use Rattle.narrow.specs.Searching.{Test, withR, withD, leastStart, greatestEnd}
-use Rattle.narrow.specs.Rounds.{Side, earliest, latest, Narrowed, step, moved, movesOf, narrowSide, visit, visits, round, rounds}
+use Rattle.narrow.specs.Rounds.{earliest, latest, Narrowed, moved, movesOf, narrowSide}
 use Rattle.narrow.specs.Parts.{stateOf}
 use Rattle.narrow.proofs.Puts.{put-same}
 use Rattle.narrow.proofs.ArrayCases.{held-r, held-d}

@@ -1,13 +1,12 @@
 -- A search for a start, as code makes it: start after start, from r up.
 -- Assumes nothing.
-use mathlib.Core.Path.{_≡_, refl, sym, _∙_}
-use mathlib.Core.Bool.{Bool, true, false, false≢true, cond}
+use mathlib.Core.Path.{_≡_, sym, _∙_}
+use mathlib.Core.Bool.{Bool, true, false, false≢true}
 use mathlib.Core.List.{[], _∷_}
-use Prim.Native.Nat.{ℕ, suc, _+_, _-_, _<_, _≤_}
+use Prim.Native.Nat.{ℕ, _+_, _-_, _<_, _≤_}
 use native.Mathlib.Omega.{arith}
 use borrow.Author.Tests.{eq-eqb, ne-eqb}
-use lib.Dec.{eqb}
-use Rattle.list.specs.Outcomes.{code, Outcome, answered, refused, row, firstOf}
+use Rattle.list.specs.Outcomes.{code, answered, refused}
 use Rattle.jackson.specs.Counting.{firstBelow}
 use Rattle.jackson.specs.Windows.{Windows}
 use Rattle.jackson.proofs.Sums.{le-or-lt}

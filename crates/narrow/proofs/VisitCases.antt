@@ -1,7 +1,7 @@
 -- Visits and rounds, as code makes them.
 -- Assumes nothing.
 use mathlib.Core.Path.{_≡_, refl, sym, ap, _∙_}
-use mathlib.Core.Bool.{Bool, true, false, cond, not}
+use mathlib.Core.Bool.{Bool, true, cond}
 use Prim.Native.Nat.{ℕ, zero, suc, _+_, _-_, _<_, _≤_}
 use native.Mathlib.Numerals.{add-one}
 use native.Mathlib.Omega.{arith}
@@ -22,7 +22,6 @@ use Rattle.jackson.specs.declared.types.WindowSet.{WindowSet}
 use Rattle.jackson.proofs.Sums.{le-or-lt}
 use Rattle.narrow.specs.Searching.{Test}
 use Rattle.narrow.specs.Rounds.{Side, earliest, latest, Narrowed, unmoved, step, movesOf, narrowSide, visit, visits, round, rounds, slack}
-use Rattle.narrow.specs.Laws.{Formed}
 use Rattle.narrow.specs.Calls.{isWhole, wholeIn}
 use Rattle.narrow.specs.Parts.{stateOf, narrowedOf, Searchable, Countable}
 use Rattle.narrow.specs.declared.rounds.Narrowing.{Narrowing}
