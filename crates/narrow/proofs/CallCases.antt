@@ -28,8 +28,9 @@ use Rattle.narrow.specs.Calls.{wholeIn, listWith, settleOf, roundOf, Ans
 use Rattle.narrow.specs.Parts.{stateOf, narrowedOf, Countable}
 use Rattle.narrow.specs.declared.types.NarrowAnswer.{NarrowAnswer}
 use Rattle.narrow.specs.declared.rounds.Narrowing.{Narrowing}
-use Rattle.narrow.proofs.Planners.{Keeps}
-use Rattle.narrow.proofs.Costs.{round-cost, rounds-cost, rounds-refused, answered-refused}
+use Rattle.narrow.proofs.Keeping.{Keeps}
+use Rattle.narrow.proofs.Costs.{round-cost, rounds-cost, rounds-refused}
+use Rattle.narrow.proofs.RoundsEnd.{answered-refused}
 use Rattle.narrow.proofs.NarrowLaws.{narrow-law}
 use Rattle.narrow.proofs.OverloadPlanner.{overload-planner}
 use Rattle.narrow.proofs.ListCases.{listed-windows, listed-formed}

@@ -15,7 +15,7 @@ use Rattle.narrow.specs.declared.search.Found.{Found}
 use Rattle.narrow.specs.declared.search.Found.the-variants.{Minute, NoMinute}
 use Rattle.narrow.proofs.MirrorSearches.{formed-mirror, mirror-d, end-by-mirror}
 use Rattle.narrow.proofs.OverloadPlanner.{overload-planner}
-use Rattle.narrow.proofs.Costs.{StartTried, start-says}
+use Rattle.narrow.proofs.Keeping.{StartTried, start-says}
 
 module _ (s t : WindowSet) (k : ℕ) (turned : windowsIn t ≡ mirror (windowsIn s)) (ready : Searchable s k) where
   -- the mirror can be searched

@@ -17,7 +17,7 @@ use Rattle.narrow.specs.Rounds.{Side, earliest, latest, step, Narrowed, 
 use Rattle.narrow.specs.StepLists.{NothingLeft}
 use Rattle.narrow.specs.Laws.{Formed}
 use Rattle.narrow.proofs.Puts.{place-cases, put-back, fixed-consecutive, fixed-inside}
-use Rattle.narrow.proofs.Costs.{rounds-are}
+use Rattle.narrow.proofs.RoundsEnd.{rounds-are}
 use Rattle.narrow.proofs.SettledSteps.{Narrows, NarrowsOr, start-found, end-found, rounds-narrow}
 
 -- Windows that no step changes.

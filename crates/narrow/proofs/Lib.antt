@@ -1,7 +1,9 @@
 mod Planners
 mod Puts
 mod MirrorSearches
+mod Keeping
 mod Costs
+mod RoundsEnd
 mod Exact
 mod SettledSteps
 mod Fixpoints

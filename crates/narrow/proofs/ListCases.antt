@@ -15,8 +15,7 @@ use Rattle.list.proofs.Sound.{Sound, Every, sound-list, well-formed}
 use Rattle.jackson.specs.Windows.{Windows, windowsOf}
 use Rattle.jackson.proofs.Sums.{le-or-lt}
 use Rattle.narrow.specs.Calls.{withTimes, entriesWith, listWith}
-use Rattle.narrow.proofs.Planners.{Keeps}
-use Rattle.narrow.proofs.Costs.{keeps-h, keeps-n, keeps-p}
+use Rattle.narrow.proofs.Keeping.{Keeps, keeps-h, keeps-n, keeps-p}
 use Rattle.narrow.proofs.Alike.{with-length, listed-entries, listed-entry, listed-count}
 
 module _ (w : Windows) where

@@ -15,8 +15,9 @@ use Rattle.narrow.specs.Settling.{SettledInside, NoneSettled, Widest, mi
 use Rattle.narrow.specs.Rounds.{Side, step, Narrowed, unmoved, visit, round, Rounds, rounds, slack, narrowing}
 use Rattle.narrow.specs.StepLists.{Step, NamesWhole, stepsLeave, someRefused, Completes}
 use Rattle.narrow.specs.Laws.{Formed, Reason, NarrowLaw}
-use Rattle.narrow.proofs.Planners.{Planner, Keeps}
-use Rattle.narrow.proofs.Costs.{CostsOr, rounds-says, rounds-are}
+use Rattle.narrow.proofs.Planners.{Planner}
+use Rattle.narrow.proofs.Costs.{CostsOr, rounds-says}
+use Rattle.narrow.proofs.RoundsEnd.{rounds-are}
 use Rattle.narrow.proofs.Exact.{search-law}
 use Rattle.narrow.proofs.SettledSteps.{Narrows, NarrowsOr, plannable-widen, step-narrows, visit-narrows, round-narrows, rounds-narrow, steps-narrow, steps-none}
 use Rattle.narrow.proofs.Fixpoints.{nothing-widest, rounds-widest, widest-set, widest-unique}

@@ -18,9 +18,8 @@ use Rattle.narrow.specs.Settling.{Consecutive, SettledInside, NoneSettle
 use Rattle.narrow.specs.Rounds.{Side, earliest, latest, step, Narrowed, narrowSide, visit, visits, round, rounds}
 use Rattle.narrow.specs.StepLists.{Step, NamesWhole, leftBy, stepsLeave, someRefused}
 use Rattle.narrow.specs.Laws.{Formed}
-use Rattle.narrow.proofs.Planners.{Keeps}
+use Rattle.narrow.proofs.Keeping.{Keeps, step-keeps, keeps-same, keeps-n, keeps-trans, step-refused}
 use Rattle.narrow.proofs.Puts.{put-same, put-under, put-over, consecutive-fixed}
-use Rattle.narrow.proofs.Costs.{step-keeps, keeps-same, keeps-n, keeps-trans, step-refused}
 
 -- One step.
 

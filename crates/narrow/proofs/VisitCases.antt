@@ -25,7 +25,8 @@ use Rattle.narrow.specs.Rounds.{Side, earliest, latest, Narrowed, unmove
 use Rattle.narrow.specs.Calls.{isWhole, wholeIn}
 use Rattle.narrow.specs.Parts.{stateOf, narrowedOf, Searchable, Countable}
 use Rattle.narrow.specs.declared.rounds.Narrowing.{Narrowing}
-use Rattle.narrow.proofs.Costs.{Costs, keeps-n, side-cost, visits-cost, round-cost}
+use Rattle.narrow.proofs.Keeping.{keeps-n}
+use Rattle.narrow.proofs.Costs.{Costs, side-cost, visits-cost, round-cost}
 use Rattle.narrow.proofs.RoundCases.{moved-one}
 
 -- a search makes at most two moves
