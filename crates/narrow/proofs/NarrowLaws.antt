@@ -16,6 +16,7 @@ use Rattle.narrow.specs.Rounds.{Side, step, Narrowed, unmoved, visit, ro
 use Rattle.narrow.specs.StepLists.{Step, NamesWhole, stepsLeave, someRefused, Completes}
 use Rattle.narrow.specs.Laws.{Formed, Reason, NarrowLaw}
 use Rattle.narrow.proofs.Planners.{Planner}
+use Rattle.narrow.proofs.Keeping.{Keeps}
 use Rattle.narrow.proofs.Costs.{CostsOr, rounds-says}
 use Rattle.narrow.proofs.RoundsEnd.{rounds-are}
 use Rattle.narrow.proofs.Exact.{search-law}
