@@ -174,7 +174,7 @@ module _ {test : Test} (planner : Planner test) (whole : ℕ → Bool) (w : Wind
   pub narrow-law : NarrowLaw test whole w (narrowing test whole w)
   narrow-law =
       record {
-        searches = λ r d room inside k place. laws (withWindows w r d) room k place;
+        searches = λ r d room k place. laws (withWindows w r d) room k place;
         by-rounds = by-rounds;
         widest = widest;
         refused-exactly = (λ z. none-settled (z .0) (z .1), refused-if-none);

@@ -5,7 +5,7 @@ use mathlib.Core.Logic.{_↔_, _⊎_}
 use mathlib.Core.Bool.{Bool, true}
 use mathlib.Core.List.{List, [], _∷_}
 use Rattle.list.specs.Outcomes.{Code, code, Outcome, answered, refused}
-use Rattle.jackson.specs.Windows.{Windows, Inside, withWindows}
+use Rattle.jackson.specs.Windows.{Windows, withWindows}
 use Rattle.jackson.specs.Plans.{Plan}
 use Rattle.jackson.specs.Existence.{Plannable}
 use Rattle.narrow.specs.Searching.{Test, SearchLaw}
@@ -29,8 +29,8 @@ Reason test whole w k =
 
 -- the outcome o of narrowing the given windows w
 pub record NarrowLaw (test : Test) (whole : ℕ → Bool) (w : Windows) (o : Outcome Narrowed) : Type 0 where
-  -- a search, in any windows with room inside those given, answers the minute of which document 01 speaks
-  pub searches : (r d : ℕ → ℕ) → Formed (withWindows w r d) → Inside (withWindows w r d) w → (k : ℕ) → k < w .n → SearchLaw test (withWindows w r d) k
+  -- a search, in any windows with room of the same entries, answers the minute of which document 01 speaks
+  pub searches : (r d : ℕ → ℕ) → Formed (withWindows w r d) → (k : ℕ) → k < w .n → SearchLaw test (withWindows w r d) k
   -- the answer is that of the rounds as document 01 has them
   pub by-rounds : Plannable w → Rounds test whole (unmoved w) o
   -- it is the widest settled set of windows inside those given
