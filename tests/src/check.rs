@@ -1,15 +1,15 @@
-//! Holds the static library against the second reader, writer, planner and narrowing, call by call.
+//! Holds the static library against the second reader, writer and planner, call by call.
 
 use crate::abi::{self, Answer};
 use crate::day::{Day, Interval, Refusal};
 use crate::flat::{self, Fields};
-use crate::narrow::{self, Narrowed};
 use crate::{brute, planner, reader, writer};
 
 /// The answer of a call that succeeds and has nothing to count.
 const ACCEPTED: Answer = Answer { number: 0, values: [0; 3] };
 
-fn refusing(refusal: &Refusal) -> Answer {
+/// The answer of a call that refuses.
+pub fn refusing(refusal: &Refusal) -> Answer {
     let (number, values) = refusal.code();
     Answer { number: u64::from(number), values }
 }
@@ -147,94 +147,5 @@ pub fn not_planned(fields: &Fields, room: usize, number: u32, carries: usize) {
 #[track_caller]
 pub fn test_refused(fields: &Fields, number: u32, carries: usize) {
     let refusal = overload(fields).expect_err("must be refused");
-    assert_eq!(refusal.code(), (number, [carries as u64, 0, 0]));
-}
-
-/// Holds the answer and the fields of a call that narrows against what the second narrowing says: the list
-/// with the narrowed windows and zeros after it, or a refusal and the fields as they were.
-#[track_caller]
-fn alike(given: &Fields, expected: &Result<Narrowed, Refusal>, (answer, fields): (Answer, Fields)) {
-    let (wanted, wanted_fields) = match expected {
-        Ok(Narrowed { day, moves }) => (Answer { number: 0, values: [*moves, 0, 0] }, flat::of_day(day)),
-        Err(refusal) => (refusing(refusal), abi::untouched_fields()),
-    };
-    assert_eq!(answer, wanted, "answer to {:?}", &given[..]);
-    let differs = (0..flat::SIZE).find(|&i| fields[i] != wanted_fields[i]);
-    assert_eq!(differs, None, "the first field that is wrong after narrowing {:?}", &given[..]);
-}
-
-/// Settles a value's windows with both programs. Answer and fields must be alike.
-#[track_caller]
-pub fn settle(fields: &Fields) -> Result<Narrowed, Refusal> {
-    let expected = narrow::settle(&flat::value(fields));
-    alike(fields, &expected, abi::settle(fields));
-    expected
-}
-
-/// Narrows a value's windows by one round with both programs. Answer and fields must be alike.
-#[track_caller]
-pub fn round(fields: &Fields) -> Result<Narrowed, Refusal> {
-    let expected = narrow::round(&flat::value(fields));
-    alike(fields, &expected, abi::round(fields));
-    expected
-}
-
-/// Settles a list that must be settled, and gives its settled windows and the moves. Rounds, each by a call of its
-/// own, must come to the same, and settled windows must stay as they are.
-#[track_caller]
-pub fn settled(day: &Day) -> (Day, u64) {
-    let fields = flat::of_day(day);
-    let narrowed = settle(&fields).unwrap_or_else(|refusal| panic!("{refusal:?} of {day:?}"));
-    settled_by_rounds(&fields);
-    let again = Narrowed { day: narrowed.day.clone(), moves: 0 };
-    assert_eq!(settle(&flat::of_day(&narrowed.day)), Ok(again), "settled once more");
-    (narrowed.day, narrowed.moves)
-}
-
-/// Settles a list that must be refused with 10, and gives the place that it carries. Rounds, each by a call of its
-/// own, must be refused alike.
-#[track_caller]
-pub fn no_place(day: &Day) -> usize {
-    let fields = flat::of_day(day);
-    let refusal = settle(&fields).expect_err("must be refused");
-    settled_by_rounds(&fields);
-    match refusal {
-        Refusal::NoPlace { place } => place,
-        _ => panic!("{refusal:?} of {day:?}"),
-    }
-}
-
-/// Makes rounds with the library, each by a call of its own from the windows that the last one left, to one
-/// without moves or to a refusal. Settling must give these windows and all their moves, or this refusal.
-#[track_caller]
-pub fn settled_by_rounds(fields: &Fields) {
-    let mut moves = 0;
-    let mut windows = *fields;
-    let last = loop {
-        let (answer, narrowed) = abi::round(&windows);
-        if answer.number != 0 {
-            break (answer, narrowed);
-        }
-        moves += answer.values[0];
-        if answer.values[0] == 0 {
-            break (Answer { number: 0, values: [moves, 0, 0] }, narrowed);
-        }
-        assert!(narrowed != windows, "moves that change nothing of {:?}", &windows[..]);
-        windows = narrowed;
-    };
-    assert!(abi::settle(fields) == last, "settling {:?} is not {:?}", &fields[..], last.0);
-}
-
-/// Settles a value that must be refused with this number, carrying this value.
-#[track_caller]
-pub fn not_settled(fields: &Fields, number: u32, carries: usize) {
-    let refusal = settle(fields).expect_err("must not be settled");
-    assert_eq!(refusal.code(), (number, [carries as u64, 0, 0]));
-}
-
-/// Narrows a value by one round that must be refused with this number, carrying this value.
-#[track_caller]
-pub fn round_refused(fields: &Fields, number: u32, carries: usize) {
-    let refusal = round(fields).expect_err("must be refused");
     assert_eq!(refusal.code(), (number, [carries as u64, 0, 0]));
 }

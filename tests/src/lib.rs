@@ -4,7 +4,9 @@
 
 pub mod abi;
 pub mod brute;
+pub mod chains;
 pub mod check;
+pub mod check_narrow;
 pub mod day;
 pub mod flat;
 pub mod jackson;

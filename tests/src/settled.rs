@@ -102,7 +102,7 @@ impl Plans<'_> {
     /// that have this entry's minutes consecutive, the least start or the greatest end.
     pub fn step(&self, windows: &Windows, place: usize, side: Side) -> Option<Windows> {
         let spans = self.fitting(windows).map(|spans| spans[place]);
-        let mut one_piece = spans.filter(|(start, end)| end - start == self.p(place));
+        let one_piece = spans.filter(|(start, end)| end - start == self.p(place));
         let mut windows = windows.clone();
         match side {
             Side::Earliest => windows[place].0 = one_piece.map(|(start, _)| start).min()?,
