@@ -1,7 +1,8 @@
 //! What the order of the places decides: the moves, the rounds and the place of 10; and what it does not: the
 //! windows, and whether a list is refused.
 
-use dock_tests::check_narrow::{by_trying_everything, no_place, round_refused, rounds_leave, settled};
+use dock_tests::check_narrow::{by_trying_everything, no_place, round_refused, rounds_leave};
+use dock_tests::check_narrow::{settled, settled_by_rounds};
 use dock_tests::day::{Day, Refusal};
 use dock_tests::narrow::{self, Side};
 use dock_tests::samples::boxes;
@@ -127,8 +128,8 @@ fn ten_in_round_three() {
 fn ten_in_round_six() {
     let day = boxes(30, "w[8,9)1 w[19,25)5 w[0,24)4 w[0,23)6 w[5,30)2 w[2,27)3 w[1,30)4 w[8,28)5");
     assert_eq!(no_place(&day), 2);
-    let left = narrow::rounds(&day).done.len();
-    assert_eq!(left, 5, "rounds before the refusal");
+    let rounds = settled_by_rounds(&flat::of_day(&day));
+    assert_eq!(Vec::from_iter(rounds.iter().map(|round| round.1)), [4, 1, 1, 3, 4]);
 }
 
 /// A refusal carries its place and no moves, however many were made.
