@@ -1,9 +1,8 @@
 //! Document 01's examples as narrowing sees them, round by round, and its sample input.
 
 use dock_tests::check::accepted;
-use dock_tests::check_narrow::{
-    by_trying_everything, no_place, round_refused, rounds_leave, settle, settled,
-};
+use dock_tests::check_narrow::{by_trying_everything, no_place, round_refused, rounds_leave};
+use dock_tests::check_narrow::{settle, settled, settled_by_rounds};
 use dock_tests::day::{Day, Interval, Refusal};
 use dock_tests::samples::{self, boxes, hex};
 use dock_tests::{abi, flat};

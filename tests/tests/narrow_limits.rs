@@ -140,7 +140,7 @@ fn sixty_five_entries_are_3() {
 /// Example (a) with more entries, of more minutes: each round settles one, from the last place to the first.
 #[test]
 fn one_entry_in_each_round() {
-    for (n, p) in [(2, 2), (3, 2), (4, 2), (5, 2), (9, 3), (17, 7), (33, 2), (64, 2)] {
+    for (n, p) in [(2, 2), (3, 2), (4, 2), (5, 2), (9, 3), (17, 7), (33, 2)] {
         let (day, wanted) = chains::settled_one_by_one(n, p);
         assert_eq!(settled(&day), (wanted, 2 * n as u64 - 2), "{n} entries of {p} minutes");
     }

@@ -70,6 +70,18 @@ fn the_greatest_end_may_be_before_the_block() {
     assert_eq!(no_place(&among(8, (1, 7, 3), &[(3, 5)])), 0, "no start from 1 up to 7");
 }
 
+/// The entry may not go before the first block, nor between the two, though each of them alone would leave it a
+/// start there.
+#[test]
+fn the_least_start_may_be_behind_two_blocks() {
+    let day = boxes(6, "w[0,6)2 p[1,2)1 p[3,4)1");
+    assert_eq!(settled(&day), (boxes(6, "w[4,6)2 p[1,2)1 p[3,4)1"), 1));
+    assert_eq!(by_trying_everything(&day).values, [1, 0, 0]);
+    let day = boxes(4, "w[0,4)2 p[1,2)1 p[3,4)1");
+    assert_eq!(no_place(&day), 0);
+    assert_eq!(by_trying_everything(&day).number, 10);
+}
+
 /// Every third minute is taken before and after three free ones, wherever these are.
 #[test]
 fn the_only_start_may_be_anywhere() {
