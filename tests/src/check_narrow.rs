@@ -8,8 +8,8 @@ use crate::narrow::{self, Narrowed};
 use crate::settled::{self, Plans, Windows};
 use crate::{overload, samples};
 
-/// What a call that narrows answers, and what the fields then hold: the list with the narrowed windows and zeros
-/// after it, or a refusal and the fields as they were.
+/// What a call that narrows answers, and what the fields then hold: the list with the narrowed windows and
+/// zeros after it, or a refusal and the fields as they were.
 fn wanted(expected: &Result<Narrowed, Refusal>) -> (Answer, Fields) {
     match expected {
         Ok(Narrowed { day, moves }) => (Answer { number: 0, values: [*moves, 0, 0] }, flat::of_day(day)),
@@ -40,8 +40,8 @@ pub fn round(fields: &Fields) -> Result<Narrowed, Refusal> {
     expected
 }
 
-/// Settles a list that must be settled, and gives its settled windows and the moves. Rounds, each by a call of
-/// its own, must come to the same, and settled windows must stay as they are.
+/// Settles a list that must be settled, and gives its settled windows and the moves. Rounds, each by a call
+/// of its own, must come to the same, and settled windows must stay as they are.
 #[track_caller]
 pub fn settled(day: &Day) -> (Day, u64) {
     let fields = flat::of_day(day);
@@ -52,8 +52,8 @@ pub fn settled(day: &Day) -> (Day, u64) {
     (narrowed.day, narrowed.moves)
 }
 
-/// Settles a list that must be refused with 10, and gives the place that it carries. Rounds, each by a call of
-/// its own, must be refused alike.
+/// Settles a list that must be refused with 10, and gives the place that it carries. Rounds, each by a call
+/// of its own, must be refused alike.
 #[track_caller]
 pub fn no_place(day: &Day) -> usize {
     let fields = flat::of_day(day);
@@ -100,8 +100,8 @@ pub fn settled_by_rounds(fields: &Fields) -> Vec<(Fields, u64)> {
     rounds
 }
 
-/// Rounds of the library, each by a call of its own, leave these windows with these moves, in short, before one
-/// without moves or a refusal ends them.
+/// Rounds of the library, each by a call of its own, leave these windows with these moves, in short, before
+/// one without moves or a refusal ends them.
 #[track_caller]
 pub fn rounds_leave(day: &Day, wanted: &[(&str, u64)]) {
     let rounds = settled_by_rounds(&flat::of_day(day));
@@ -113,8 +113,8 @@ pub fn rounds_leave(day: &Day, wanted: &[(&str, u64)]) {
     }
 }
 
-/// Settles a small day with the library, and holds the answer against all its plans, all sets of windows inside
-/// those given and all lists of narrowing steps. The second narrowing is not asked.
+/// Settles a small day with the library, and holds the answer against all its plans, all sets of windows
+/// inside those given and all lists of narrowing steps. The second narrowing is not asked.
 #[track_caller]
 pub fn by_trying_everything(day: &Day) -> Answer {
     let plans = Plans::of(day);
@@ -162,7 +162,8 @@ fn is_the_widest(day: &Day, plans: &Plans, windows: &Windows) {
     }
 }
 
-/// No list of steps meets a refusal, and where no step is left that changes a window, it leaves these windows.
+/// No list of steps meets a refusal, and where no step is left that changes a window, it leaves these
+/// windows.
 #[track_caller]
 fn ends_all_steps(day: &Day, plans: &Plans, windows: &Windows) {
     let steps = plans.steps();
@@ -179,9 +180,9 @@ fn makes_the_moves(day: &Day, plans: &Plans, windows: &Windows, values: [u64; 3]
     assert!(moves <= cut, "{moves} moves cut {cut} minutes of {day:?}");
 }
 
-/// There is no settled set and no unbroken plan. The refusal is 9 with the interval shown exactly if no plan fits
-/// the given windows, else 10 with the place at which the rounds stop. Then some list of steps is refused, and
-/// none ends without a refusal.
+/// There is no settled set and no unbroken plan. The refusal is 9 with the interval shown exactly if no plan
+/// fits the given windows, else 10 with the place at which the rounds stop. Then some list of steps is
+/// refused, and none ends without a refusal.
 #[track_caller]
 fn is_refused_rightly(day: &Day, plans: &Plans, answer: Answer) {
     assert_eq!(plans.settled_sets(), [] as [Windows; 0], "settled sets of a refused day {day:?}");

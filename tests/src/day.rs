@@ -26,7 +26,7 @@ pub struct Interval {
     pub work: u64,
 }
 
-/// The rows of document 01's table that reading, writing, planning and narrowing know, with what each carries.
+/// The rows of document 01's table that the library's calls know, with what each carries.
 #[derive(Clone, Copy, Debug, PartialEq, Eq)]
 pub enum Refusal {
     Missing { length: usize },

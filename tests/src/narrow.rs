@@ -91,8 +91,8 @@ pub fn step(day: &mut Day, place: usize, side: Side) -> Result<bool, Refusal> {
     Ok(std::mem::replace(changed, minute) != minute)
 }
 
-/// "the least s, from its r up, with s + p at most its d, for which a plan exists when its window is [s, s + p)
-/// and the others keep theirs"
+/// "the least s, from its r up, with s + p at most its d, for which a plan exists when its window is [s, s +
+/// p) and the others keep theirs"
 pub fn least_start(day: &Day, place: usize) -> Option<u16> {
     let entry = &day.entries[place];
     (entry.r..=entry.d - entry.p).find(|&s| has_plan_from(day, place, s))

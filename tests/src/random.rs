@@ -116,9 +116,9 @@ pub fn planned_day(random: &mut Random, h: u16, n: usize, idle: usize, grids: &[
     Day { h, entries }
 }
 
-/// A list of `n` entries, at least 1 and at most as many as there are minutes, that has a plan in which none of
-/// them is broken, so that narrowing does not refuse it. One is made up, with idle minutes or without, and each
-/// window reaches up to `slack` minutes further at either side.
+/// A list of `n` entries, at least 1 and at most as many as there are minutes, that has a plan in which none
+/// of them is broken, so that narrowing does not refuse it. One is made up, with idle minutes or without, and
+/// each window reaches up to `slack` minutes further at either side.
 pub fn unbroken_day(random: &mut Random, h: u16, n: usize, idle: bool, slack: u16) -> Day {
     let mut ends: Vec<u16> = (1..h).collect();
     shuffle(random, &mut ends);

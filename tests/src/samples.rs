@@ -38,8 +38,8 @@ pub fn with_serials(mut day: Day, serials: &[u32]) -> Day {
     day
 }
 
-/// A day of `h` minutes in short: `w[0,3)2 p[1,4)1` is a whole entry with the window [0, 3) and p 2, then a pause
-/// entry with [1, 4) and p 1. The serials differ.
+/// A day of `h` minutes in short: `w[0,3)2 p[1,4)1` is a whole entry with the window [0, 3) and p 2, then a
+/// pause entry with [1, 4) and p 1. The serials differ.
 pub fn boxes(h: u16, entries: &str) -> Day {
     let mut all = vec![];
     let mut wholes = vec![];

@@ -1,5 +1,5 @@
-//! Narrowing of small days by trying everything: all plans, all sets of windows inside the given ones, and all
-//! lists of narrowing steps. No start is searched for minute by minute, and Jackson's rule is not used.
+//! Narrowing of small days by trying everything: all plans, all sets of windows inside the given ones, and
+//! all lists of narrowing steps. No start is searched for minute by minute, and Jackson's rule is not used.
 
 use crate::brute;
 use crate::day::{Day, Refusal};
@@ -71,8 +71,8 @@ impl Plans<'_> {
         (0..self.day.entries.len()).filter(|&place| self.day.entries[place].whole)
     }
 
-    /// "It is settled if a plan has every entry in its window, and if each whole entry has such a plan with its
-    /// minutes consecutive from its r on, and one with them consecutive up to its d."
+    /// "It is settled if a plan has every entry in its window, and if each whole entry has such a plan with
+    /// its minutes consecutive from its r on, and one with them consecutive up to its d."
     pub fn is_settled(&self, windows: &Windows) -> bool {
         let plans: Vec<&Windows> = self.fitting(windows).collect();
         let has = |place: usize, span| plans.iter().any(|spans| spans[place] == span);
@@ -98,8 +98,8 @@ impl Plans<'_> {
         sets
     }
 
-    /// "it makes a round's search for that entry's r, or the one for its d with the r it then has": of all plans
-    /// that have this entry's minutes consecutive, the least start or the greatest end.
+    /// "it makes a round's search for that entry's r, or the one for its d with the r it then has": of all
+    /// plans that have this entry's minutes consecutive, the least start or the greatest end.
     pub fn step(&self, windows: &Windows, place: usize, side: Side) -> Option<Windows> {
         let spans = self.fitting(windows).map(|spans| spans[place]);
         let one_piece = spans.filter(|(start, end)| end - start == self.p(place));
@@ -111,6 +111,11 @@ impl Plans<'_> {
         Some(windows)
     }
 
+    /// All steps that can be named, in the order of a round.
+    fn named(&self) -> impl Iterator<Item = (usize, Side)> + '_ {
+        self.wholes().flat_map(|place| [(place, Side::Earliest), (place, Side::Latest)])
+    }
+
     /// All lists of narrowing steps from the given windows on.
     pub fn steps(&self) -> Steps {
         let mut found = Steps::default();
@@ -120,19 +125,13 @@ impl Plans<'_> {
                 continue;
             }
             let mut complete = true;
-            for place in self.wholes() {
-                for side in [Side::Earliest, Side::Latest] {
-                    match self.step(&windows, place, side) {
-                        Some(next) => {
-                            complete &= next == windows;
-                            waiting.push(next);
-                        }
-                        None => {
-                            complete = false;
-                            found.refused.insert(place);
-                        }
-                    }
+            for (place, side) in self.named() {
+                let next = self.step(&windows, place, side);
+                complete &= next.as_ref() == Some(&windows);
+                if next.is_none() {
+                    found.refused.insert(place);
                 }
+                waiting.extend(next);
             }
             if complete {
                 found.complete.insert(windows);
@@ -147,12 +146,10 @@ impl Plans<'_> {
         let mut moves = 0;
         loop {
             let before = moves;
-            for place in self.wholes() {
-                for side in [Side::Earliest, Side::Latest] {
-                    let next = self.step(&windows, place, side).ok_or(Refusal::NoPlace { place })?;
-                    moves += u64::from(next != windows);
-                    windows = next;
-                }
+            for (place, side) in self.named() {
+                let next = self.step(&windows, place, side).ok_or(Refusal::NoPlace { place })?;
+                moves += u64::from(next != windows);
+                windows = next;
             }
             if moves == before {
                 return Ok((windows, moves));

@@ -1,13 +1,13 @@
-//! Every day of at most 4 minutes and 3 entries of both kinds, held against all its plans, all sets of windows
-//! inside those given and all lists of narrowing steps.
+//! Every day of at most 4 minutes and 3 entries of both kinds, held against all its plans, all sets of
+//! windows inside those given and all lists of narrowing steps.
 
 use dock_tests::day::{Day, Refusal};
 use dock_tests::narrow::{self, Narrowed};
 use dock_tests::settled::{self, Plans, Windows};
 use dock_tests::{abi, brute, check, check_narrow, flat, jackson, small};
 
-/// How many of the days are settled, refused with 9 and refused with 10, counted once by another program, outside
-/// these tests.
+/// How many of the days are settled, refused with 9 and refused with 10, counted once by another program,
+/// outside these tests.
 const SETTLED: usize = 16_766;
 const OVERLOADED: usize = 57_448;
 const NO_PLACE: usize = 448;
@@ -17,8 +17,8 @@ fn days(h: u16, n: u32) -> impl Iterator<Item = Day> {
     (1..=h).flat_map(move |h| (0..=n).flat_map(move |n| small::days_of_both_kinds(h, n)))
 }
 
-/// A day of h minutes can have 1, 4, 10 and 20 different entries, of two kinds each. With 0 to 2 of them in a row
-/// that makes 2,142 days, and with 3 of them 72,520 more.
+/// A day of h minutes can have 1, 4, 10 and 20 different entries, of two kinds each. With 0 to 2 of them in a
+/// row that makes 2,142 days, and with 3 of them 72,520 more.
 #[test]
 fn there_are_74662_of_them() {
     assert_eq!(days(4, 2).count(), 2_142);
@@ -28,8 +28,8 @@ fn there_are_74662_of_them() {
     assert_eq!(of_two, [[false, false], [true, false], [false, true], [true, true]]);
 }
 
-/// The windows answered are settled and the widest, a refusal is given exactly if there are none, all lists of
-/// steps say the same, unbroken plans are kept, and the moves are those of the rounds.
+/// The windows answered are settled and the widest, a refusal is given exactly if there are none, all lists
+/// of steps say the same, unbroken plans are kept, and the moves are those of the rounds.
 #[test]
 fn every_day_is_narrowed_as_trying_everything_says() {
     let mut seen = [0; 11];
@@ -72,7 +72,8 @@ fn rounds_one_by_one_settle_every_day() {
     assert_eq!(count, SETTLED + NO_PLACE);
 }
 
-/// What the second narrowing asks of Jackson's schedule, from one arrival to the next, is whether there is a plan.
+/// What the second narrowing asks of Jackson's schedule, from one arrival to the next, is whether there is a
+/// plan.
 #[test]
 fn the_second_narrowings_test_is_whether_there_is_a_plan() {
     for day in (1..=5).flat_map(|h| (0..=3).flat_map(move |n| small::days(h, n))) {
@@ -82,8 +83,8 @@ fn the_second_narrowings_test_is_whether_there_is_a_plan() {
     }
 }
 
-/// Trying everything is itself held against the definition: of all sets of windows, windows too short for their
-/// entry too, exactly those found are settled.
+/// Trying everything is itself held against the definition: of all sets of windows, windows too short for
+/// their entry too, exactly those found are settled.
 #[test]
 fn trying_everything_finds_exactly_the_settled_sets() {
     for day in days(3, 2) {
@@ -106,8 +107,8 @@ fn all_sets(day: &Day) -> Vec<Windows> {
     sets
 }
 
-/// "a plan has every entry in its window, and .. each whole entry has such a plan with its minutes consecutive from
-/// its r on, and one with them consecutive up to its d", minute by minute.
+/// "a plan has every entry in its window, and .. each whole entry has such a plan with its minutes
+/// consecutive from its r on, and one with them consecutive up to its d", minute by minute.
 fn is_settled(day: &Day, windows: &Windows) -> bool {
     let narrowed = check_narrow::with_windows(day, windows);
     let plans = Vec::from_iter(brute::plans(day).into_iter().filter(|plan| brute::is_plan(&narrowed, plan)));

@@ -120,8 +120,8 @@ fn the_sample_input_from_its_bytes() {
     assert!(narrowed[23..].iter().all(|&number| number == 0), "zeros after the list");
 }
 
-/// Its one move is made in round one: the whole entry may not begin before 5, as [3,6) is needed for two minutes
-/// of place 2.
+/// Its one move is made in round one: the whole entry may not begin before 5, as [3,6) is needed for two
+/// minutes of place 2.
 #[test]
 fn the_sample_input_round_by_round() {
     let day = accepted(&samples::document());

@@ -1,5 +1,5 @@
-//! The fields that are lent for the narrowed list. Answered, they hold the list with its windows narrowed, all
-//! else as it was given, and zeros from place n on. "A refusal writes nothing to any lent buffer."
+//! The fields that are lent for the narrowed list. Answered, they hold the list with its windows narrowed,
+//! all else as it was given, and zeros from place n on. "A refusal writes nothing to any lent buffer."
 
 use dock_tests::abi::{self, Answer};
 use dock_tests::check_narrow::{settle, settled};
@@ -111,8 +111,8 @@ fn whatever_the_fields_held_the_answer_is_the_same() {
     }
 }
 
-/// "Two list values are equal if H, n and the first n entries are": what stands from place n on in the given value
-/// is not handed on.
+/// "Two list values are equal if H, n and the first n entries are": what stands from place n on in the given
+/// value is not handed on.
 #[test]
 fn from_place_n_on_the_answer_has_zeros() {
     let mut random = Random::new(71);
@@ -132,8 +132,8 @@ fn from_place_n_on_the_answer_has_zeros() {
     }
 }
 
-/// "A seal is either missing or a number, and it travels inside its entry": all fields but r and d are answered
-/// as they were given.
+/// "A seal is either missing or a number, and it travels inside its entry": all fields but r and d are
+/// answered as they were given.
 #[test]
 fn all_but_the_windows_is_answered_as_given() {
     let mut random = Random::new(72);
@@ -153,7 +153,8 @@ fn all_but_the_windows_is_answered_as_given() {
     assert!(moved > 300, "{moved} days with moves");
 }
 
-/// Any number but 0 says that an entry is whole or has a seal, and is answered as 1; beside a missing seal 0 stands.
+/// Any number but 0 says that an entry is whole or has a seal, and is answered as 1; beside a missing seal 0
+/// stands.
 #[test]
 fn a_yes_is_answered_as_1() {
     let mut fields = flat::of_day(&boxes(4, "w[0,3)2 w[0,4)2"));

@@ -1,13 +1,13 @@
-//! Full days, 1,440 minutes and 64 entries, against the second narrowing, and long days that are put together from
-//! small ones. A search over many starts takes its time, so there are not many days of each sort.
+//! Full days, 1,440 minutes and 64 entries, against the second narrowing, and long days that are put together
+//! from small ones. A search over many starts takes its time, so there are not many days of each sort.
 
-use dock_tests::check::number;
+use dock_tests::check::{self, number};
 use dock_tests::check_narrow::{by_trying_everything, settle, settled, settled_by_rounds};
 use dock_tests::day::{Day, Entry, Refusal, LONGEST_DAY, MOST_ENTRIES};
-use dock_tests::narrow;
+use dock_tests::narrow::{self, Narrowed};
 use dock_tests::random::{self, Random};
 use dock_tests::samples::boxes;
-use dock_tests::{abi, chains, flat};
+use dock_tests::{abi, brute, chains, flat};
 
 /// A full day with an unbroken plan, of whole entries but for one in `pause`, and none if that is 0.
 fn full_day(random: &mut Random, idle: bool, slack: u16, pause: usize) -> Day {
@@ -21,9 +21,9 @@ fn full_day(random: &mut Random, idle: bool, slack: u16, pause: usize) -> Day {
 fn full_loose_days() {
     let mut random = Random::new(121);
     let mut moved = 0;
-    for turn in 0..24 {
+    for turn in 0..30 {
         let slack = random.pick(&[15, 30, 60, 1440]);
-        let day = full_day(&mut random, true, slack, turn % 3);
+        let day = full_day(&mut random, true, slack, [0, 2, 4][turn % 3]);
         moved += usize::from(settled(&day).1 > 0);
     }
     assert!(moved > 5, "{moved} days with moves");
@@ -34,15 +34,36 @@ fn full_loose_days() {
 fn full_tight_days() {
     let mut random = Random::new(122);
     let mut all = 0;
-    for turn in 0..12 {
+    for turn in 0..20 {
         let slack = [10, 30, 60, 200][turn % 4];
-        let day = full_day(&mut random, false, slack, turn % 3 * 4);
+        let day = full_day(&mut random, false, slack, [0, 2, 4, 8, 16][turn % 5]);
         let narrowed = settle(&flat::of_day(&day)).expect("there is an unbroken plan");
         let cut = narrow::minutes_cut(&day, &narrowed.day);
         assert!(narrowed.moves <= cut, "{} moves cut {cut} minutes", narrowed.moves);
         all += narrowed.moves;
     }
     assert!(all > 500, "{all} moves");
+}
+
+/// "each whole entry has such a plan with its minutes consecutive from its r on, and one with them
+/// consecutive up to its d": the library itself plans these.
+#[test]
+fn settled_windows_have_the_plans_that_make_them_so() {
+    let mut random = Random::new(128);
+    for slack in [30, 200] {
+        let day = full_day(&mut random, false, slack, 4);
+        let Narrowed { day, .. } = settle(&flat::of_day(&day)).expect("there is an unbroken plan");
+        for place in (0..MOST_ENTRIES).filter(|&place| day.entries[place].whole) {
+            let Entry { r, d, p, .. } = day.entries[place];
+            for start in [r, d - p] {
+                let mut fixed = day.clone();
+                (fixed.entries[place].r, fixed.entries[place].d) = (start, start + p);
+                let plan = check::planned(&fixed);
+                assert!(brute::is_plan(&day, &plan), "place {place} from {start} on");
+                assert_eq!(brute::minutes_of(&plan, place), Vec::from_iter(start..start + p));
+            }
+        }
+    }
 }
 
 /// The rounds of a tight day, each by a call of its own.
@@ -138,42 +159,42 @@ fn side_by_side(parts: &[Day]) -> Day {
     Day { h, entries }
 }
 
-/// A small day that trying everything finds right, with its settled windows and moves, if it has any.
-fn small_part(random: &mut Random) -> (Day, Option<(Day, u64)>) {
-    let h = random.within(3, 6);
-    let n = 1 + random.below(4.min(h.into()));
-    let idle = random.pick(&[0, 2, 9]);
-    let mut day = random::planned_day(random, h, n, idle, &[1, 2, 4, 8]);
-    day.entries.iter_mut().for_each(|entry| entry.whole |= random.once_in(2));
-    let settled = (by_trying_everything(&day).number == 0).then(|| {
-        let found = settle(&flat::of_day(&day)).expect("settled");
-        (found.day, found.moves)
-    });
-    (day, settled)
+/// A small day that is settled, as trying everything says, with its settled windows and moves.
+fn settled_part(random: &mut Random) -> (Day, Narrowed) {
+    loop {
+        let h = random.within(3, 6);
+        let n = 1 + random.below(4.min(h.into()));
+        let idle = random.pick(&[0, 2, 9]);
+        let mut day = random::planned_day(random, h, n, idle, &[1, 2, 4, 8]);
+        day.entries.iter_mut().for_each(|entry| entry.whole |= random.once_in(2));
+        if by_trying_everything(&day).number == 0 {
+            let narrowed = settle(&flat::of_day(&day)).expect("settled");
+            return (day, narrowed);
+        }
+    }
 }
 
-/// Parts that have no minute in common are settled for themselves: the windows are those of the parts, and the moves
-/// are all of theirs. So trying everything says what a long day must come to.
+/// Parts that have no minute in common are settled each for itself: the windows are those of the parts, and
+/// the moves are all of theirs. So trying everything says what a long day must come to.
 #[test]
 fn long_days_of_small_parts_tried_in_full() {
     let mut random = Random::new(127);
     let mut most = 0;
     for _ in 0..60 {
-        let parts =
-            Vec::from_iter((0..20).map(|_| small_part(&mut random)).filter(|part| part.1.is_some()).take(16));
-        let (given, wanted): (Vec<Day>, Vec<_>) =
-            parts.into_iter().map(|(day, found)| (day, found.unwrap())).unzip();
-        let (windows, moves): (Vec<Day>, Vec<u64>) = wanted.into_iter().unzip();
+        let (given, narrowed): (Vec<_>, Vec<_>) = (0..16).map(|_| settled_part(&mut random)).unzip();
+        let moves = narrowed.iter().map(|part| part.moves).sum();
+        let windows = Vec::from_iter(narrowed.into_iter().map(|part| part.day));
         let day = side_by_side(&given);
-        let (answer, narrowed) = abi::settle(&flat::of_day(&day));
-        assert_eq!((answer.number, answer.values), (0, [moves.iter().sum(), 0, 0]), "{day:?}");
-        assert!(narrowed == flat::of_day(&side_by_side(&windows)), "windows of {day:?}");
+        let (answer, fields) = abi::settle(&flat::of_day(&day));
+        assert_eq!((answer.number, answer.values), (0, [moves, 0, 0]), "{day:?}");
+        assert!(fields == flat::of_day(&side_by_side(&windows)), "windows of {day:?}");
         most = most.max(day.entries.len());
     }
     assert!(most > 40, "{most} entries at most");
 }
 
-/// One part that is refused with 10 among others that are not: all of the day is refused, at that part's place.
+/// One part that is refused with 10 among others that are not: all of the day is refused, at that part's
+/// place.
 #[test]
 fn long_days_with_one_part_that_is_refused() {
     let bad = boxes(6, "w[0,6)3 p[2,4)2");

@@ -1,6 +1,6 @@
-//! What narrowing does not look at: serials, seals, and all places from n on. Entries are known by their place.
-//! "The same serial may stand twice. The depots see to it that such windows do not overlap; nothing here relies
-//! on it."
+//! What narrowing does not look at: serials, seals, and all places from n on. Entries are known by their
+//! place. "The same serial may stand twice. The depots see to it that such windows do not overlap; nothing
+//! here relies on it."
 
 use dock_tests::abi::{self, Answer};
 use dock_tests::chains;
@@ -61,8 +61,8 @@ impl Seen {
     }
 }
 
-/// Changes these numbers of every entry of random days, to any value: both calls must say the same as before, and
-/// the answered list has what was given.
+/// Changes these numbers of every entry of random days, to any value: both calls must say the same as before,
+/// and the answered list has what was given.
 fn travels_along(seed: u64, numbers: &[usize]) {
     let mut seen = Seen::default();
     days(&mut Random::new(seed), |random, day| {

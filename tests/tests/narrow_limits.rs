@@ -1,5 +1,5 @@
-//! The limits: no entries and 64, 1 minute and 1,440, one entry filling the day, pause entries alone, and more
-//! moves than a byte counts.
+//! The limits: no entries and 64, 1 minute and 1,440, one entry filling the day, pause entries alone, and
+//! more moves than a byte counts.
 
 use dock_tests::check_narrow::{no_place, not_settled, round, round_refused};
 use dock_tests::check_narrow::{settle, settled, settled_by_rounds};

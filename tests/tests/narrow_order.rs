@@ -33,8 +33,8 @@ fn whole_alone(mut day: Day, place: usize) -> Day {
     day
 }
 
-/// There is but one plan with whole entries in one piece: 2 2 1 0 0. Place 0 is moved in both rounds, as round
-/// one visits it before place 2 gives its minutes free.
+/// There is but one plan with whole entries in one piece: 2 2 1 0 0. Place 0 is moved in both rounds, as
+/// round one visits it before place 2 gives its minutes free.
 #[test]
 fn four_moves_in_the_order_of_the_list() {
     let day = boxes(5, "w[1,5)2 w[1,3)1 w[0,5)2");
@@ -54,7 +54,8 @@ fn three_moves_in_another_order() {
     assert_eq!(by_trying_everything(&day).values, [3, 0, 0]);
 }
 
-/// In every order of the places the windows are the same, and so is that there is an answer; the moves are not.
+/// In every order of the places the windows are the same, and so is that there is an answer; the moves are
+/// not.
 #[test]
 fn every_order_has_the_same_windows() {
     let days: [(Day, &[u64]); 5] = [
@@ -155,8 +156,8 @@ fn a_step_for_d_may_be_refused_before_one_for_r() {
     assert_eq!(by_trying_everything(&day).values, [0, 0, 0]);
 }
 
-/// "It is settled if a plan has every entry in its window, and if each whole entry has such a plan": each entry
-/// for itself. No plan keeps all three in one piece, as 3 and 3 minutes are free beside place 3.
+/// "It is settled if a plan has every entry in its window, and if each whole entry has such a plan": each
+/// entry for itself. No plan keeps all three in one piece, as 3 and 3 minutes are free beside place 3.
 #[test]
 fn settled_windows_may_have_no_unbroken_plan() {
     let day = boxes(7, "w[0,7)2 w[0,7)2 w[0,7)2 p[3,4)1");

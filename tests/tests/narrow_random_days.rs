@@ -1,5 +1,5 @@
-//! Random days of both kinds, fixed by their seeds: small ones against trying everything, longer ones against the
-//! second narrowing, and all of them against their mirror.
+//! Random days of both kinds, fixed by their seeds: small ones against trying everything, longer ones against
+//! the second narrowing, and all of them against their mirror.
 
 use dock_tests::check_narrow::{by_trying_everything, round, settle, settled_by_rounds};
 use dock_tests::day::{Day, Entry, Refusal};
@@ -7,8 +7,8 @@ use dock_tests::narrow;
 use dock_tests::random::{self, Random};
 use dock_tests::{abi, flat};
 
-/// A day of at most `most` minutes and `n` entries, of which three in four or all are whole: windows of any kind, or
-/// drawn around a plan that breaks entries or not.
+/// A day of at most `most` minutes and `n` entries, of which three in four or all are whole: windows of any
+/// kind, or drawn around a plan that breaks entries or not.
 fn day(random: &mut Random, most: u16, n: usize) -> Day {
     let h = random.within(1, most);
     let n = random.below(n + 1);
@@ -26,8 +26,8 @@ fn day(random: &mut Random, most: u16, n: usize) -> Day {
     day
 }
 
-/// How often days were settled without moves, in so many rounds with moves (5 or more counted as 5), refused with 9,
-/// and refused with 10 in round one or later.
+/// How often days were settled without moves, in so many rounds with moves (5 or more counted as 5), refused
+/// with 9, and refused with 10 in round one or later.
 #[derive(Debug, Default)]
 struct Seen {
     rounds: [usize; 6],
@@ -64,8 +64,8 @@ fn ten_thousand_small_days_against_trying_everything() {
     assert!(seen.overloaded > 1_000 && seen.no_place > 100, "{seen:?}");
 }
 
-/// Two wide whole entries, and two pause entries of a minute that leave little between them: here 10 comes in round
-/// two now and then. Windows drawn around a plan hardly ever do that.
+/// Two wide whole entries, and two pause entries of a minute that leave little between them: here 10 comes in
+/// round two now and then. Windows drawn around a plan hardly ever do that.
 #[test]
 fn late_refusals_against_trying_everything() {
     let mut random = Random::new(102);
@@ -123,8 +123,9 @@ fn mirror(day: &Day) -> Day {
     Day { h: day.h, entries: day.entries.iter().map(turned).collect() }
 }
 
-/// A visit gives r the least and d the greatest of one set of starts, so the mirror of a day is settled with the
-/// mirrored windows and as many moves, or refused with 10 at the same place; and an overloaded one is overloaded.
+/// A visit gives r the least and d the greatest of one set of starts, so the mirror of a day is settled with
+/// the mirrored windows and as many moves, or refused with 10 at the same place; and an overloaded one is
+/// overloaded.
 #[test]
 fn the_mirror_of_a_day_is_settled_alike() {
     let mut random = Random::new(105);

@@ -1,5 +1,5 @@
-//! One round by a call of its own, from the windows as given: each round's windows and moves equal the rule's, and
-//! rounds one after the other come to what settling answers.
+//! One round by a call of its own, from the windows as given: each round's windows and moves equal the
+//! rule's, and rounds one after the other come to what settling answers.
 
 use dock_tests::check_narrow::{round, settled_by_rounds};
 use dock_tests::random::{self, Random};

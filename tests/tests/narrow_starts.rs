@@ -13,8 +13,9 @@ fn among(h: u16, entry: (u16, u16, u16), blocks: &[(u16, u16)]) -> Day {
     whole(windows(h, &Vec::from_iter([entry].into_iter().chain(fixed))), &[0])
 }
 
-/// Settles such a day, and holds the answer against the free minutes: r is the first start that meets no block, d
-/// the last one plus p. Without such a start it is 10, and with less than p free minutes 9. Gives the number.
+/// Settles such a day, and holds the answer against the free minutes: r is the first start that meets no
+/// block, d the last one plus p. Without such a start it is 10, and with less than p free minutes 9. Gives
+/// the number.
 #[track_caller]
 fn as_the_free_minutes_say(h: u16, (r, d, p): (u16, u16, u16), blocks: &[(u16, u16)]) -> u64 {
     let day = among(h, (r, d, p), blocks);
@@ -36,8 +37,8 @@ fn as_the_free_minutes_say(h: u16, (r, d, p): (u16, u16, u16), blocks: &[(u16, u
     answer.number
 }
 
-/// "with pause [3,5) p 2 a whole p 3 may start at 0, not at 1 to 4, and again at 5". Halving would try 2 first,
-/// find no plan, and never see 0.
+/// "with pause [3,5) p 2 a whole p 3 may start at 0, not at 1 to 4, and again at 5". Halving would try 2
+/// first, find no plan, and never see 0.
 #[test]
 fn a_start_before_the_block_and_one_after_it() {
     let day = boxes(8, "w[0,8)3 p[3,5)2");
@@ -70,8 +71,8 @@ fn the_greatest_end_may_be_before_the_block() {
     assert_eq!(no_place(&among(8, (1, 7, 3), &[(3, 5)])), 0, "no start from 1 up to 7");
 }
 
-/// The entry may not go before the first block, nor between the two, though each of them alone would leave it a
-/// start there.
+/// The entry may not go before the first block, nor between the two, though each of them alone would leave it
+/// a start there.
 #[test]
 fn the_least_start_may_be_behind_two_blocks() {
     let day = boxes(6, "w[0,6)2 p[1,2)1 p[3,4)1");

@@ -102,13 +102,13 @@ fn a_sum_that_passes_65535_is_7() {
     }
 }
 
-/// An empty window makes no interval and would pass the overload test, and no start could be tried in it. It is 7,
-/// not 10.
+/// An empty window makes no interval and would pass the overload test, and no start could be tried in it. It
+/// is 7, not 10.
 #[test]
 fn an_empty_window_is_7_and_never_comes_to_9_or_10() {
     for entry in [whole(50, 50, 1), whole(60, 50, 1), entry(50, 50, 1)] {
-        refused(&day(&[entry.clone()]), 7, 0);
-        refused(&day(&[whole(0, 100, 10), entry]), 7, 1);
+        refused(&day(&[whole(0, 100, 10), entry.clone()]), 7, 1);
+        refused(&day(&[entry]), 7, 0);
     }
 }
 
@@ -155,8 +155,8 @@ fn nine_comes_before_ten() {
     not_settled(&flat::of_day(&day), 10, 0);
 }
 
-/// One round makes no overload test. Without whole entries it has nothing to do; else no start of the first whole
-/// entry has a plan.
+/// One round makes no overload test. Without whole entries it has nothing to do; else no start of the first
+/// whole entry has a plan.
 #[test]
 fn one_round_of_an_overloaded_list() {
     let day = boxes(10, "p[2,5)2 p[2,5)2");
@@ -202,7 +202,8 @@ fn ten_thousand_wild_values() {
     }
 }
 
-/// The same for one round, of fewer values: where many entries have no plan it tries every start of the first.
+/// The same for one round, of fewer values: where many entries have no plan it tries every start of the
+/// first.
 #[test]
 fn two_thousand_wild_values_for_one_round() {
     let mut random = Random::new(62);
