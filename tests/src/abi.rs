@@ -8,6 +8,8 @@ extern "C" {
     fn dock_write(fields: *const Fields, out: *mut u8, len: usize) -> Answer;
     fn dock_overload(fields: *const Fields) -> Answer;
     fn dock_schedule(fields: *const Fields, plan: *mut u8, len: usize) -> Answer;
+    fn dock_settle(fields: *const Fields, narrowed: *mut Fields) -> Answer;
+    fn dock_round(fields: *const Fields, narrowed: *mut Fields) -> Answer;
 }
 
 /// What a call answers: 0 or a refusal's number, and three values, 0 where there are fewer.
@@ -70,4 +72,30 @@ pub fn schedule(fields: &Fields, room: usize) -> (Answer, Vec<u8>) {
 pub fn schedule_into(fields: &Fields, plan: &mut [u8]) -> Answer {
     // SAFETY: the library reads one array and writes the bytes of `plan`, all of them lent here.
     unsafe { dock_schedule(fields, plan.as_mut_ptr(), plan.len()) }
+}
+
+/// Settles a list's windows through the library.
+pub fn settle(fields: &Fields) -> (Answer, Fields) {
+    let mut narrowed = untouched_fields();
+    let answer = settle_into(fields, &mut narrowed);
+    (answer, narrowed)
+}
+
+/// Settles a list's windows through the library into these fields, whatever they hold.
+pub fn settle_into(fields: &Fields, narrowed: &mut Fields) -> Answer {
+    // SAFETY: the library reads one array and writes another, both of them lent here.
+    unsafe { dock_settle(fields, narrowed) }
+}
+
+/// Narrows a list's windows by one round through the library.
+pub fn round(fields: &Fields) -> (Answer, Fields) {
+    let mut narrowed = untouched_fields();
+    let answer = round_into(fields, &mut narrowed);
+    (answer, narrowed)
+}
+
+/// Narrows a list's windows by one round through the library into these fields, whatever they hold.
+pub fn round_into(fields: &Fields, narrowed: &mut Fields) -> Answer {
+    // SAFETY: the library reads one array and writes another, both of them lent here.
+    unsafe { dock_round(fields, narrowed) }
 }

@@ -8,7 +8,8 @@ use crate::{brute, planner, reader, writer};
 /// The answer of a call that succeeds and has nothing to count.
 const ACCEPTED: Answer = Answer { number: 0, values: [0; 3] };
 
-fn refusing(refusal: &Refusal) -> Answer {
+/// The answer of a call that refuses.
+pub fn refusing(refusal: &Refusal) -> Answer {
     let (number, values) = refusal.code();
     Answer { number: u64::from(number), values }
 }

@@ -26,7 +26,7 @@ pub struct Interval {
     pub work: u64,
 }
 
-/// The rows of document 01's table that reading, writing and planning know, with what each carries.
+/// The rows of document 01's table that the library's calls know, with what each carries.
 #[derive(Clone, Copy, Debug, PartialEq, Eq)]
 pub enum Refusal {
     Missing { length: usize },
@@ -38,6 +38,7 @@ pub enum Refusal {
     Window { place: usize },
     LeftOver { first: usize },
     Overloaded(Interval),
+    NoPlace { place: usize },
     ShortPlan { h: u16 },
     ShortBuffer { needed: usize },
 }
@@ -55,6 +56,7 @@ impl Refusal {
             Refusal::Window { place } => (7, place),
             Refusal::LeftOver { first } => (8, first),
             Refusal::Overloaded(Interval { a, b, work }) => return (9, [u64::from(a), u64::from(b), work]),
+            Refusal::NoPlace { place } => (10, place),
             Refusal::ShortPlan { h } => (11, usize::from(h)),
             Refusal::ShortBuffer { needed } => (12, needed),
         };

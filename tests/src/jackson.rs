@@ -31,3 +31,27 @@ fn taken(day: &Day, left: &[u16], minute: u16, before: Option<usize>) -> Option<
         _ => Some(smallest),
     }
 }
+
+/// Whether the schedule is a plan, found from one arrival or end to the next instead of minute by minute. Who
+/// goes first of two with the same d does not matter to that.
+pub fn is_plan(day: &Day) -> bool {
+    let mut left: Vec<u16> = day.entries.iter().map(|entry| entry.p).collect();
+    let mut minute = 0;
+    loop {
+        let arrival = day.entries.iter().map(|entry| entry.r).filter(|&r| r > minute).min();
+        let Some(place) = taken(day, &left, minute, None) else {
+            match arrival {
+                Some(r) => minute = r,
+                None => return true,
+            }
+            continue;
+        };
+        let end = minute + left[place];
+        let until = arrival.map_or(end, |r| r.min(end));
+        if until > day.entries[place].d {
+            return false;
+        }
+        left[place] -= until - minute;
+        minute = until;
+    }
+}

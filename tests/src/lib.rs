@@ -1,16 +1,21 @@
-//! What the tests of the dock planner stand on: the calls of the static library, a second reader, writer
-//! and planner of the day's list written straight from document 01, all plans of small days found by
-//! trying everything, and random lists to try these on.
+//! What the tests of the dock planner stand on: the calls of the static library, a second reader, writer,
+//! planner and narrowing of the day's list written straight from document 01, all plans and settled windows
+//! of small days found by trying everything, and random lists to try these on.
 
 pub mod abi;
 pub mod brute;
+pub mod chains;
 pub mod check;
+pub mod check_narrow;
 pub mod day;
 pub mod flat;
 pub mod jackson;
+pub mod narrow;
 pub mod overload;
 pub mod planner;
 pub mod random;
 pub mod reader;
 pub mod samples;
+pub mod settled;
+pub mod small;
 pub mod writer;

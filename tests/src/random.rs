@@ -105,9 +105,7 @@ pub fn planned_day(random: &mut Random, h: u16, n: usize, idle: usize, grids: &[
             minutes[if random.once_in(3) { long } else { near }].push(minute);
         }
     }
-    for place in (1..n).rev() {
-        minutes.swap(place, random.below(place + 1));
-    }
+    shuffle(random, &mut minutes);
     for (entry, minutes) in entries.iter_mut().zip(minutes) {
         let grid = random.pick(grids);
         let end = minutes[minutes.len() - 1] + 1;
@@ -116,6 +114,36 @@ pub fn planned_day(random: &mut Random, h: u16, n: usize, idle: usize, grids: &[
         entry.p = minutes.len() as u16;
     }
     Day { h, entries }
+}
+
+/// A list of `n` entries, at least 1 and at most as many as there are minutes, that has a plan in which none
+/// of them is broken, so that narrowing does not refuse it. One is made up, with idle minutes or without, and
+/// each window reaches up to `slack` minutes further at either side.
+pub fn unbroken_day(random: &mut Random, h: u16, n: usize, idle: bool, slack: u16) -> Day {
+    let mut ends: Vec<u16> = (1..h).collect();
+    shuffle(random, &mut ends);
+    ends.truncate(n - 1);
+    ends.push(h);
+    ends.sort_unstable();
+    let mut entries = vec![];
+    let mut free = 0;
+    for end in ends {
+        let p = if idle { random.within(1, end - free) } else { end - free };
+        let start = random.within(free, end - p);
+        let r = start.saturating_sub(random.within(0, slack));
+        let d = (start + p + random.within(0, slack)).min(h);
+        entries.push(Entry { r, d, p, ..entry(random, 1) });
+        free = end;
+    }
+    shuffle(random, &mut entries);
+    Day { h, entries }
+}
+
+/// Puts values in any order.
+pub fn shuffle<T>(random: &mut Random, values: &mut [T]) {
+    for place in (1..values.len()).rev() {
+        values.swap(place, random.below(place + 1));
+    }
 }
 
 /// Gives more work to an entry whose window has room for it, if there is one.

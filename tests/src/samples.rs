@@ -23,6 +23,40 @@ pub fn windows(h: u16, entries: &[(u16, u16, u16)]) -> Day {
     Day { h, entries: (101..).zip(entries).map(entry).collect() }
 }
 
+/// The same list with the entries at these places whole.
+pub fn whole(mut day: Day, places: &[usize]) -> Day {
+    places.iter().for_each(|&place| day.entries[place].whole = true);
+    day
+}
+
+/// The same list with these serials.
+pub fn with_serials(mut day: Day, serials: &[u32]) -> Day {
+    assert_eq!(day.entries.len(), serials.len());
+    for (entry, &serial) in day.entries.iter_mut().zip(serials) {
+        entry.serial = serial;
+    }
+    day
+}
+
+/// A day of `h` minutes in short: `w[0,3)2 p[1,4)1` is a whole entry with the window [0, 3) and p 2, then a
+/// pause entry with [1, 4) and p 1. The serials differ.
+pub fn boxes(h: u16, entries: &str) -> Day {
+    let mut all = vec![];
+    let mut wholes = vec![];
+    for (place, word) in entries.split_whitespace().enumerate() {
+        let numbers: Vec<u16> =
+            word[2..].split([',', ')']).map(|word| word.parse().expect("a number")).collect();
+        let &[r, d, p] = &numbers[..] else { panic!("{word} is no entry") };
+        all.push((r, d, p));
+        match &word[..2] {
+            "w[" => wholes.push(place),
+            "p[" => {}
+            _ => panic!("{word} is neither whole nor pause"),
+        }
+    }
+    whole(windows(h, &all), &wholes)
+}
+
 /// A pause entry with these minutes, right or wrong.
 pub fn entry(r: u16, d: u16, p: u16) -> Entry {
     Entry { serial: 9, seal: None, r, d, p, whole: false }

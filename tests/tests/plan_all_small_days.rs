@@ -1,32 +1,13 @@
 //! Every day of at most 4 minutes and 3 entries, held against all its plans and all its intervals.
 
 use dock_tests::day::{Day, Interval, IDLE};
-use dock_tests::{abi, brute, check, flat, jackson, overload, samples};
+use dock_tests::small::{days, entries};
+use dock_tests::{abi, brute, check, flat, jackson, overload};
 use std::collections::HashSet;
 
 /// How many of the days have a plan and how many do not, counted once by a bipartite matching, outside these tests.
 const PLANNED: usize = 2_340;
 const OVERLOADED: usize = 7_281;
-
-/// r, d and p of every entry that a day of `h` minutes may have: p at least 1, r + p at most d, d at most H.
-fn entries(h: u16) -> Vec<(u16, u16, u16)> {
-    let mut all = vec![];
-    for r in 0..h {
-        for d in r + 1..=h {
-            all.extend((1..=d - r).map(|p| (r, d, p)));
-        }
-    }
-    all
-}
-
-/// Every day of `h` minutes with `n` entries: each place has each entry, whatever the others have.
-fn days(h: u16, n: u32) -> impl Iterator<Item = Day> {
-    let all = entries(h);
-    (0..all.len().pow(n)).map(move |number| {
-        let digit = |place| all[number / all.len().pow(place) % all.len()];
-        samples::windows(h, &(0..n).map(digit).collect::<Vec<_>>())
-    })
-}
 
 /// Every day of at most 4 minutes and 3 entries.
 fn small_days() -> impl Iterator<Item = Day> {

@@ -3,14 +3,8 @@
 
 use dock_tests::check::{overloaded, planned};
 use dock_tests::day::{Day, Interval, IDLE};
-use dock_tests::samples::{self, hex, plan, windows};
+use dock_tests::samples::{self, hex, plan, whole, windows};
 use dock_tests::{abi, brute, check, flat};
-
-/// The same list with the entries at these places whole.
-fn whole(mut day: Day, places: &[usize]) -> Day {
-    places.iter().for_each(|&place| day.entries[place].whole = true);
-    day
-}
 
 /// "(c) H 10, [2,5) p 2 twice: 9, from 2 to 5, work 4."
 #[test]

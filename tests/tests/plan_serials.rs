@@ -3,17 +3,8 @@
 
 use dock_tests::check::{overloaded, planned};
 use dock_tests::day::{Day, Interval, MOST_ENTRIES};
-use dock_tests::samples::{plan, windows};
+use dock_tests::samples::{plan, windows, with_serials};
 use dock_tests::{abi, brute, flat, writer};
-
-/// The same day with these serials.
-fn with_serials(mut day: Day, serials: &[u32]) -> Day {
-    assert_eq!(day.entries.len(), serials.len());
-    for (entry, &serial) in day.entries.iter_mut().zip(serials) {
-        entry.serial = serial;
-    }
-    day
-}
 
 /// Every entry of the day has all its minutes in this plan.
 #[track_caller]

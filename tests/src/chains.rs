@@ -1,0 +1,61 @@
+//! Days of nested whole entries that are settled one by one, each round by round: document 01's example (a)
+//! is the one with two entries of two minutes.
+
+use crate::day::Day;
+use crate::samples;
+
+/// A chain of whole entries, r, d and p of each, from the outermost in, and what is left of the day for those
+/// inside.
+struct Chain {
+    entries: Vec<(u16, u16, u16)>,
+    settled: Vec<(u16, u16, u16)>,
+    free: (u16, u16),
+    window: (u16, u16),
+}
+
+/// The outermost entry may have any minutes of the day. All others end a minute earlier: they leave no p
+/// minutes free before that, so it comes to the day's right end. Then the second outermost comes to the left
+/// end of what is left, as all others begin a minute later; and so on.
+fn chain(h: u16, n: usize, p: u16) -> Chain {
+    let mut chain = Chain { entries: vec![], settled: vec![], free: (0, h), window: (0, h) };
+    for turn in 0..n {
+        chain.entries.push((chain.window.0, chain.window.1, p));
+        let (left, right) = chain.free;
+        if turn % 2 == 0 {
+            chain.settled.push((right - p, right, p));
+            chain.free.1 = right - p;
+            chain.window.1 = right - 1;
+        } else {
+            chain.settled.push((left, left + p, p));
+            chain.free.0 = left + p;
+            chain.window.0 = left + 1;
+        }
+    }
+    chain
+}
+
+/// A day of `n` entries of `p` minutes, and its settled windows. The outermost entry has the last place, so
+/// each round settles one more entry, from the last place to the first: there are n + 1 rounds, and 2 n - 2
+/// moves.
+pub fn settled_one_by_one(n: usize, p: u16) -> (Day, Day) {
+    let h = n as u16 * p;
+    let Chain { mut entries, mut settled, .. } = chain(h, n, p);
+    entries.reverse();
+    settled.reverse();
+    let places: Vec<_> = (0..n).collect();
+    let day = |entries: &[_]| samples::whole(samples::windows(h, entries), &places);
+    (day(&entries), day(&settled))
+}
+
+/// A day of `n` entries of which `n - 2` make a chain around the last three minutes. The middle one of these
+/// is taken by a pause entry, place 1, so that the innermost whole entry, place 0, which needs two, has no
+/// minutes when all others are settled. Rounds come to see this one by one, from the outermost in.
+pub fn refused_in_the_end(n: usize) -> Day {
+    let h = 2 * (n as u16 - 2) + 3;
+    let Chain { mut entries, free, window, .. } = chain(h, n - 2, 2);
+    entries.push((free.0 + 1, free.0 + 2, 1));
+    entries.push((window.0, window.1, 2));
+    entries.reverse();
+    let places: Vec<_> = (0..n).filter(|&place| place != 1).collect();
+    samples::whole(samples::windows(h, &entries), &places)
+}

@@ -1,0 +1,34 @@
+//! All days of so many minutes and entries.
+
+use crate::day::Day;
+use crate::samples;
+
+/// r, d and p of every entry that a day of `h` minutes may have: p at least 1, r + p at most d, d at most H.
+pub fn entries(h: u16) -> Vec<(u16, u16, u16)> {
+    let mut all = vec![];
+    for r in 0..h {
+        for d in r + 1..=h {
+            all.extend((1..=d - r).map(|p| (r, d, p)));
+        }
+    }
+    all
+}
+
+/// Every day of `h` minutes with `n` entries, all pause: each place has each entry, whatever the others have.
+pub fn days(h: u16, n: u32) -> impl Iterator<Item = Day> {
+    let all = entries(h);
+    (0..all.len().pow(n)).map(move |number| {
+        let digit = |place| all[number / all.len().pow(place) % all.len()];
+        samples::windows(h, &(0..n).map(digit).collect::<Vec<_>>())
+    })
+}
+
+/// The same with each entry pause or whole, whatever the others are.
+pub fn days_of_both_kinds(h: u16, n: u32) -> impl Iterator<Item = Day> {
+    days(h, n).flat_map(move |day| {
+        (0..1_u32 << n).map(move |kinds| {
+            let places: Vec<_> = (0..n as usize).filter(|place| kinds >> place & 1 == 1).collect();
+            samples::whole(day.clone(), &places)
+        })
+    })
+}

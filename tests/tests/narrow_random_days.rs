@@ -1,0 +1,148 @@
+//! Random days of both kinds, fixed by their seeds: small ones against trying everything, longer ones against
+//! the second narrowing, and all of them against their mirror.
+
+use dock_tests::check_narrow::{by_trying_everything, round, settle, settled_by_rounds};
+use dock_tests::day::{Day, Entry, Refusal};
+use dock_tests::narrow;
+use dock_tests::random::{self, Random};
+use dock_tests::{abi, flat};
+
+/// A day of at most `most` minutes and `n` entries, of which three in four or all are whole: windows of any
+/// kind, or drawn around a plan that breaks entries or not.
+fn day(random: &mut Random, most: u16, n: usize) -> Day {
+    let h = random.within(1, most);
+    let n = random.below(n + 1);
+    let idle = random.pick(&[0, 2, 9]);
+    let mut day = match random.below(4) {
+        0 => Day { h, entries: (0..n).map(|_| random::entry(random, h)).collect() },
+        1 => random::unbroken_day(random, h, n.clamp(1, h.into()), idle > 0, h / 2),
+        _ => random::planned_day(random, h, n, idle, &[1, 2, 4, 8]),
+    };
+    if random.once_in(4) {
+        random::work_more(random, &mut day);
+    }
+    let mixed = random.once_in(2);
+    day.entries.iter_mut().for_each(|entry| entry.whole = !mixed || !random.once_in(4));
+    day
+}
+
+/// How often days were settled without moves, in so many rounds with moves (5 or more counted as 5), refused
+/// with 9, and refused with 10 in round one or later.
+#[derive(Debug, Default)]
+struct Seen {
+    rounds: [usize; 6],
+    overloaded: usize,
+    no_place: usize,
+    no_place_later: usize,
+}
+
+impl Seen {
+    fn count(&mut self, day: &Day) {
+        if abi::overload(&flat::of_day(day)).number == 9 {
+            self.overloaded += 1;
+            return;
+        }
+        let rounds = narrow::rounds(day);
+        match (rounds.refusal, rounds.done.len()) {
+            (Some(_), 0) => self.no_place += 1,
+            (Some(_), _) => self.no_place_later += 1,
+            (None, all) => self.rounds[(all - 1).min(5)] += 1,
+        }
+    }
+}
+
+#[test]
+fn ten_thousand_small_days_against_trying_everything() {
+    let mut random = Random::new(101);
+    let mut seen = Seen::default();
+    for _ in 0..10_000 {
+        let day = day(&mut random, 6, 4);
+        by_trying_everything(&day);
+        seen.count(&day);
+    }
+    assert!(seen.rounds[0] > 3_000 && seen.rounds[1] > 1_000 && seen.rounds[2] > 50, "{seen:?}");
+    assert!(seen.overloaded > 1_000 && seen.no_place > 100, "{seen:?}");
+}
+
+/// Two wide whole entries, and two pause entries of a minute that leave little between them: here 10 comes in
+/// round two now and then. Windows drawn around a plan hardly ever do that.
+#[test]
+fn late_refusals_against_trying_everything() {
+    let mut random = Random::new(102);
+    let mut seen = Seen::default();
+    for _ in 0..2_000 {
+        let mut day = Day { h: 7, entries: vec![] };
+        for _ in 0..2 {
+            let r = random.within(1, 5);
+            let d = random.within(r + 1, r + 2);
+            day.entries.push(Entry { r, d, p: 1, whole: false, ..random::entry(&mut random, 1) });
+            let p = random.within(2, 3);
+            day.entries.push(Entry { r: 0, d: 7, p, whole: true, ..random::entry(&mut random, 1) });
+        }
+        random::shuffle(&mut random, &mut day.entries);
+        by_trying_everything(&day);
+        seen.count(&day);
+    }
+    assert!(seen.no_place > 100 && seen.no_place_later > 10, "{seen:?}");
+}
+
+#[test]
+fn ten_thousand_days_of_up_to_12_minutes_against_the_second_narrowing() {
+    let mut random = Random::new(103);
+    let mut seen = Seen::default();
+    for _ in 0..10_000 {
+        let day = day(&mut random, 12, 6);
+        let settled = settle(&flat::of_day(&day));
+        let round = round(&flat::of_day(&day));
+        assert!(settled.is_err() || round.is_ok(), "{day:?}");
+        seen.count(&day);
+    }
+    assert!(seen.rounds[..3].iter().all(|&count| count > 100), "{seen:?}");
+    assert!(seen.overloaded > 1_000 && seen.no_place > 200, "{seen:?}");
+}
+
+#[test]
+fn three_thousand_days_of_up_to_60_minutes_against_the_second_narrowing() {
+    let mut random = Random::new(104);
+    let mut seen = Seen::default();
+    for _ in 0..3_000 {
+        let day = day(&mut random, 60, 12);
+        let settled = settle(&flat::of_day(&day));
+        if !matches!(settled, Err(Refusal::Overloaded(_))) {
+            settled_by_rounds(&flat::of_day(&day));
+        }
+        seen.count(&day);
+    }
+    assert!(seen.rounds[..4].iter().all(|&count| count > 20), "{seen:?}");
+    assert!(seen.overloaded > 500 && seen.no_place > 100, "{seen:?}");
+}
+
+/// The mirror: "[r, d) becomes [H-d, H-r), places kept".
+fn mirror(day: &Day) -> Day {
+    let turned = |entry: &Entry| Entry { r: day.h - entry.d, d: day.h - entry.r, ..entry.clone() };
+    Day { h: day.h, entries: day.entries.iter().map(turned).collect() }
+}
+
+/// A visit gives r the least and d the greatest of one set of starts, so the mirror of a day is settled with
+/// the mirrored windows and as many moves, or refused with 10 at the same place; and an overloaded one is
+/// overloaded.
+#[test]
+fn the_mirror_of_a_day_is_settled_alike() {
+    let mut random = Random::new(105);
+    let mut seen = Seen::default();
+    for _ in 0..5_000 {
+        let day = day(&mut random, 20, 8);
+        let turned = settle(&flat::of_day(&mirror(&day)));
+        match settle(&flat::of_day(&day)) {
+            Ok(narrowed) => {
+                let found = turned.expect("settled as well");
+                assert_eq!((mirror(&found.day), found.moves), (narrowed.day, narrowed.moves), "{day:?}");
+            }
+            Err(refusal @ Refusal::NoPlace { .. }) => assert_eq!(turned, Err(refusal), "{day:?}"),
+            Err(_) => assert!(matches!(turned, Err(Refusal::Overloaded(_))), "{day:?}"),
+        }
+        seen.count(&day);
+    }
+    assert!(seen.rounds[..3].iter().all(|&count| count > 50), "{seen:?}");
+    assert!(seen.overloaded > 500 && seen.no_place > 100, "{seen:?}");
+}
