@@ -5,6 +5,7 @@ use mathlib.Core.Bool.{Bool, true, false, cond}
 use mathlib.Core.List.{[], _∷_}
 use Prim.Native.Nat.{ℕ, zero, suc, _+_, _-_, _<_, _≤_}
 use native.Mathlib.Omega.{arith}
+use borrow.Author.Tests.{eq-eqb}
 use lib.Dec.{eqb}
 use Rattle.list.specs.Outcomes.{Code, code, Outcome, answered, refused, andThen}
 use Rattle.list.proofs.Inversion.{Says, by-step}
@@ -48,6 +49,10 @@ costs-trans a b =
       paid = omega (arith, a .paid, b .paid);
       cut = omega (arith, a .cut, b .cut, cut-trans (a .keeps) (b .keeps));
     }
+
+-- what stays is no move
+pub moved-same : (a : ℕ) → moved a a ≡ 0
+moved-same a = rw (eq-eqb a a refl)
 
 -- a move is one of the minutes cut
 moved-cut : (a b : ℕ) → moved a b ≤ (b - a) + (a - b)

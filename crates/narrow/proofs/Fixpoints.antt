@@ -66,10 +66,10 @@ moved-none a b = place-cases (λ t. _≡_ {A = ℕ} (cond t 0 1) 0 → a ≡ b) 
 step-still : (test : Test) (side : Side) (k : ℕ) (w v : Windows) → step test side k w ≡ answered v → movesOf k w v ≡ 0 → v ≡ w
 step-still test earliest k w v e none =
     let at = moved-none (w .r k) (v .r k) (omega arith) in
-    start-found test k w v e .1 ∙ ap (withR w k) (sym at) ∙ (λ i. withWindows w (fun-ext (put-back k (w .r)) i) (w .d))
+    start-found test k w v e .1 ∙ ap (withR w k) (sym at) ∙ (λ i. withWindows w (put-back k (w .r) i) (w .d))
 step-still test latest k w v e none =
     let at = moved-none (w .d k) (v .d k) (omega arith) in
-    end-found test k w v e .1 ∙ ap (withD w k) (sym at) ∙ (λ i. withWindows w (w .r) (fun-ext (put-back k (w .d)) i))
+    end-found test k w v e .1 ∙ ap (withD w k) (sym at) ∙ (λ i. withWindows w (w .r) (put-back k (w .d) i))
 
 -- from s to v: moves are only added, and if none is, nothing has changed and X holds
 record Still (X : Type 0) (s v : Narrowed) : Type 0 where

@@ -118,7 +118,7 @@ module _ (w : Windows) (formed : Formed w) (k : ℕ) (place : k < w .n) where
   elsewhere i l e = omega arith
 
   -- another r of k, or another d, of those tried
-  keeps-r : (s : ℕ) → StartTried w k s → Keeps w (withR w k s)
+  pub keeps-r : (s : ℕ) → StartTried w k s → Keeps w (withR w k s)
   keeps-r s (from, room) =
       keeps-windows w formed _ _
       (λ i below.
@@ -127,7 +127,7 @@ module _ (w : Windows) (formed : Formed w) (k : ℕ) (place : k < w .n) where
       (λ _. (omega arith, omega arith, formed .room i below)))
       (λ i l. (put-other k s (w .r) i (elsewhere i l), refl))
 
-  keeps-d : (e : ℕ) → EndTried w k e → Keeps w (withD w k e)
+  pub keeps-d : (e : ℕ) → EndTried w k e → Keeps w (withD w k e)
   keeps-d e (to, room) =
       keeps-windows w formed _ _
       (λ i below.

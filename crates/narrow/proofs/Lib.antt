@@ -9,7 +9,9 @@ mod SettledSteps
 mod Fixpoints
 mod UnbrokenPlans
 pub mod NarrowLaws
-mod OverloadPlanner
+pub mod VisitOrder
+pub mod MirrorRounds
+pub mod OverloadPlanner
 pub mod Alike
 mod ArrayCases
 mod SearchCases

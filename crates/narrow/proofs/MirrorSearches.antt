@@ -1,6 +1,6 @@
 -- The search for an entry's d is the search for its r in the mirrored windows.
 -- Assumes nothing.
-use mathlib.Core.Path.{_≡_, refl, sym, ap, fun-ext}
+use mathlib.Core.Path.{_≡_, refl, sym, ap, _∙_, fun-ext}
 use mathlib.Core.Bool.{Bool, true, false, cond}
 use mathlib.Core.List.{[], _∷_}
 use Prim.Native.Nat.{ℕ, zero, suc, _+_, _-_, _<_, _≤_}
@@ -9,14 +9,14 @@ use borrow.Author.Tests.{lt-ltb}
 use lib.Dec.{eqb, ltb}
 use Rattle.list.specs.Outcomes.{Outcome, answered, refused, andThen, row, firstOf}
 use Rattle.jackson.specs.Counting.{firstBelow}
-use Rattle.jackson.specs.Windows.{Windows}
+use Rattle.jackson.specs.Windows.{Windows, withWindows}
 use Rattle.jackson.specs.Existence.{Plannable}
 use Rattle.jackson.specs.Mirrors.{mirror, mirrorPlan}
 use Rattle.jackson.proofs.PlanFacts.{mirror-plan, mirror-mirror}
-use Rattle.narrow.specs.Searching.{Test, accepts, put, fixedAt, trials, startsSkipped, endsSkipped, leastStart, greatestEnd}
+use Rattle.narrow.specs.Searching.{Test, accepts, put, withR, withD, fixedAt, trials, startsSkipped, endsSkipped, leastStart, greatestEnd}
 use Rattle.narrow.specs.Laws.{Formed}
 use Rattle.narrow.proofs.Planners.{Planner}
-use Rattle.narrow.proofs.Puts.{place-cases, fixed-formed}
+use Rattle.narrow.proofs.Puts.{place-cases, put-back, fixed-formed}
 
 -- a search for the first looks at the tests below n alone
 first-cong : (n : ℕ) (f g : ℕ → Bool) → ((i : ℕ) → i < n → f i ≡ g i) → firstBelow n f ≡ firstBelow n g
@@ -79,20 +79,25 @@ module _ (w : Windows) (k : ℕ) (place : k < w .n) where
   pub mirror-d : mirror w .d k ≡ w .h - w .r k
   mirror-d = rw (lt-ltb k (w .n) place)
 
+  -- with k's window [s, e), in the mirror [a, b)
+  put-mirror : (s e a b : ℕ) → a ≡ w .h - e → b ≡ w .h - s
+      → withWindows w (put k a (mirror w .r)) (put k b (mirror w .d)) ≡ mirror (withWindows w (put k s (w .r)) (put k e (w .d)))
+  put-mirror s e a b from due =
+      λ j.
+      withWindows w
+      (fun-ext (column (w .h) (w .n) k a e s (w .d) (w .r) place from) j)
+      (fun-ext (column (w .h) (w .n) k b s e (w .r) (w .d) place due) j)
+
   -- k up to e, in the mirror from h - e on
   pub fixed-at-mirror : (e : ℕ) → w .p k ≤ e → e ≤ w .h → fixedAt (mirror w) k (w .h - e) ≡ mirror (fixedAt w k (e - w .p k))
-  fixed-at-mirror e long in-day =
-      let s = e - w .p k in
-      let a : w .h - e ≡ w .h - (s + w .p k) = omega arith in
-      let b : w .h - e + w .p k ≡ w .h - s = omega arith in
-      λ x.
-      record {
-        h = w .h;
-        n = w .n;
-        r = fun-ext (column (w .h) (w .n) k _ _ s (w .d) (w .r) place a) x;
-        d = fun-ext (column (w .h) (w .n) k _ _ (s + w .p k) (w .r) (w .d) place b) x;
-        p = w .p;
-      }
+  fixed-at-mirror e long in-day = put-mirror (e - w .p k) (e - w .p k + w .p k) _ _ (omega arith) (omega arith)
+
+  -- another r of k, in the mirror another d
+  pub with-r-mirror : (s : ℕ) → withD (mirror w) k (w .h - s) ≡ mirror (withR w k s)
+  with-r-mirror s =
+      (λ j. withWindows w (sym (put-back k (mirror w .r)) j) (put k (w .h - s) (mirror w .d)))
+      ∙ put-mirror s (w .d k) _ _ mirror-r refl
+      ∙ (λ j. mirror (withWindows w (put k s (w .r)) (put-back k (w .d) j)))
 
 module _ (w : Windows) (formed : Formed w) (k : ℕ) (place : k < w .n) where
   -- as many starts are tried in the mirror

@@ -1,15 +1,15 @@
 -- Functions with another value at one place, and the windows made with them.
 -- Assumes nothing.
-use mathlib.Core.Path.{_≡_, refl, sym, ap, _∙_}
+use mathlib.Core.Path.{_≡_, refl, sym, ap, _∙_, fun-ext}
 use mathlib.Core.Bool.{Bool, true, false, cond}
 use Prim.Native.Nat.{ℕ, _+_, _<_, _≤_}
 use native.Mathlib.Omega.{arith}
 use borrow.Author.Tests.{eqb-true, eqb-false, eq-eqb, ne-eqb}
 use lib.Dec.{eqb}
-use Rattle.jackson.specs.Windows.{Windows, Inside}
+use Rattle.jackson.specs.Windows.{Windows, Inside, withWindows}
 use Rattle.jackson.specs.Plans.{Plan}
 use Rattle.jackson.proofs.PlanFacts.{other-windows, filled}
-use Rattle.narrow.specs.Searching.{put, fixedAt}
+use Rattle.narrow.specs.Searching.{put, withR, withD, fixedAt}
 use Rattle.narrow.specs.Settling.{Consecutive}
 use Rattle.narrow.specs.Laws.{Formed}
 
@@ -40,8 +40,12 @@ module _ (k x : ℕ) (f : ℕ → ℕ) where
   put-over i y a b = put-cases (λ z. y ≤ z) i a (λ _. b)
 
 -- the value that f has there changes nothing
-pub put-back : (k : ℕ) (f : ℕ → ℕ) (i : ℕ) → put k (f k) f i ≡ f i
-put-back k f i = put-cases k (f k) f (λ z. z ≡ f i) i (λ e. ap f (sym e)) (λ _. refl)
+pub put-back : (k : ℕ) (f : ℕ → ℕ) → put k (f k) f ≡ f
+put-back k f = fun-ext (λ i. put-cases k (f k) f (λ z. z ≡ f i) i (λ e. ap f (sym e)) (λ _. refl))
+
+-- of two values put at one place the second counts
+pub put-twice : (k x y : ℕ) (f : ℕ → ℕ) → put k x (put k y f) ≡ put k x f
+put-twice k x y f = fun-ext (λ i. place-cases (λ t. cond t x (cond t y (f i)) ≡ cond t x (f i)) i k (λ _. refl) (λ _. refl))
 
 -- The window [s, s + p) of entry k, and the others as they are.
 
@@ -72,6 +76,14 @@ module _ (w : Windows) (formed : Formed w) (k s : ℕ) (place : k < w .n) (room 
             (omega (arith, b));
         only = λ t below e. let z = plan .inside k t place below e in (omega (arith, a, z .0), omega (arith, b, z .1));
       }
+
+-- they do not ask what r and d of k were
+module _ (w : Windows) (k x s : ℕ) where
+  pub fixed-after-r : fixedAt (withR w k x) k s ≡ fixedAt w k s
+  fixed-after-r = ap (λ (f : ℕ → ℕ). withWindows w f (put k (s + w .p k) (w .d))) (put-twice k s x (w .r))
+
+  pub fixed-after-d : fixedAt (withD w k x) k s ≡ fixedAt w k s
+  fixed-after-d = ap (λ (f : ℕ → ℕ). withWindows w (put k s (w .r)) f) (put-twice k (s + w .p k) x (w .d))
 
 -- they lie inside w, if [s, s + p) lies in the window of k
 pub fixed-inside : (w : Windows) (k s : ℕ) → w .r k ≤ s → s + w .p k ≤ w .d k → Inside (fixedAt w k s) w

@@ -1,0 +1,176 @@
+-- Visits and rounds of the mirrored windows leave the mirrored windows with the same moves, or refuse the same entry; and settled windows
+-- are settled in the mirror.
+-- Assumes nothing.
+use mathlib.Core.Path.{_≡_, refl, sym, ap, _∙_}
+use mathlib.Core.Bool.{Bool, true, false, cond}
+use Prim.Native.Nat.{ℕ, zero, suc, _+_, _-_, _<_, _≤_}
+use native.Mathlib.Omega.{arith}
+use borrow.Author.Tests.{lt-ltb, eq-eqb, ne-eqb}
+use lib.Dec.{eqb}
+use Rattle.list.specs.Outcomes.{Outcome, answered, refused, andThen}
+use Rattle.list.proofs.Inversion.{Says}
+use Rattle.jackson.specs.Windows.{Windows}
+use Rattle.jackson.specs.Existence.{Plannable}
+use Rattle.jackson.specs.Mirrors.{mirror, mirrorPlan}
+use Rattle.jackson.proofs.Sums.{sum-cong}
+use Rattle.jackson.proofs.PlanFacts.{mirror-plan}
+use Rattle.narrow.specs.Searching.{Test, withR, withD, leastStart, greatestEnd}
+use Rattle.narrow.specs.Settling.{Consecutive, Settled}
+use Rattle.narrow.specs.Rounds.{earliest, latest, Narrowed, unmoved, moved, movesOf, narrowSide, visit, visits, round, rounds, slack, narrowing}
+use Rattle.narrow.specs.Laws.{Formed}
+use Rattle.narrow.proofs.Planners.{Planner}
+use Rattle.narrow.proofs.Puts.{place-cases, put-same}
+use Rattle.narrow.proofs.MirrorSearches.{plannable-mirror, formed-mirror, mirror-back, mirror-r, mirror-d, with-r-mirror, end-by-mirror}
+use Rattle.narrow.proofs.Keeping.{keeps-n, RefusedAt, StartTried, start-says}
+use Rattle.narrow.proofs.Costs.{moved-same, Costs, CostsOr, side-says, visits-says, round-says}
+use Rattle.narrow.proofs.VisitOrder.{counted, visit-order}
+
+-- One search in the mirror.
+
+-- the windows mirrored, and the moves as they are
+abbrev pub mirrorState : Narrowed → Narrowed
+mirrorState s = record { windows = mirror (s .windows); moves = s .moves }
+
+-- what is answered is mirrored so; a refusal stays
+abbrev pub mirrored : Outcome Narrowed → Outcome Narrowed
+mirrored o = andThen o (λ v. answered (mirrorState v))
+
+module _ (whole : ℕ → Bool) (s : Narrowed) where
+  -- twice mirrored it is as it was
+  mirrored-back : (o : Outcome Narrowed) → CostsOr whole s o → mirrored (mirrored o) ≡ o
+  mirrored-back (answered v) cost = λ j. answered (record { windows = mirror-back (v .windows) (cost .keeps .formed) j; moves = v .moves })
+  mirrored-back (refused x) _ = refl
+
+  -- one outcome, then the next
+  mirrored-then : (o : Outcome Narrowed) (f g : Narrowed → Outcome Narrowed) → CostsOr whole s o
+      → ((v : Narrowed) → Costs whole s v → f (mirrorState v) ≡ mirrored (g v)) → andThen (mirrored o) f ≡ mirrored (andThen o g)
+  mirrored-then (answered v) f g cost each = each v cost
+  mirrored-then (refused x) f g _ each = refl
+
+-- what moves or stays does so in the mirror
+moved-mirror : (h a b : ℕ) → a ≤ h → b ≤ h → moved (h - a) (h - b) ≡ moved a b
+moved-mirror h a b l m =
+    place-cases (λ t. moved (h - a) (h - b) ≡ cond t 0 1) a b
+    (λ e. rw (eq-eqb (h - a) (h - b) (omega arith)))
+    (λ ne. rw (ne-eqb (h - a) (h - b) (λ e. ne (omega arith))))
+
+module _ {test : Test} (planner : Planner test) (k : ℕ) where
+  -- a changed r is a changed d in the mirror
+  pub side-mirror : (s : Narrowed) → Formed (s .windows) → k < s .windows .n
+      → narrowSide test latest k (mirrorState s) ≡ mirrored (narrowSide test earliest k s)
+  unfolding narrowSide
+  side-mirror s formed place = rw found (go (leastStart test w k) (start-says test w k))
+    where
+      w : Windows
+      w = s .windows
+
+      found : greatestEnd test (mirror w) k ≡ andThen (leastStart test w k) (λ x. answered (w .h - x))
+      found = rw (mirror-back w formed) at (end-by-mirror planner (mirror w) (formed-mirror w formed) k place)
+
+      -- r of the mirror stays, and so does d
+      moves : (x : ℕ) → StartTried w k x → movesOf k (mirror w) (withD (mirror w) k (w .h - x)) ≡ movesOf k w (withR w k x)
+      moves x (from, room) =
+          let due = formed .in-day k place in
+          rw (put-same k (w .h - x) (mirror w .d), put-same k x (w .r), mirror-d w k place)
+          (omega (arith, moved-same (mirror w .r k), moved-same (w .d k), moved-mirror (w .h) (w .r k) x (omega arith) (omega arith)))
+
+      go : (o : Outcome ℕ) → Says (StartTried w k) (RefusedAt k) o
+          → andThen (andThen (andThen o (λ x. answered (w .h - x))) (λ e. answered (withD (mirror w) k e))) (λ v. answered (counted k (mirrorState s) v))
+          ≡ mirrored (andThen (andThen o (λ x. answered (withR w k x))) (λ v. answered (counted k s v)))
+      go (answered x) tried = λ j. answered (record { windows = with-r-mirror w k place x j; moves = s .moves + moves x tried j })
+      go (refused x) _ = refl
+
+  -- so a changed d is a changed r
+  pub other-side-mirror : (s : Narrowed) → Formed (s .windows) → k < s .windows .n
+      → narrowSide test earliest k (mirrorState s) ≡ mirrored (narrowSide test latest k s)
+  other-side-mirror s formed place =
+      let there = formed-mirror (s .windows) formed in
+      sym (mirrored-back _ (mirrorState s) _ (side-says test (λ _. true) k earliest (mirrorState s) there place refl))
+      ∙ ap mirrored (sym (side-mirror (mirrorState s) there place))
+      ∙ (λ j. mirrored (narrowSide test latest k (record { windows = mirror-back (s .windows) formed j; moves = s .moves })))
+
+-- Visits and rounds in the mirror.
+
+module _ {test : Test} (planner : Planner test) (whole : ℕ → Bool) where
+  pub visit-mirror : (k : ℕ) (s : Narrowed) → Formed (s .windows) → k < s .windows .n
+      → visit test whole k (mirrorState s) ≡ mirrored (visit test whole k s)
+  unfolding visit
+  visit-mirror k s formed place = go (whole k)
+    where
+      go : (t : Bool) → cond t (andThen (narrowSide test earliest k (mirrorState s)) (narrowSide test latest k)) (answered (mirrorState s))
+          ≡ mirrored (cond t (andThen (narrowSide test earliest k s) (narrowSide test latest k)) (answered s))
+      go true =
+          rw (other-side-mirror planner k s formed place, visit-order planner k s formed place)
+          (mirrored-then _ s (narrowSide test latest k s) (narrowSide test latest k) (narrowSide test earliest k)
+          (side-says test (λ _. true) k latest s formed place refl)
+          (λ v c. side-mirror planner k v (c .keeps .formed) (omega (arith, keeps-n (c .keeps)))))
+      go false = refl
+
+  visits-mirror : (k : ℕ) (s : Narrowed) → Formed (s .windows) → k ≤ s .windows .n
+      → visits test whole k (mirrorState s) ≡ mirrored (visits test whole k s)
+  unfolding visits
+  visits-mirror zero s formed below = refl
+  visits-mirror (suc k) s formed below =
+      rw (visits-mirror k s formed (omega arith))
+      (mirrored-then whole s (visits test whole k s) (visit test whole k) (visit test whole k) (visits-says test whole s formed k (omega arith))
+      (λ v c. visit-mirror k v (c .keeps .formed) (omega (arith, keeps-n (c .keeps)))))
+
+  pub round-mirror : (s : Narrowed) → Formed (s .windows) → round test whole (mirrorState s) ≡ mirrored (round test whole s)
+  round-mirror s formed = visits-mirror (s .windows .n) s formed (omega arith)
+
+  pub rounds-mirror : (fuel : ℕ) (s : Narrowed) → Formed (s .windows)
+      → rounds test whole fuel (mirrorState s) ≡ mirrored (rounds test whole fuel s)
+  unfolding rounds
+  rounds-mirror zero s formed = refl
+  rounds-mirror (suc fuel) s formed =
+      rw (round-mirror s formed)
+      (mirrored-then whole s (round test whole s) _ _ (round-says test whole s formed)
+      (λ v c. go v (eqb (v .moves) (s .moves)) (rounds-mirror fuel v (c .keeps .formed))))
+    where
+      go : (v : Narrowed) (t : Bool) → rounds test whole fuel (mirrorState v) ≡ mirrored (rounds test whole fuel v)
+          → cond t (answered (mirrorState v)) (rounds test whole fuel (mirrorState v)) ≡ mirrored (cond t (answered v) (rounds test whole fuel v))
+      go v true e = refl
+      go v false e = e
+
+-- as many minutes can be cut in the mirror, so as many rounds are enough
+pub slack-mirror : (whole : ℕ → Bool) (w : Windows) → Formed w → slack whole (mirror w) ≡ slack whole w
+slack-mirror whole w formed =
+    sum-cong (w .n) _ _
+    (λ i place.
+    rw (lt-ltb i (w .n) place)
+    (ap (λ (x : ℕ). cond (whole i) x 0) (omega (arith, formed .in-day i place, formed .room i place))))
+
+-- where a plan exists, narrowing the mirrored windows answers the mirrored windows with the same moves, or refuses the same entry
+pub narrowing-mirror : {test : Test} → Planner test → (whole : ℕ → Bool) (w : Windows) → Formed w → Plannable w
+    → narrowing test whole (mirror w) ≡ mirrored (narrowing test whole w)
+unfolding narrowing
+narrowing-mirror planner whole w formed plan =
+    let there = formed-mirror w formed in
+    rw (planner .exact w formed .0 plan, planner .exact (mirror w) there .0 (plannable-mirror w plan), slack-mirror whole w formed)
+    (rounds-mirror planner whole (suc (slack whole w)) (unmoved w) formed)
+
+-- Settled windows in the mirror.
+
+-- consecutive minutes are consecutive in the mirrored plan
+consecutive-mirror : (h : ℕ) (m : ℕ → ℕ) (k s e : ℕ) → Consecutive h m k s e → Consecutive h (mirrorPlan h m) k (h - e) (h - s)
+consecutive-mirror h m k s e run =
+    record {
+      each = λ t below l u. run .each (h - suc t) (omega arith) (omega arith) (omega arith);
+      only = λ t below q. let z = run .only (h - suc t) (omega arith) q in (omega arith, omega arith);
+    }
+
+pub settled-mirror : (whole : ℕ → Bool) (w : Windows) → Formed w → Settled whole w → Settled whole (mirror w)
+settled-mirror whole w formed settled =
+    record {
+      plan = plannable-mirror w (settled .plan);
+      from-r =
+          λ k place is.
+          let z = settled .up-to-d k place is in
+          let e : w .h - w .d k + w .p k ≡ w .h - (w .d k - w .p k) = omega (arith, formed .in-day k place, formed .room k place) in
+          (_, mirror-plan w (z .0) (z .1), rw (mirror-r w k place, e) (consecutive-mirror (w .h) (z .0) k _ _ (z .2)));
+      up-to-d =
+          λ k place is.
+          let z = settled .from-r k place is in
+          let e : w .h - w .r k - w .p k ≡ w .h - (w .r k + w .p k) = omega arith in
+          (_, mirror-plan w (z .0) (z .1), rw (mirror-d w k place, e) (consecutive-mirror (w .h) (z .0) k _ _ (z .2)));
+    }
