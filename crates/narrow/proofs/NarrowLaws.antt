@@ -4,11 +4,11 @@ use mathlib.Core.Path.{_≡_, refl, sym, ap, _∙_}
 use mathlib.Core.Logic.{inl, inr}
 use mathlib.Core.Bool.{Bool, true}
 use mathlib.Core.List.{List, [], _∷_}
-use Prim.Native.Nat.{ℕ, suc, _<_, _≤_}
+use Prim.Native.Nat.{ℕ, suc, _+_, _<_, _≤_}
 use native.Mathlib.Omega.{arith}
 use Rattle.list.specs.Outcomes.{Code, code, Outcome, answered, refused, andThen}
 use Rattle.list.proofs.Inversion.{Says, Anything}
-use Rattle.jackson.specs.Windows.{Windows, withWindows}
+use Rattle.jackson.specs.Windows.{Windows, Inside, withWindows}
 use Rattle.jackson.specs.Existence.{Plannable}
 use Rattle.narrow.specs.Searching.{Test, SearchLaw}
 use Rattle.narrow.specs.Settling.{SettledInside, NoneSettled, Widest, minutesCut}
@@ -55,6 +55,16 @@ module _ {test : Test} (planner : Planner test) (whole : ℕ → Bool) (w : Wind
   laws : (v : Windows) → Formed v → (k : ℕ) → k < v .n → SearchLaw test v k
   laws = search-law planner
 
+  -- windows with room inside are as the value check lets them through
+  formed-inside : (r d : ℕ → ℕ) → Inside (withWindows w r d) w → ((i : ℕ) → i < w .n → r i + w .p i ≤ d i) → Formed (withWindows w r d)
+  formed-inside r d inside room =
+      record {
+        few = formed .few;
+        minutes = formed .minutes;
+        in-day = λ i place. omega (arith, formed .in-day i place, inside .d i place);
+        room = room;
+      }
+
   -- the rounds that follow where a plan exists
   abbrev outcome : Outcome Narrowed
   outcome = rounds test whole (suc (slack whole w)) (unmoved w)
@@ -86,13 +96,13 @@ module _ {test : Test} (planner : Planner test) (whole : ℕ → Bool) (w : Wind
       (λ planned. rounds-widest test whole laws _ (unmoved w) formed planned (omega arith))
       (λ k e none. tt)
 
-  narrowing-reason : Says (λ _. Unit {0}) (Reason test whole w) (narrowing test whole w)
+  narrowing-reason : Says (λ _. Unit {0}) (Reason whole w) (narrowing test whole w)
   narrowing-reason =
-      by-plan (Says (λ _. Unit {0}) (Reason test whole w))
+      by-plan (Says (λ _. Unit {0}) (Reason whole w))
       (λ planned. go planned outcome (rounds-says test whole _ (unmoved w) formed))
-      (λ k e none. inl (e, none))
+      (λ k e none. inl (planner .shown w formed k e, none))
     where
-      go : Plannable w → (o : Outcome Narrowed) → CostsOr whole (unmoved w) o → Says (λ _. Unit {0}) (Reason test whole w) o
+      go : Plannable w → (o : Outcome Narrowed) → CostsOr whole (unmoved w) o → Says (λ _. Unit {0}) (Reason whole w) o
       go planned (answered v) costs = tt
       go planned (refused k) (i, place, is, ten) = inr (i, place, is, ten, planned)
 
@@ -113,7 +123,7 @@ module _ {test : Test} (planner : Planner test) (whole : ℕ → Bool) (w : Wind
   none-settled : (k : Code) → narrowing test whole w ≡ refused k → NoneSettled whole w
   none-settled k e = rw e at narrowing-narrows
 
-  reason : (k : Code) → narrowing test whole w ≡ refused k → Reason test whole w k
+  reason : (k : Code) → narrowing test whole w ≡ refused k → Reason whole w k
   reason k e = rw e at narrowing-reason
 
   -- one of the two
@@ -138,7 +148,7 @@ module _ {test : Test} (planner : Planner test) (whole : ℕ → Bool) (w : Wind
         let z = refused-if-none (steps-none test whole laws ss w formed names some) in
         go (z .0) (z .1) (reason (z .0) (z .1))
       where
-        go : (k : Code) → narrowing test whole w ≡ refused k → Reason test whole w k
+        go : (k : Code) → narrowing test whole w ≡ refused k → Reason whole w k
             → (i : ℕ) × (narrowing test whole w ≡ refused (code 10 (i ∷ [])))
         go k e (inl (_, none)) = absurd (none planned)
         go k e (inr (i, _, _, ten, _)) = (i, e ∙ ap refused ten)
@@ -174,7 +184,7 @@ module _ {test : Test} (planner : Planner test) (whole : ℕ → Bool) (w : Wind
   pub narrow-law : NarrowLaw test whole w (narrowing test whole w)
   narrow-law =
       record {
-        searches = λ r d room k place. laws (withWindows w r d) room k place;
+        searches = λ r d inside room k place. laws (withWindows w r d) (formed-inside r d inside room) k place;
         by-rounds = by-rounds;
         widest = widest;
         refused-exactly = (λ z. none-settled (z .0) (z .1), refused-if-none);

@@ -10,4 +10,8 @@ formed-roomy : (w : Windows) → Formed w → Roomy w
 formed-roomy w formed = record { in-day = λ i h _. formed .in-day i h; room = λ i h _. formed .room i h }
 
 pub overload-planner : Planner overloadOf
-overload-planner = record { exact = λ w formed. plan-law w (formed-roomy w formed) (formed .few) .accepted }
+overload-planner =
+    record {
+      exact = λ w formed. plan-law w (formed-roomy w formed) (formed .few) .accepted;
+      shown = λ w formed. plan-law w (formed-roomy w formed) (formed .few) .shown;
+    }

@@ -5,8 +5,9 @@ use mathlib.Core.Logic.{_↔_, _⊎_}
 use mathlib.Core.Bool.{Bool, true}
 use mathlib.Core.List.{List, [], _∷_}
 use Rattle.list.specs.Outcomes.{Code, code, Outcome, answered, refused}
-use Rattle.jackson.specs.Windows.{Windows, withWindows}
+use Rattle.jackson.specs.Windows.{Windows, Inside, withWindows}
 use Rattle.jackson.specs.Plans.{Plan}
+use Rattle.jackson.specs.Intervals.{ShowsOverload}
 use Rattle.jackson.specs.Existence.{Plannable}
 use Rattle.narrow.specs.Searching.{Test, SearchLaw}
 use Rattle.narrow.specs.Settling.{NoneSettled, Widest, Unbroken, minutesCut}
@@ -20,24 +21,24 @@ pub record Formed (w : Windows) : Type 0 where
   pub in-day : (i : ℕ) → i < w .n → w .d i ≤ w .h
   pub room : (i : ℕ) → i < w .n → w .r i + w .p i ≤ w .d i
 
--- why narrowing w is turned back: the test's own refusal of the given windows, where no plan exists, or row 10 with a whole entry's place,
--- where one does
-abbrev pub Reason : Test → (ℕ → Bool) → Windows → Code → Type 0
-Reason test whole w k =
-    ((test w ≡ refused k) × (Plannable w → ⊥))
+-- why narrowing w is turned back: by row 9 with the interval shown, where no plan exists, or by row 10 with a whole entry's place, where
+-- one does
+abbrev pub Reason : (ℕ → Bool) → Windows → Code → Type 0
+Reason whole w k =
+    (ShowsOverload w k × (Plannable w → ⊥))
     ⊎ ((i : ℕ) × (i < w .n) × (whole i ≡ true) × (k ≡ code 10 (i ∷ [])) × Plannable w)
 
 -- the outcome o of narrowing the given windows w
 pub record NarrowLaw (test : Test) (whole : ℕ → Bool) (w : Windows) (o : Outcome Narrowed) : Type 0 where
-  -- a search, in any windows with room of the same entries, answers the minute of which document 01 speaks
-  pub searches : (r d : ℕ → ℕ) → Formed (withWindows w r d) → (k : ℕ) → k < w .n → SearchLaw test (withWindows w r d) k
+  -- a search, in any windows with room inside those given, answers the minute of which document 01 speaks
+  pub searches : (r d : ℕ → ℕ) → Inside (withWindows w r d) w → ((i : ℕ) → i < w .n → r i + w .p i ≤ d i) → (k : ℕ) → k < w .n → SearchLaw test (withWindows w r d) k
   -- the answer is that of the rounds as document 01 has them
   pub by-rounds : Plannable w → Rounds test whole (unmoved w) o
   -- it is the widest settled set of windows inside those given
   pub widest : (v : Narrowed) → o ≡ answered v → Widest whole w (v .windows)
   -- or a refusal, exactly when there is none
   pub refused-exactly : ((k : Code) × (o ≡ refused k)) ↔ NoneSettled whole w
-  pub reason : (k : Code) → o ≡ refused k → Reason test whole w k
+  pub reason : (k : Code) → o ≡ refused k → Reason whole w k
   -- lists of steps: if one is refused then the rounds give 10
   pub steps-refused : Plannable w → (ss : List Step) → NamesWhole whole (w .n) ss → someRefused test ss w ≡ true → (i : ℕ) × (o ≡ refused (code 10 (i ∷ [])))
   -- if none is and nothing is left to do, the rounds answer these windows
