@@ -14,22 +14,21 @@ use Rattle.list.specs.declared.types.DayList.{DayList}
 use Rattle.list.specs.declared.types.Refusal.{Refusal}
 use Rattle.list.specs.declared.types.Verdict.{Verdict}
 use Rattle.list.specs.declared.types.Verdict.the-variants.{Accepted, Refused}
-use Rattle.list.proofs.Inversion.{Says}
-use Rattle.list.proofs.Sound.{SoundList, check-says, sound-list}
+use Rattle.list.proofs.Sound.{SoundList, sound-list}
 use Rattle.jackson.specs.Counting.{sum}
 use Rattle.jackson.specs.Windows.{Windows, windowsOf, windowsIn}
-use Rattle.jackson.specs.Intervals.{ShowsOverload, overloadOf}
+use Rattle.jackson.specs.Intervals.{overloadOf}
 use Rattle.jackson.specs.Testing.{Holds}
 use Rattle.jackson.specs.declared.types.WindowSet.{WindowSet}
-use Rattle.jackson.proofs.ListLaws.{list-roomy, list-few, list-minutes, list-law}
+use Rattle.jackson.proofs.ListLaws.{list-roomy, list-few, list-minutes}
 use Rattle.narrow.specs.Rounds.{Narrowed, unmoved, round, rounds, narrowing, slack}
 use Rattle.narrow.specs.Laws.{Formed, NarrowLaw}
-use Rattle.narrow.specs.Calls.{wholeIn, listWith, settleOf, roundOf, AnswersAs, HoldsAnswer, Settles, MakesRound}
+use Rattle.narrow.specs.Calls.{wholeIn, listWith, settleOf, roundOf, listed, outcomeOf, AnswersAs, HoldsAnswer, Settles, MakesRound}
 use Rattle.narrow.specs.Parts.{stateOf, narrowedOf, Countable}
 use Rattle.narrow.specs.declared.types.NarrowAnswer.{NarrowAnswer}
 use Rattle.narrow.specs.declared.rounds.Narrowing.{Narrowing}
 use Rattle.narrow.proofs.Keeping.{Keeps}
-use Rattle.narrow.proofs.Costs.{round-cost, rounds-cost, rounds-refused}
+use Rattle.narrow.proofs.Costs.{round-cost, rounds-cost}
 use Rattle.narrow.proofs.RoundsEnd.{answered-refused}
 use Rattle.narrow.proofs.NarrowLaws.{narrow-law}
 use Rattle.narrow.proofs.OverloadPlanner.{overload-planner}
@@ -81,6 +80,9 @@ list-countable l s long formed holds =
         go false = omega arith
 
 -- Answers.
+refused-same : {A : Type 0} {a b : Code} → _≡_ {A = Outcome A} (refused a) (refused b) → a ≡ b
+refused-same e = cc
+
 module _ (l : DayList) (a : NarrowAnswer) where
   -- a refusal
   pub answers-refused : (o : Outcome Narrowed) (v : Verdict) (x : Refusal) → a ≡ record { verdict = v; list = emptyList; moves = 0 } → v ≡ Refused x
@@ -88,15 +90,29 @@ module _ (l : DayList) (a : NarrowAnswer) where
   answers-refused o v x is e q = record { outcome = rw (is, q, e); beside = rw (is, q) }
 
   -- windows that narrowing leaves are those of the list answered
-  holds-answer : (o : Outcome Narrowed) → ((v : Narrowed) → o ≡ answered v → Keeps (windowsOf l) (v .windows) × WellFormed l) → AnswersAs l o a → HoldsAnswer o a
-  holds-answer o keeps answers =
-      record {
-        windows = λ v e. rw (list-is v e) (listed-windows l (v .windows) (keeps v e .0));
-        formed = λ v e. rw (list-is v e) (listed-formed l (v .windows) (keeps v e .0) (keeps v e .1));
-      }
-    where
-      list-is : (v : Narrowed) → o ≡ answered v → a .list ≡ listWith l (v .windows)
-      list-is v e = ap (λ (x : DayList × ℕ). x .0) (rw e at (answers .beside))
+  module _ (o : Outcome Narrowed) (keeps : (v : Narrowed) → o ≡ answered v → Keeps (windowsOf l) (v .windows) × WellFormed l) where
+    -- the list answered, beside Accepted
+    list-is : (v : Narrowed) → o ≡ answered v → AnswersAs l o a → (a .list ≡ listWith l (v .windows)) × (a .moves ≡ v .moves)
+    list-is v e answers =
+        let z : _≡_ {A = DayList × ℕ} (a .list, a .moves) (listWith l (v .windows), v .moves) = rw e at (answers .beside) in
+        (ap (λ (x : DayList × ℕ). x .0) z, ap (λ (x : DayList × ℕ). x .1) z)
+
+    holds-answer : AnswersAs l o a → HoldsAnswer o a
+    holds-answer answers = record { narrowed = narrowed (a .verdict) o (answers .outcome) refl; formed = formed (a .verdict) o (answers .outcome) refl }
+      where
+        narrowed : (t : Verdict) (u : Outcome Narrowed) → outcomeOf t (a .list, a .moves) ≡ listed l u → o ≡ u
+            → outcomeOf t (record { windows = windowsOf (a .list); moves = a .moves }) ≡ u
+        narrowed Accepted (answered v) e q =
+            let z = list-is v q answers in
+            λ i. answered (record { windows = (ap windowsOf (z .0) ∙ listed-windows l (v .windows) (keeps v q .0)) i; moves = z .1 i })
+        narrowed Accepted (refused k) e q = absurd (answered-refused (sym e) refl)
+        narrowed (Refused x) (answered v) e q = absurd (answered-refused e refl)
+        narrowed (Refused x) (refused k) e q = ap refused (refused-same e)
+
+        formed : (t : Verdict) (u : Outcome Narrowed) → outcomeOf t (a .list, a .moves) ≡ listed l u → o ≡ u → t ≡ Accepted → WellFormed (a .list)
+        formed Accepted (answered v) e q _ = rw (list-is v q answers .0) (listed-formed l (v .windows) (keeps v q .0) (keeps v q .1))
+        formed Accepted (refused k) e q _ = absurd (answered-refused (sym e) refl)
+        formed (Refused x) u e q f = absurd (answered-refused (ap verdictOf f) refl)
 
 -- the outcome of a call whose value check was passed, and not
 module _ (l : DayList) (f : Outcome Narrowed) where
@@ -106,13 +122,6 @@ module _ (l : DayList) (f : Outcome Narrowed) where
       go : (c : Outcome (Unit {0})) → checkOf l ≡ c → andThen c (λ _. f) ≡ answered v → WellFormed l × (f ≡ answered v)
       go (answered t) e q = (e, q)
       go (refused k) e q = absurd (answered-refused q refl)
-
--- a refusal that is not row 9
-abbrev NotNine : Code → Type 0
-NotNine k = k .number ≡ 9 → ⊥
-
-refused-same : {a b : Code} → _≡_ {A = Outcome Narrowed} (refused a) (refused b) → a ≡ b
-refused-same e = cc
 
 -- What `settle` answers.
 module _ (l : DayList) where
@@ -128,33 +137,10 @@ module _ (l : DayList) where
       go (answered t) formed q = rounds-cost overloadOf (wholeIn l) (unmoved (windowsOf l)) formed _ v q .keeps
       go (refused k) formed q = absurd (answered-refused q refl)
 
-  -- row 9 is the overload test's
-  settle-shown : (k : Code) → settleOf l ≡ refused k → k .number ≡ 9 → ShowsOverload (windowsOf l) k
-  unfolding settleOf narrowing
-  settle-shown k e nine = checked (checkOf l) refl (check-says l NotNine (λ z. omega arith) (λ z. omega arith) (λ _ z. omega arith) (λ _ z. omega arith)) e
-    where
-      after : WellFormed l → (t : Outcome (Unit {0})) → overloadOf (windowsOf l) ≡ t
-          → andThen t (λ _. rounds overloadOf (wholeIn l) (suc (slack (wholeIn l) (windowsOf l))) (unmoved (windowsOf l))) ≡ refused k
-          → ShowsOverload (windowsOf l) k
-      after formed (answered t) is q =
-          let z = rounds-refused overloadOf (wholeIn l) (unmoved (windowsOf l)) (list-formed l formed) _ k q in
-          absurd (omega (arith, nine, ap (λ (x : Code). x .number) (z .3)))
-      after formed (refused x) is q = list-law l formed .shown k (is ∙ ap (λ (c : Code). refused c) (refused-same q))
-
-      checked : (c : Outcome (Unit {0})) → checkOf l ≡ c → Says (λ _. SoundList l) NotNine c
-          → andThen c (λ _. andThen (overloadOf (windowsOf l)) (λ _. rounds overloadOf (wholeIn l) (suc (slack (wholeIn l) (windowsOf l))) (unmoved (windowsOf l)))) ≡ refused k
-          → ShowsOverload (windowsOf l) k
-      checked (answered t) is _ q = after is (overloadOf (windowsOf l)) refl q
-      checked (refused x) is other q = absurd ((rw (refused-same q) at other) nine)
-
   pub settles : (a : NarrowAnswer) → AnswersAs l (settleOf l) a → Settles l a
   settles a answers =
-      record {
-        answers = answers;
-        holds = holds-answer l a (settleOf l) settle-keeps answers;
-        law = settle-law l;
-        shown = settle-shown;
-      }
+      let holds = holds-answer l a (settleOf l) settle-keeps answers in
+      record { answers = answers; holds = holds; law = λ formed. rw (holds .narrowed) (settle-law l formed) }
 
   -- What `round` answers.
   round-keeps : (v : Narrowed) → roundOf l ≡ answered v → Keeps (windowsOf l) (v .windows) × WellFormed l

@@ -4,7 +4,7 @@ use mathlib.Core.Path.{_≡_}
 use mathlib.Core.Bool.{Bool, true, false}
 use mathlib.Core.List.{List, [], _∷_, map}
 use lib.ListN.{getD}
-use Rattle.list.specs.Outcomes.{Code, Outcome, answered, refused, andThen}
+use Rattle.list.specs.Outcomes.{Outcome, answered, refused, andThen}
 use Rattle.list.specs.Refusals.{codeOf}
 use Rattle.list.specs.DayLists.{entriesOf, blank, dayList, emptyList}
 use Rattle.list.specs.Checks.{checkOf, WellFormed}
@@ -16,7 +16,7 @@ use Rattle.list.specs.declared.types.DayList.{DayList}
 use Rattle.list.specs.declared.types.Verdict.{Verdict}
 use Rattle.list.specs.declared.types.Verdict.the-variants.{Accepted, Refused}
 use Rattle.jackson.specs.Windows.{Windows, windowsOf}
-use Rattle.jackson.specs.Intervals.{ShowsOverload, overloadOf}
+use Rattle.jackson.specs.Intervals.{overloadOf}
 use Rattle.narrow.specs.Rounds.{Narrowed, unmoved, round, narrowing}
 use Rattle.narrow.specs.Laws.{NarrowLaw}
 use Rattle.narrow.specs.declared.types.NarrowAnswer.{NarrowAnswer}
@@ -65,13 +65,18 @@ roundOf l = andThen (checkOf l) (λ _. round overloadOf (wholeIn l) (unmoved (wi
 abbrev pub listed : DayList → Outcome Narrowed → Outcome (DayList × ℕ)
 listed l o = andThen o (λ v. answered (listWith l (v .windows), v .moves))
 
--- the answer of a call
-abbrev pub outcomeIn : Verdict → DayList × ℕ → Outcome (DayList × ℕ)
-outcomeIn Accepted a = answered a
-outcomeIn (Refused x) a = refused (codeOf x)
+-- a verdict with what stands beside Accepted
+abbrev pub outcomeOf : {A : Type 0} → Verdict → A → Outcome A
+outcomeOf Accepted a = answered a
+outcomeOf (Refused x) a = refused (codeOf x)
 
+-- the answer of a call
 abbrev pub narrowAnswerOf : NarrowAnswer → Outcome (DayList × ℕ)
-narrowAnswerOf a = outcomeIn (a .verdict) (a .list, a .moves)
+narrowAnswerOf a = outcomeOf (a .verdict) (a .list, a .moves)
+
+-- the same with the windows of the list answered
+abbrev pub narrowedIn : NarrowAnswer → Outcome Narrowed
+narrowedIn a = outcomeOf (a .verdict) (record { windows = windowsOf (a .list); moves = a .moves })
 
 -- what stands in it: the list and the moves, or the empty list and 0 beside a refusal
 abbrev pub standing : Outcome (DayList × ℕ) → DayList × ℕ
@@ -83,18 +88,17 @@ pub record AnswersAs (l : DayList) (o : Outcome Narrowed) (a : NarrowAnswer) : T
   pub outcome : narrowAnswerOf a ≡ listed l o
   pub beside : (a .list, a .moves) ≡ standing (listed l o)
 
--- beside that, of an answer: the list answered has these windows, and passes the value check itself
+-- beside that: the list answered has the windows of the outcome, and passes the value check itself
 pub record HoldsAnswer (o : Outcome Narrowed) (a : NarrowAnswer) : Type 0 where
-  pub windows : (v : Narrowed) → o ≡ answered v → windowsOf (a .list) ≡ v .windows
-  pub formed : (v : Narrowed) → o ≡ answered v → WellFormed (a .list)
+  pub narrowed : narrowedIn a ≡ o
+  pub formed : a .verdict ≡ Accepted → WellFormed (a .list)
 
 -- what `settle` answers of the list l
 pub record Settles (l : DayList) (a : NarrowAnswer) : Type 0 where
   pub answers : AnswersAs l (settleOf l) a
   pub holds : HoldsAnswer (settleOf l) a
-  -- the law, for a list that passes the value check; and what row 9 shows
-  pub law : WellFormed l → NarrowLaw overloadOf (wholeIn l) (windowsOf l) (settleOf l)
-  pub shown : (k : Code) → settleOf l ≡ refused k → k .number ≡ 9 → ShowsOverload (windowsOf l) k
+  -- the law, for a list that passes the value check, of the windows and moves answered
+  pub law : WellFormed l → NarrowLaw overloadOf (wholeIn l) (windowsOf l) (narrowedIn a)
 
 -- what `round` answers of the list l
 pub record MakesRound (l : DayList) (a : NarrowAnswer) : Type 0 where

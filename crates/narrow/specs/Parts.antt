@@ -6,15 +6,12 @@ use mathlib.Core.List.{List, [], _∷_}
 use lib.Dec.{ltb}
 use lib.ListN.{getD}
 use Rattle.list.specs.Outcomes.{code, Outcome, answered, refused}
-use Rattle.list.specs.Refusals.{codeOf}
 use Rattle.list.specs.declared.types.DayList.{DayList}
-use Rattle.list.specs.declared.types.Verdict.{Verdict}
-use Rattle.list.specs.declared.types.Verdict.the-variants.{Accepted, Refused}
 use Rattle.jackson.specs.Windows.{windowsIn}
 use Rattle.jackson.specs.declared.types.WindowSet.{WindowSet}
 use Rattle.narrow.specs.Rounds.{Narrowed, slack}
 use Rattle.narrow.specs.Laws.{Formed}
-use Rattle.narrow.specs.Calls.{wholeIn}
+use Rattle.narrow.specs.Calls.{wholeIn, outcomeOf}
 use Rattle.narrow.specs.declared.search.Found.{Found}
 use Rattle.narrow.specs.declared.search.Found.the-variants.{Minute, NoMinute}
 use Rattle.narrow.specs.declared.rounds.Narrowing.{Narrowing}
@@ -29,12 +26,8 @@ abbrev pub stateOf : WindowSet → ℕ → Narrowed
 stateOf s moves = record { windows = windowsIn s; moves = moves }
 
 -- the outcome of visits
-abbrev pub outcomeWith : Verdict → Narrowed → Outcome Narrowed
-outcomeWith Accepted s = answered s
-outcomeWith (Refused x) s = refused (codeOf x)
-
 abbrev pub narrowedOf : Narrowing → Outcome Narrowed
-narrowedOf a = outcomeWith (a .verdict) (stateOf (a .windows) (a .moves))
+narrowedOf a = outcomeOf (a .verdict) (stateOf (a .windows) (a .moves))
 
 -- arrays with windows that have room, and an entry
 pub record Searchable (s : WindowSet) (k : ℕ) : Type 0 where

@@ -2,10 +2,7 @@
 use jackson::places_held;
 use jackson::types::WindowSet;
 ghost use mathlib.Core.Path.{_≡_};
-ghost use mathlib.Core.Bool.{cond};
-ghost use Prim.Native.Nat.{ℕ, _-_, _≤_};
-ghost use lib.Dec.{ltb};
-ghost use lib.ListN.{getD, length};
+ghost use Prim.Native.Nat.{_-_, _≤_};
 ghost use Rattle.jackson.specs.Windows.{windowsIn};
 ghost use Rattle.jackson.specs.Mirrors.{mirror};
 ghost use Rattle.narrow.specs.Parts.{Turned};
