@@ -20,3 +20,4 @@ mod RoundCases
 mod VisitCases
 mod ListCases
 mod CallCases
+pub mod SingleRounds
