@@ -32,7 +32,7 @@ use Rattle.narrow.proofs.Costs.{round-cost, rounds-cost}
 use Rattle.narrow.proofs.RoundsEnd.{answered-refused}
 use Rattle.narrow.proofs.NarrowLaws.{narrow-law}
 use Rattle.narrow.proofs.OverloadPlanner.{overload-planner}
-use Rattle.narrow.proofs.ListCases.{listed-windows, listed-formed}
+use Rattle.narrow.proofs.ListCases.{listed-windows, listed-whole, listed-formed}
 
 -- The windows of a list that passes the value check.
 module _ (l : DayList) (formed : WellFormed l) where
@@ -97,8 +97,13 @@ module _ (l : DayList) (a : NarrowAnswer) where
         let z : _≡_ {A = DayList × ℕ} (a .list, a .moves) (listWith l (v .windows), v .moves) = rw e at (answers .beside) in
         (ap (λ (x : DayList × ℕ). x .0) z, ap (λ (x : DayList × ℕ). x .1) z)
 
-    holds-answer : AnswersAs l o a → HoldsAnswer o a
-    holds-answer answers = record { narrowed = narrowed (a .verdict) o (answers .outcome) refl; formed = formed (a .verdict) o (answers .outcome) refl }
+    holds-answer : AnswersAs l o a → HoldsAnswer l o a
+    holds-answer answers =
+        record {
+          narrowed = narrowed (a .verdict) o (answers .outcome) refl;
+          kinds = λ e. let z = some (a .verdict) o (answers .outcome) refl e in rw (list-is (z .0) (z .1) answers .0) (listed-whole l (z .0 .windows) (keeps (z .0) (z .1) .0));
+          formed = λ e. let z = some (a .verdict) o (answers .outcome) refl e in rw (list-is (z .0) (z .1) answers .0) (listed-formed l (z .0 .windows) (keeps (z .0) (z .1) .0) (keeps (z .0) (z .1) .1));
+        }
       where
         narrowed : (t : Verdict) (u : Outcome Narrowed) → outcomeOf t (a .list, a .moves) ≡ listed l u → o ≡ u
             → outcomeOf t (record { windows = windowsOf (a .list); moves = a .moves }) ≡ u
@@ -109,10 +114,11 @@ module _ (l : DayList) (a : NarrowAnswer) where
         narrowed (Refused x) (answered v) e q = absurd (answered-refused e refl)
         narrowed (Refused x) (refused k) e q = ap refused (refused-same e)
 
-        formed : (t : Verdict) (u : Outcome Narrowed) → outcomeOf t (a .list, a .moves) ≡ listed l u → o ≡ u → t ≡ Accepted → WellFormed (a .list)
-        formed Accepted (answered v) e q _ = rw (list-is v q answers .0) (listed-formed l (v .windows) (keeps v q .0) (keeps v q .1))
-        formed Accepted (refused k) e q _ = absurd (answered-refused (sym e) refl)
-        formed (Refused x) u e q f = absurd (answered-refused (ap verdictOf f) refl)
+        -- beside Accepted there is an outcome
+        some : (t : Verdict) (u : Outcome Narrowed) → outcomeOf t (a .list, a .moves) ≡ listed l u → o ≡ u → t ≡ Accepted → (v : Narrowed) × (o ≡ answered v)
+        some Accepted (answered v) e q _ = (v, q)
+        some Accepted (refused k) e q _ = absurd (answered-refused (sym e) refl)
+        some (Refused x) u e q f = absurd (answered-refused (ap verdictOf f) refl)
 
 -- the outcome of a call whose value check was passed, and not
 module _ (l : DayList) (f : Outcome Narrowed) where

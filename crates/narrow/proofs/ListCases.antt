@@ -14,7 +14,7 @@ use Rattle.list.specs.declared.types.DayList.{DayList}
 use Rattle.list.proofs.Sound.{Sound, Every, sound-list, well-formed}
 use Rattle.jackson.specs.Windows.{Windows, windowsOf}
 use Rattle.jackson.proofs.Sums.{le-or-lt}
-use Rattle.narrow.specs.Calls.{withTimes, entriesWith, listWith}
+use Rattle.narrow.specs.Calls.{isWhole, wholeIn, withTimes, entriesWith, listWith}
 use Rattle.narrow.proofs.Keeping.{Keeps, keeps-h, keeps-n, keeps-p}
 use Rattle.narrow.proofs.Alike.{with-length, listed-entries, listed-entry, listed-count}
 
@@ -118,6 +118,16 @@ module _ (l : DayList) (w : Windows) (keeps : Keeps (windowsOf l) w) where
           le-or-lt (windowsOf l .n) i
           (λ h. ap (λ (e : Entry). e .p) (past-places i h .0 ∙ sym (past-places i h .1)) ∙ sym (keeps-p keeps i))
           (λ h. ap (λ (e : Entry). e .p) (listed-entry l w i h) ∙ sym (keeps-p keeps i))
+
+  -- the same entries are whole
+  pub listed-whole : wholeIn (listWith l w) ≡ wholeIn l
+  listed-whole = fun-ext each
+    where
+      each : (i : ℕ) → wholeIn (listWith l w) i ≡ wholeIn l i
+      each i =
+          le-or-lt (windowsOf l .n) i
+          (λ h. ap (λ (e : Entry). isWhole (e .kind)) (past-places i h .0 ∙ sym (past-places i h .1)))
+          (λ h. ap (λ (e : Entry). isWhole (e .kind)) (listed-entry l w i h))
 
   -- it passes the value check, if the list given does
   pub listed-formed : WellFormed l → WellFormed (listWith l w)

@@ -88,19 +88,20 @@ pub record AnswersAs (l : DayList) (o : Outcome Narrowed) (a : NarrowAnswer) : T
   pub outcome : narrowAnswerOf a ≡ listed l o
   pub beside : (a .list, a .moves) ≡ standing (listed l o)
 
--- beside that: the list answered has the windows of the outcome, and passes the value check itself
-pub record HoldsAnswer (o : Outcome Narrowed) (a : NarrowAnswer) : Type 0 where
+-- beside that: the list answered has the windows of the outcome and the kinds of l, and passes the value check itself
+pub record HoldsAnswer (l : DayList) (o : Outcome Narrowed) (a : NarrowAnswer) : Type 0 where
   pub narrowed : narrowedIn a ≡ o
+  pub kinds : a .verdict ≡ Accepted → wholeIn (a .list) ≡ wholeIn l
   pub formed : a .verdict ≡ Accepted → WellFormed (a .list)
 
 -- what `settle` answers of the list l
 pub record Settles (l : DayList) (a : NarrowAnswer) : Type 0 where
   pub answers : AnswersAs l (settleOf l) a
-  pub holds : HoldsAnswer (settleOf l) a
+  pub holds : HoldsAnswer l (settleOf l) a
   -- the law, for a list that passes the value check, of the windows and moves answered
   pub law : WellFormed l → NarrowLaw overloadOf (wholeIn l) (windowsOf l) (narrowedIn a)
 
 -- what `round` answers of the list l
 pub record MakesRound (l : DayList) (a : NarrowAnswer) : Type 0 where
   pub answers : AnswersAs l (roundOf l) a
-  pub holds : HoldsAnswer (roundOf l) a
+  pub holds : HoldsAnswer l (roundOf l) a
