@@ -22,7 +22,7 @@ use Rattle.jackson.specs.Testing.{Holds}
 use Rattle.jackson.specs.declared.types.WindowSet.{WindowSet}
 use Rattle.jackson.proofs.ListLaws.{list-roomy, list-few, list-minutes}
 use Rattle.narrow.specs.Rounds.{Narrowed, unmoved, round, rounds, narrowing, slack}
-use Rattle.narrow.specs.Laws.{Formed, NarrowLaw}
+use Rattle.narrow.specs.Laws.{Formed, RoundLaw, NarrowLaw}
 use Rattle.narrow.specs.Calls.{wholeIn, listWith, settleOf, roundOf, listed, outcomeOf, AnswersAs, HoldsAnswer, Settles, MakesRound}
 use Rattle.narrow.specs.Parts.{stateOf, narrowedOf, Countable}
 use Rattle.narrow.specs.declared.types.NarrowAnswer.{NarrowAnswer}
@@ -30,7 +30,7 @@ use Rattle.narrow.specs.declared.rounds.Narrowing.{Narrowing}
 use Rattle.narrow.proofs.Keeping.{Keeps}
 use Rattle.narrow.proofs.Costs.{round-cost, rounds-cost}
 use Rattle.narrow.proofs.RoundsEnd.{answered-refused}
-use Rattle.narrow.proofs.NarrowLaws.{narrow-law}
+use Rattle.narrow.proofs.NarrowLaws.{round-law, narrow-law}
 use Rattle.narrow.proofs.OverloadPlanner.{overload-planner}
 use Rattle.narrow.proofs.ListCases.{listed-windows, listed-whole, listed-formed}
 
@@ -155,8 +155,14 @@ module _ (l : DayList) where
       let z = passed-check l (round overloadOf (wholeIn l) (unmoved (windowsOf l))) v e in
       (round-cost overloadOf (wholeIn l) (unmoved (windowsOf l)) (list-formed l (z .0)) v (z .1) .keeps, z .0)
 
+  list-round-law : WellFormed l → RoundLaw (wholeIn l) (windowsOf l) (roundOf l)
+  unfolding roundOf
+  list-round-law formed = rw formed (round-law overload-planner (wholeIn l) (windowsOf l) (list-formed l formed))
+
   pub makes-round : (a : NarrowAnswer) → AnswersAs l (roundOf l) a → MakesRound l a
-  makes-round a answers = record { answers = answers; holds = holds-answer l a (roundOf l) round-keeps answers }
+  makes-round a answers =
+      let holds = holds-answer l a (roundOf l) round-keeps answers in
+      record { answers = answers; holds = holds; law = λ formed. rw (holds .narrowed) (list-round-law formed) }
 
 -- the answer that code makes of what rounds gave
 module _ (l : DayList) (found : Narrowing) where

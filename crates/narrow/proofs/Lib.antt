@@ -1,4 +1,4 @@
-mod Planners
+pub mod Planners
 mod Puts
 mod MirrorSearches
 mod Keeping

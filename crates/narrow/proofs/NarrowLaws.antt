@@ -14,10 +14,10 @@ use Rattle.narrow.specs.Searching.{Test, SearchLaw}
 use Rattle.narrow.specs.Settling.{SettledInside, NoneSettled, Widest, minutesCut}
 use Rattle.narrow.specs.Rounds.{Side, step, Narrowed, unmoved, visit, round, Rounds, rounds, slack, narrowing}
 use Rattle.narrow.specs.StepLists.{Step, NamesWhole, stepsLeave, someRefused, Completes}
-use Rattle.narrow.specs.Laws.{Formed, Reason, NarrowLaw}
+use Rattle.narrow.specs.Laws.{Formed, Reason, RoundLaw, NarrowLaw}
 use Rattle.narrow.proofs.Planners.{Planner}
 use Rattle.narrow.proofs.Keeping.{Keeps}
-use Rattle.narrow.proofs.Costs.{CostsOr, rounds-says}
+use Rattle.narrow.proofs.Costs.{CostsOr, round-cost, round-refused, rounds-says}
 use Rattle.narrow.proofs.RoundsEnd.{rounds-are}
 use Rattle.narrow.proofs.Exact.{search-law}
 use Rattle.narrow.proofs.SettledSteps.{Narrows, NarrowsOr, plannable-widen, step-narrows, visit-narrows, round-narrows, rounds-narrow, steps-narrow, steps-none}
@@ -48,6 +48,17 @@ module _ {test : Test} (planner : Planner test) (whole : ℕ → Bool) where
 
     pub round-none : (x : Code) → round test whole s ≡ refused x → NoneSettled whole (s .windows)
     round-none x e = rw e at (round-narrows test whole (search-law planner) s formed)
+
+  -- All that a round from windows not yet moved keeps.
+  pub round-law : (w : Windows) → Formed w → RoundLaw whole w (round test whole (unmoved w))
+  round-law w formed =
+      record {
+        inside = λ v e. round-cost test whole (unmoved w) formed v e .keeps .inside;
+        stays = round-stays (unmoved w) formed;
+        none = round-none (unmoved w) formed;
+        ten = round-refused test whole (unmoved w) formed;
+        moves-cut = λ v e. omega (arith, round-cost test whole (unmoved w) formed v e .cut);
+      }
 
 -- Narrowing.
 

@@ -18,7 +18,7 @@ use Rattle.list.specs.declared.types.Verdict.the-variants.{Accepted, Refused}
 use Rattle.jackson.specs.Windows.{Windows, windowsOf}
 use Rattle.jackson.specs.Intervals.{overloadOf}
 use Rattle.narrow.specs.Rounds.{Narrowed, unmoved, round, narrowing}
-use Rattle.narrow.specs.Laws.{NarrowLaw}
+use Rattle.narrow.specs.Laws.{RoundLaw, NarrowLaw}
 use Rattle.narrow.specs.declared.types.NarrowAnswer.{NarrowAnswer}
 
 -- "the entry is whole (unpausable)"
@@ -105,3 +105,4 @@ pub record Settles (l : DayList) (a : NarrowAnswer) : Type 0 where
 pub record MakesRound (l : DayList) (a : NarrowAnswer) : Type 0 where
   pub answers : AnswersAs l (roundOf l) a
   pub holds : HoldsAnswer l (roundOf l) a
+  pub law : WellFormed l → RoundLaw (wholeIn l) (windowsOf l) (narrowedIn a)

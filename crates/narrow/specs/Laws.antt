@@ -10,7 +10,7 @@ use Rattle.jackson.specs.Plans.{Plan}
 use Rattle.jackson.specs.Intervals.{ShowsOverload}
 use Rattle.jackson.specs.Existence.{Plannable}
 use Rattle.narrow.specs.Searching.{Test, SearchLaw}
-use Rattle.narrow.specs.Settling.{NoneSettled, Widest, Unbroken, minutesCut}
+use Rattle.narrow.specs.Settling.{SettledInside, NoneSettled, Widest, Unbroken, minutesCut}
 use Rattle.narrow.specs.Rounds.{Narrowed, unmoved, Rounds}
 use Rattle.narrow.specs.StepLists.{Step, NamesWhole, stepsLeave, someRefused, Completes}
 
@@ -27,6 +27,17 @@ abbrev pub Reason : (ℕ → Bool) → Windows → Code → Type 0
 Reason whole w k =
     (ShowsOverload w k × (Plannable w → ⊥))
     ⊎ ((i : ℕ) × (i < w .n) × (whole i ≡ true) × (k ≡ code 10 (i ∷ [])) × Plannable w)
+
+-- the outcome o of one round of the windows w
+pub record RoundLaw (whole : ℕ → Bool) (w : Windows) (o : Outcome Narrowed) : Type 0 where
+  pub inside : (v : Narrowed) → o ≡ answered v → Inside (v .windows) w
+  -- every settled set of windows inside stays inside, and after a refusal there is none
+  pub stays : (v : Narrowed) → o ≡ answered v → (r d : ℕ → ℕ) → SettledInside whole w r d → SettledInside whole (v .windows) r d
+  pub none : (k : Code) → o ≡ refused k → NoneSettled whole w
+  -- row 10 carries a whole entry's place
+  pub ten : (k : Code) → o ≡ refused k → (i : ℕ) × (i < w .n) × (whole i ≡ true) × (k ≡ code 10 (i ∷ []))
+  -- each move cuts a minute
+  pub moves-cut : (v : Narrowed) → o ≡ answered v → v .moves ≤ minutesCut w (v .windows)
 
 -- the outcome o of narrowing the given windows w
 pub record NarrowLaw (test : Test) (whole : ℕ → Bool) (w : Windows) (o : Outcome Narrowed) : Type 0 where
