@@ -58,6 +58,7 @@ module _ {test : Test} (planner : Planner test) (whole : ℕ → Bool) where
         none = round-none (unmoved w) formed;
         ten = round-refused test whole (unmoved w) formed;
         moves-cut = λ v e. omega (arith, round-cost test whole (unmoved w) formed v e .cut);
+        moves-slack = λ v e. omega (arith, round-cost test whole (unmoved w) formed v e .paid);
       }
 
 -- Narrowing.

@@ -11,7 +11,7 @@ use Rattle.jackson.specs.Intervals.{ShowsOverload}
 use Rattle.jackson.specs.Existence.{Plannable}
 use Rattle.narrow.specs.Searching.{Test, SearchLaw}
 use Rattle.narrow.specs.Settling.{SettledInside, NoneSettled, Widest, Unbroken, minutesCut}
-use Rattle.narrow.specs.Rounds.{Narrowed, unmoved, Rounds}
+use Rattle.narrow.specs.Rounds.{Narrowed, unmoved, Rounds, slack}
 use Rattle.narrow.specs.StepLists.{Step, NamesWhole, stepsLeave, someRefused, Completes}
 
 -- windows as the value check lets them through: at most 255 entries, each of which needs a minute and has room in the day
@@ -36,8 +36,9 @@ pub record RoundLaw (whole : ℕ → Bool) (w : Windows) (o : Outcome Narrowed) 
   pub none : (k : Code) → o ≡ refused k → NoneSettled whole w
   -- row 10 carries a whole entry's place
   pub ten : (k : Code) → o ≡ refused k → (i : ℕ) × (i < w .n) × (whole i ≡ true) × (k ≡ code 10 (i ∷ []))
-  -- each move cuts a minute
+  -- each move cuts a minute, and one of those that could be cut
   pub moves-cut : (v : Narrowed) → o ≡ answered v → v .moves ≤ minutesCut w (v .windows)
+  pub moves-slack : (v : Narrowed) → o ≡ answered v → v .moves + slack whole (v .windows) ≤ slack whole w
 
 -- the outcome o of narrowing the given windows w
 pub record NarrowLaw (test : Test) (whole : ℕ → Bool) (w : Windows) (o : Outcome Narrowed) : Type 0 where
