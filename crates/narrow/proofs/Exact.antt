@@ -15,11 +15,11 @@ use Rattle.jackson.specs.Existence.{Plannable}
 use Rattle.jackson.specs.Mirrors.{mirror}
 use Rattle.jackson.proofs.Sums.{le-or-lt}
 use Rattle.jackson.proofs.Searches.{First, first-below}
-use Rattle.narrow.specs.Searching.{Test, accepts, fixedAt, trials, startsSkipped, leastStart, greatestEnd}
+use Rattle.narrow.specs.Searching.{Test, accepts, fixedAt, fixedUpTo, trials, startsSkipped, leastStart, greatestEnd}
 use Rattle.narrow.specs.Searching.{IsLeastStart, NoStart, IsGreatestEnd, NoEnd, SearchLaw}
 use Rattle.narrow.specs.Laws.{Formed}
 use Rattle.narrow.proofs.Planners.{Planner}
-use Rattle.narrow.proofs.Puts.{fixed-formed}
+use Rattle.narrow.proofs.Puts.{fixed-formed, up-to-formed}
 use Rattle.narrow.proofs.MirrorSearches.{plannable-mirror, mirror-plannable, formed-mirror, mirror-r, mirror-d}
 use Rattle.narrow.proofs.MirrorSearches.{fixed-at-mirror, end-by-mirror}
 
@@ -117,15 +117,15 @@ module _ {test : Test} (planner : Planner test) (w : Windows) (formed : Formed w
 module _ (w : Windows) (formed : Formed w) (k : ℕ) (place : k < w .n) where
   module _ (e : ℕ) (due : e ≤ w .d k) (room : w .r k + w .p k ≤ e) where
     -- a plan exists for an end exactly when one does for the mirrored start
-    end-fixed : fixedAt (mirror w) k (w .h - e) ≡ mirror (fixedAt w k (e - w .p k))
+    end-fixed : fixedAt (mirror w) k (w .h - e) ≡ mirror (fixedUpTo w k e)
     end-fixed = fixed-at-mirror w k place e (omega arith) (omega (arith, formed .in-day k place))
 
-    start-plan : Plannable (fixedAt w k (e - w .p k)) → Plannable (fixedAt (mirror w) k (w .h - e))
-    start-plan plan = rw end-fixed (plannable-mirror (fixedAt w k (e - w .p k)) plan)
+    start-plan : Plannable (fixedUpTo w k e) → Plannable (fixedAt (mirror w) k (w .h - e))
+    start-plan plan = rw end-fixed (plannable-mirror (fixedUpTo w k e) plan)
 
-    end-plan : Plannable (fixedAt (mirror w) k (w .h - e)) → Plannable (fixedAt w k (e - w .p k))
+    end-plan : Plannable (fixedAt (mirror w) k (w .h - e)) → Plannable (fixedUpTo w k e)
     end-plan plan =
-        mirror-plannable (fixedAt w k (e - w .p k)) (fixed-formed w formed k (e - w .p k) place (omega arith)) (rw end-fixed at plan)
+        mirror-plannable (fixedUpTo w k e) (up-to-formed w formed k e place (omega arith) due) (rw end-fixed at plan)
 
   -- the mirrored window, and its place in the day
   in-mirror : (mirror w .r k ≡ w .h - w .d k) × (mirror w .d k ≡ w .h - w .r k) × (w .d k ≤ w .h) × (w .r k + w .p k ≤ w .d k)

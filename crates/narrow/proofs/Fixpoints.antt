@@ -16,8 +16,8 @@ use Rattle.narrow.specs.Settling.{Consecutive, Settled, SettledInside, W
 use Rattle.narrow.specs.Rounds.{Side, earliest, latest, step, Narrowed, moved, movesOf, narrowSide, visit, visits, round, Rounds, last, next, stopped, rounds, slack}
 use Rattle.narrow.specs.StepLists.{NothingLeft}
 use Rattle.narrow.specs.Laws.{Formed}
-use Rattle.narrow.proofs.Puts.{place-cases, put-back, fixed-consecutive, fixed-inside}
 use Rattle.narrow.proofs.RoundsEnd.{rounds-are}
+use Rattle.narrow.proofs.Puts.{place-cases, put-back, fixed-up-to, fixed-consecutive, fixed-inside}
 use Rattle.narrow.proofs.SettledSteps.{Narrows, NarrowsOr, start-found, end-found, rounds-narrow}
 
 -- Windows that no step changes.
@@ -42,7 +42,8 @@ module _ (test : Test) (whole : ℕ → Bool) (w : Windows) (formed : Formed w) 
         up-to-d =
             λ k place q.
             let found = laws k place .end-is (w .d k) .0 (end-found test k w w (nothing k latest place q) .0) in
-            fixed-run k place (w .d k - w .p k) (w .d k) (omega (arith, found .room)) (omega (arith, found .room)) (omega arith) (found .plan);
+            fixed-run k place (w .d k - w .p k) (w .d k) (omega (arith, found .room)) (omega (arith, found .room)) (omega arith)
+            (rw (fixed-up-to w k (w .d k) (omega (arith, found .room))) at (found .plan));
       }
 
 -- settled sets stay inside on the way, so windows at which nothing is left to do are the widest

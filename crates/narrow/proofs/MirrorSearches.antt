@@ -13,10 +13,10 @@ use Rattle.jackson.specs.Windows.{Windows, withWindows}
 use Rattle.jackson.specs.Existence.{Plannable}
 use Rattle.jackson.specs.Mirrors.{mirror, mirrorPlan}
 use Rattle.jackson.proofs.PlanFacts.{mirror-plan, mirror-mirror}
-use Rattle.narrow.specs.Searching.{Test, accepts, put, withR, withD, fixedAt, trials, startsSkipped, endsSkipped, leastStart, greatestEnd}
+use Rattle.narrow.specs.Searching.{Test, accepts, put, withR, withD, withWindow, fixedAt, fixedUpTo, trials, startsSkipped, endsSkipped, leastStart, greatestEnd}
 use Rattle.narrow.specs.Laws.{Formed}
 use Rattle.narrow.proofs.Planners.{Planner}
-use Rattle.narrow.proofs.Puts.{place-cases, put-back, fixed-formed}
+use Rattle.narrow.proofs.Puts.{place-cases, put-back, up-to-formed}
 
 -- a search for the first looks at the tests below n alone
 first-cong : (n : ℕ) (f g : ℕ → Bool) → ((i : ℕ) → i < n → f i ≡ g i) → firstBelow n f ≡ firstBelow n g
@@ -81,7 +81,7 @@ module _ (w : Windows) (k : ℕ) (place : k < w .n) where
 
   -- with k's window [s, e), in the mirror [a, b)
   put-mirror : (s e a b : ℕ) → a ≡ w .h - e → b ≡ w .h - s
-      → withWindows w (put k a (mirror w .r)) (put k b (mirror w .d)) ≡ mirror (withWindows w (put k s (w .r)) (put k e (w .d)))
+      → withWindow (mirror w) k a b ≡ mirror (withWindow w k s e)
   put-mirror s e a b from due =
       λ j.
       withWindows w
@@ -89,8 +89,8 @@ module _ (w : Windows) (k : ℕ) (place : k < w .n) where
       (fun-ext (column (w .h) (w .n) k b s e (w .r) (w .d) place due) j)
 
   -- k up to e, in the mirror from h - e on
-  pub fixed-at-mirror : (e : ℕ) → w .p k ≤ e → e ≤ w .h → fixedAt (mirror w) k (w .h - e) ≡ mirror (fixedAt w k (e - w .p k))
-  fixed-at-mirror e long in-day = put-mirror (e - w .p k) (e - w .p k + w .p k) _ _ (omega arith) (omega arith)
+  pub fixed-at-mirror : (e : ℕ) → w .p k ≤ e → e ≤ w .h → fixedAt (mirror w) k (w .h - e) ≡ mirror (fixedUpTo w k e)
+  fixed-at-mirror e long in-day = put-mirror (e - w .p k) e _ _ refl (omega arith)
 
   -- another r of k, in the mirror another d
   pub with-r-mirror : (s : ℕ) → withD (mirror w) k (w .h - s) ≡ mirror (withR w k s)
@@ -105,7 +105,7 @@ module _ (w : Windows) (formed : Formed w) (k : ℕ) (place : k < w .n) where
   trials-mirror = omega (arith, mirror-r w k place, mirror-d w k place, formed .in-day k place, formed .room k place)
 
   -- the start j minutes after the mirrored r is the mirror of the end j minutes before d
-  pub fixed-mirror : (j : ℕ) → j < trials w k → fixedAt (mirror w) k (mirror w .r k + j) ≡ mirror (fixedAt w k (w .d k - j - w .p k))
+  pub fixed-mirror : (j : ℕ) → j < trials w k → fixedAt (mirror w) k (mirror w .r k + j) ≡ mirror (fixedUpTo w k (w .d k - j))
   fixed-mirror j below =
       let due = formed .in-day k place in
       let a : mirror w .r k + j ≡ w .h - (w .d k - j) = omega (arith, mirror-r w k place) in
@@ -118,11 +118,11 @@ module _ {test : Test} (planner : Planner test) (w : Windows) (formed : Formed w
   ends-mirror = rw (trials-mirror w formed k place) (first-cong (trials w k) _ _ each)
     where
       each : (j : ℕ) → j < trials w k
-          → accepts (test (fixedAt w k (w .d k - j - w .p k))) ≡ accepts (test (fixedAt (mirror w) k (mirror w .r k + j)))
+          → accepts (test (fixedUpTo w k (w .d k - j))) ≡ accepts (test (fixedAt (mirror w) k (mirror w .r k + j)))
       each j below =
-          let s = w .d k - j - w .p k in
+          let e = w .d k - j in
           rw (fixed-mirror w formed k place j below)
-          (sym (test-mirror planner (fixedAt w k s) (fixed-formed w formed k s place (omega arith))))
+          (sym (test-mirror planner (fixedUpTo w k e) (up-to-formed w formed k e place (omega arith) (omega arith))))
 
   -- the greatest end is the least start of the mirror, mirrored
   pub end-by-mirror : greatestEnd test w k ≡ andThen (leastStart test (mirror w) k) (λ s. answered (w .h - s))

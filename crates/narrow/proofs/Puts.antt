@@ -2,14 +2,14 @@
 -- Assumes nothing.
 use mathlib.Core.Path.{_≡_, refl, sym, ap, _∙_, fun-ext}
 use mathlib.Core.Bool.{Bool, true, false, cond}
-use Prim.Native.Nat.{ℕ, _+_, _<_, _≤_}
+use Prim.Native.Nat.{ℕ, _+_, _-_, _<_, _≤_}
 use native.Mathlib.Omega.{arith}
 use borrow.Author.Tests.{eqb-true, eqb-false, eq-eqb, ne-eqb}
 use lib.Dec.{eqb}
 use Rattle.jackson.specs.Windows.{Windows, Inside, withWindows}
 use Rattle.jackson.specs.Plans.{Plan}
 use Rattle.jackson.proofs.PlanFacts.{other-windows, filled}
-use Rattle.narrow.specs.Searching.{put, withR, withD, fixedAt}
+use Rattle.narrow.specs.Searching.{put, withR, withD, withWindow, fixedAt, fixedUpTo}
 use Rattle.narrow.specs.Settling.{Consecutive}
 use Rattle.narrow.specs.Laws.{Formed}
 
@@ -47,7 +47,11 @@ put-back k f = fun-ext (λ i. put-cases k (f k) f (λ z. z ≡ f i) i (λ e. ap 
 pub put-twice : (k x y : ℕ) (f : ℕ → ℕ) → put k x (put k y f) ≡ put k x f
 put-twice k x y f = fun-ext (λ i. place-cases (λ t. cond t x (cond t y (f i)) ≡ cond t x (f i)) i k (λ _. refl) (λ _. refl))
 
--- The window [s, s + p) of entry k, and the others as they are.
+-- The window [s, s + p) of entry k, and the others as they are; [e - p, e) is one of these.
+pub fixed-up-to : (w : Windows) (k e : ℕ) → w .p k ≤ e → fixedUpTo w k e ≡ fixedAt w k (e - w .p k)
+fixed-up-to w k e long =
+    let z : e ≡ e - w .p k + w .p k = omega arith in
+    ap (withWindow w k (e - w .p k)) z
 
 module _ (w : Windows) (formed : Formed w) (k s : ℕ) (place : k < w .n) (room : s + w .p k ≤ w .d k) where
   pub fixed-formed : Formed (fixedAt w k s)
@@ -77,13 +81,16 @@ module _ (w : Windows) (formed : Formed w) (k s : ℕ) (place : k < w .n) (room 
         only = λ t below e. let z = plan .inside k t place below e in (omega (arith, a, z .0), omega (arith, b, z .1));
       }
 
--- they do not ask what r and d of k were
-module _ (w : Windows) (k x s : ℕ) where
-  pub fixed-after-r : fixedAt (withR w k x) k s ≡ fixedAt w k s
-  fixed-after-r = ap (λ (f : ℕ → ℕ). withWindows w f (put k (s + w .p k) (w .d))) (put-twice k s x (w .r))
+-- a window put in the place of k's own does not ask what r and d that had
+module _ (w : Windows) (k x s e : ℕ) where
+  pub window-after-r : withWindow (withR w k x) k s e ≡ withWindow w k s e
+  window-after-r = ap (λ (f : ℕ → ℕ). withWindows w f (put k e (w .d))) (put-twice k s x (w .r))
 
-  pub fixed-after-d : fixedAt (withD w k x) k s ≡ fixedAt w k s
-  fixed-after-d = ap (λ (f : ℕ → ℕ). withWindows w (put k s (w .r)) f) (put-twice k (s + w .p k) x (w .d))
+  pub window-after-d : withWindow (withD w k x) k s e ≡ withWindow w k s e
+  window-after-d = ap (λ (f : ℕ → ℕ). withWindows w (put k s (w .r)) f) (put-twice k e x (w .d))
+
+pub up-to-formed : (w : Windows) → Formed w → (k e : ℕ) → k < w .n → w .p k ≤ e → e ≤ w .d k → Formed (fixedUpTo w k e)
+up-to-formed w formed k e place long due = rw (fixed-up-to w k e long) (fixed-formed w formed k (e - w .p k) place (omega arith))
 
 -- they lie inside w, if [s, s + p) lies in the window of k
 pub fixed-inside : (w : Windows) (k s : ℕ) → w .r k ≤ s → s + w .p k ≤ w .d k → Inside (fixedAt w k s) w

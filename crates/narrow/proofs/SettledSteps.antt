@@ -13,13 +13,13 @@ use Rattle.jackson.specs.Plans.{Plan}
 use Rattle.jackson.specs.Existence.{Plannable}
 use Rattle.jackson.proofs.Sums.{le-or-lt}
 use Rattle.jackson.proofs.PlanFacts.{widen, plan-room}
-use Rattle.narrow.specs.Searching.{Test, accepts, put, withR, withD, fixedAt, leastStart, greatestEnd, SearchLaw}
+use Rattle.narrow.specs.Searching.{Test, accepts, put, withR, withD, fixedAt, fixedUpTo, leastStart, greatestEnd, SearchLaw}
 use Rattle.narrow.specs.Settling.{Consecutive, SettledInside, NoneSettled}
 use Rattle.narrow.specs.Rounds.{Side, earliest, latest, step, Narrowed, narrowSide, visit, visits, round, rounds}
 use Rattle.narrow.specs.StepLists.{Step, NamesWhole, leftBy, stepsLeave, someRefused}
 use Rattle.narrow.specs.Laws.{Formed}
 use Rattle.narrow.proofs.Keeping.{Keeps, step-keeps, keeps-same, keeps-n, keeps-trans, step-refused}
-use Rattle.narrow.proofs.Puts.{put-same, put-under, put-over, consecutive-fixed}
+use Rattle.narrow.proofs.Puts.{put-same, put-under, put-over, fixed-up-to, consecutive-fixed}
 
 -- One step.
 
@@ -82,10 +82,10 @@ module _ (whole : ℕ → Bool) (w : Windows) (formed : Formed w) (r d : ℕ →
             }
     step-settled latest = answers (greatestEnd test w k) (withD w k) never (λ s e. kept s (after s e))
       where
-        here : Plannable (fixedAt w k (d k - w .p k))
+        here : Plannable (fixedUpTo w k (d k))
         here =
             let e : (d k - w .p k) + w .p k ≡ d k = omega (arith, settled-room) in
-            fixed-plan (d k - w .p k) (rw e (set .settled .up-to-d k place is-whole))
+            rw (fixed-up-to w k (d k) (omega (arith, settled-room))) (fixed-plan (d k - w .p k) (rw e (set .settled .up-to-d k place is-whole)))
 
         never : (x : Code) → greatestEnd test w k ≡ refused x → ⊥
         never x e =
@@ -128,12 +128,11 @@ step-plannable test w k law latest v q =
     let z = end-found test k w v q in
     let e = v .d k in
     let is = law .end-is e .0 (z .0) in
-    let full : (e - w .p k) + w .p k ≡ e = omega (arith, is .room) in
     rw (z .1)
-    (plannable-widen (withD w k e) (put k (e - w .p k) (w .r)) (put k (e - w .p k + w .p k) (w .d))
+    (plannable-widen (withD w k e) (put k (e - w .p k) (w .r)) (put k e (w .d))
     (record {
       r = λ i _. put-over k (e - w .p k) (w .r) i _ (λ q. omega (arith, ap (w .r) q, is .room)) (omega arith);
-      d = λ i _. rw full (omega arith);
+      d = λ i _. omega arith;
     })
     (is .plan))
 

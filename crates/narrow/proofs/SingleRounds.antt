@@ -1,13 +1,13 @@
 -- A round from windows with moves made before it is the round without them, its moves added. So rounds may be made one by one.
 -- Assumes nothing.
-use mathlib.Core.Path.{_≡_, refl, sym, ap, _∙_}
+use mathlib.Core.Path.{_≡_, refl, ap, _∙_}
 use mathlib.Core.Bool.{Bool, true, false, cond}
 use Prim.Native.Nat.{ℕ, zero, suc, _+_}
 use native.Mathlib.Omega.{arith}
-use Rattle.list.specs.Outcomes.{Code, Outcome, answered, refused, andThen}
+use Rattle.list.specs.Outcomes.{Outcome, answered, refused, andThen}
 use Rattle.jackson.specs.Windows.{Windows}
 use Rattle.narrow.specs.Searching.{Test}
-use Rattle.narrow.specs.Rounds.{Side, earliest, latest, step, Narrowed, unmoved, movesOf, narrowSide, visit, visits, round, Rounds}
+use Rattle.narrow.specs.Rounds.{Side, earliest, latest, step, Narrowed, unmoved, movesOf, narrowSide, visit, visits, round}
 
 -- with m moves made before
 abbrev pub after : ℕ → Narrowed → Narrowed

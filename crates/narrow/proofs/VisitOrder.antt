@@ -10,7 +10,7 @@ use Rattle.narrow.specs.Searching.{Test, put, withR, withD, leastStart, 
 use Rattle.narrow.specs.Rounds.{earliest, latest, Narrowed, movesOf, narrowSide}
 use Rattle.narrow.specs.Laws.{Formed}
 use Rattle.narrow.proofs.Planners.{Planner}
-use Rattle.narrow.proofs.Puts.{put-same, fixed-after-r, fixed-after-d}
+use Rattle.narrow.proofs.Puts.{put-same, fixed-up-to, window-after-r, window-after-d}
 use Rattle.narrow.proofs.Keeping.{keeps-r, keeps-d}
 use Rattle.narrow.proofs.Costs.{moved-same}
 use Rattle.narrow.proofs.Exact.{Searched, start-searched, end-searched, search-law}
@@ -27,7 +27,7 @@ module _ (w : Windows) (k s : ℕ) (start : IsLeastStart w k s) where
     after-least : s + w .p k ≤ e
     after-least =
         let room = end .room in
-        le-or-lt s (e - w .p k) (λ l. omega arith) (λ l. absurd (start .least (e - w .p k) (omega arith) l (end .plan)))
+        le-or-lt s (e - w .p k) (λ l. omega arith) (λ l. absurd (start .least (e - w .p k) (omega arith) l (rw (fixed-up-to w k e (omega arith)) at (end .plan))))
 
     -- so each search finds the same after the other
     end-after : IsGreatestEnd (withR w k s) k e
@@ -35,8 +35,8 @@ module _ (w : Windows) (k s : ℕ) (start : IsLeastStart w k s) where
         record {
           to-d = end .to-d;
           room = rw (put-same k s (w .r)) after-least;
-          plan = rw (fixed-after-r w k s (e - w .p k)) (end .plan);
-          greatest = λ x more l. rw (fixed-after-r w k s (x - w .p k)) (end .greatest x more l);
+          plan = rw (window-after-r w k s (e - w .p k) e) (end .plan);
+          greatest = λ x more l. rw (window-after-r w k s (x - w .p k) x) (end .greatest x more l);
         }
 
     start-after : IsLeastStart (withD w k e) k s
@@ -44,15 +44,15 @@ module _ (w : Windows) (k s : ℕ) (start : IsLeastStart w k s) where
         record {
           from-r = start .from-r;
           room = rw (put-same k e (w .d)) after-least;
-          plan = rw (fixed-after-d w k e s) (start .plan);
-          least = λ x from l. rw (fixed-after-d w k e x) (start .least x from l);
+          plan = rw (window-after-d w k e s (s + w .p k)) (start .plan);
+          least = λ x from l. rw (window-after-d w k e x (x + w .p k)) (start .least x from l);
         }
 
 -- and where there is an end there is a start
 end-starts : (w : Windows) (k e : ℕ) → IsGreatestEnd w k e → NoStart w k → ⊥
 end-starts w k e end none =
     let room = end .room in
-    none (e - w .p k) (omega arith) (omega (arith, end .to-d)) (end .plan)
+    none (e - w .p k) (omega arith) (omega (arith, end .to-d)) (rw (fixed-up-to w k e (omega arith)) at (end .plan))
 
 -- the windows that a search leaves, and the moves then
 abbrev pub counted : ℕ → Narrowed → Windows → Narrowed

@@ -29,9 +29,17 @@ withR w k s = withWindows w (put k s (w .r)) (w .d)
 abbrev pub withD : Windows → ℕ → ℕ → Windows
 withD w k e = withWindows w (w .r) (put k e (w .d))
 
+-- the windows with [s, e) as that of entry k
+abbrev pub withWindow : Windows → ℕ → ℕ → ℕ → Windows
+withWindow w k s e = withWindows w (put k s (w .r)) (put k e (w .d))
+
 -- the windows "when its window is [s, s + p) and the others keep theirs"
 abbrev pub fixedAt : Windows → ℕ → ℕ → Windows
-fixedAt w k s = withWindows w (put k s (w .r)) (put k (s + w .p k) (w .d))
+fixedAt w k s = withWindow w k s (s + w .p k)
+
+-- the windows "when its window is [e - p, e) and the others keep theirs"
+abbrev pub fixedUpTo : Windows → ℕ → ℕ → Windows
+fixedUpTo w k e = withWindow w k (e - w .p k) e
 
 -- how many starts s, from its r up, have s + p at most its d; as many ends e, from its d down, have r + p at most e
 abbrev pub trials : Windows → ℕ → ℕ
@@ -43,7 +51,7 @@ startsSkipped test w k = firstBelow (trials w k) (λ j. accepts (test (fixedAt w
 
 -- "a plan exists when its window is [e - p, e)": how many ends before the first that has one have none, or the number of trials
 unfoldable pub endsSkipped : Test → Windows → ℕ → ℕ
-endsSkipped test w k = firstBelow (trials w k) (λ j. accepts (test (fixedAt w k (w .d k - j - w .p k))))
+endsSkipped test w k = firstBelow (trials w k) (λ j. accepts (test (fixedUpTo w k (w .d k - j))))
 
 -- "its r becomes the least s ..; or the list is refused", by row 10, which carries the place
 unfoldable pub leastStart : Test → Windows → ℕ → Outcome ℕ
@@ -74,11 +82,11 @@ NoStart w k = (s : ℕ) → w .r k ≤ s → s + w .p k ≤ w .d k → Plannable
 pub record IsGreatestEnd (w : Windows) (k e : ℕ) : Type 0 where
   pub to-d : e ≤ w .d k
   pub room : w .r k + w .p k ≤ e
-  pub plan : Plannable (fixedAt w k (e - w .p k))
-  pub greatest : (x : ℕ) → e < x → x ≤ w .d k → Plannable (fixedAt w k (x - w .p k)) → ⊥
+  pub plan : Plannable (fixedUpTo w k e)
+  pub greatest : (x : ℕ) → e < x → x ≤ w .d k → Plannable (fixedUpTo w k x) → ⊥
 
 abbrev pub NoEnd : Windows → ℕ → Type 0
-NoEnd w k = (e : ℕ) → e ≤ w .d k → w .r k + w .p k ≤ e → Plannable (fixedAt w k (e - w .p k)) → ⊥
+NoEnd w k = (e : ℕ) → e ≤ w .d k → w .r k + w .p k ≤ e → Plannable (fixedUpTo w k e) → ⊥
 
 -- a search answers the minute exactly when it is the one, and refuses exactly when there is none
 pub record SearchLaw (test : Test) (w : Windows) (k : ℕ) : Type 0 where
