@@ -26,6 +26,7 @@ abbrev pub isWhole : Kind → Bool
 isWhole Pause = false
 isWhole Whole = true
 
+-- whether the entry at a place of the list is whole
 abbrev pub wholeIn : DayList → ℕ → Bool
 wholeIn l i = isWhole (getD (entriesOf l) i blank .kind)
 
@@ -57,7 +58,7 @@ listWith l w = dayList (l .frame) (entriesWith w 0 (entriesOf l))
 unfoldable pub settleOf : DayList → Outcome Narrowed
 settleOf l = andThen (checkOf l) (λ _. narrowing overloadOf (wholeIn l) (windowsOf l))
 
--- one round: the value check, then the round and row 10
+-- one round: the value check, then the round and row 10. Row 9 is not tested: the windows may have no plan.
 unfoldable pub roundOf : DayList → Outcome Narrowed
 roundOf l = andThen (checkOf l) (λ _. round overloadOf (wholeIn l) (unmoved (windowsOf l)))
 

@@ -14,7 +14,8 @@ use Rattle.narrow.specs.Settling.{SettledInside, NoneSettled, Widest, Un
 use Rattle.narrow.specs.Rounds.{Narrowed, unmoved, Rounds, slack}
 use Rattle.narrow.specs.StepLists.{Step, NamesWhole, stepsLeave, someRefused, Completes}
 
--- windows as the value check lets them through: at most 255 entries, each of which needs a minute and has room in the day
+-- what the laws ask of windows, and those of a list that passes the value check have (it has at most 64 entries): at most 255 entries, as a
+-- byte names no more, each of which needs a minute and has room in the day
 pub record Formed (w : Windows) : Type 0 where
   pub few : w .n ≤ 255
   pub minutes : (i : ℕ) → i < w .n → 1 ≤ w .p i

@@ -31,6 +31,7 @@ unmoved w = record { windows = w; moves = 0 }
 abbrev pub moved : ℕ → ℕ → ℕ
 moved before after = cond (eqb before after) 0 1
 
+-- the moves that a change of entry k from w to v makes
 abbrev pub movesOf : ℕ → Windows → Windows → ℕ
 movesOf k w v = moved (w .r k) (v .r k) + moved (w .d k) (v .d k)
 
@@ -49,6 +50,7 @@ unfoldable pub visits : Test → (ℕ → Bool) → ℕ → Narrowed → Outcome
 visits test whole zero s = answered s
 visits test whole (suc k) s = andThen (visits test whole k s) (visit test whole k)
 
+-- one round: a visit to each place
 abbrev pub round : Test → (ℕ → Bool) → Narrowed → Outcome Narrowed
 round test whole s = visits test whole (s .windows .n) s
 
@@ -64,7 +66,7 @@ rounds test whole zero s = answered s
 rounds test whole (suc fuel) s =
     andThen (round test whole s) (λ v. cond (eqb (v .moves) (s .moves)) (answered v) (rounds test whole fuel v))
 
--- the minutes that can still be cut; each round but the last cuts one, so that one round more is enough
+-- the minutes that can still be cut; each round but the last cuts at least one, so that one round more is enough
 abbrev pub slack : (ℕ → Bool) → Windows → ℕ
 slack whole w = sum (w .n) (λ i. cond (whole i) (w .d i - (w .r i + w .p i)) 0)
 

@@ -10,10 +10,11 @@ use Rattle.jackson.specs.Counting.{firstBelow}
 use Rattle.jackson.specs.Windows.{Windows, withWindows}
 use Rattle.jackson.specs.Existence.{Plannable}
 
--- a planner's test of windows: narrowing asks only whether it accepts them
+-- a planner's test of windows: searches ask only whether it accepts them; of the windows given its refusal is handed on
 abbrev pub Test : Type 0
 Test = Windows → Outcome (Unit {0})
 
+-- whether an outcome is no refusal
 abbrev pub accepts : {A : Type 0} → Outcome A → Bool
 accepts (answered a) = true
 accepts (refused k) = false

@@ -24,7 +24,7 @@ pub record SettledInside (whole : ℕ → Bool) (w : Windows) (r d : ℕ → ℕ
   pub inside : Inside (withWindows w r d) w
   pub settled : Settled whole (withWindows w r d)
 
--- none is, of all sets of windows
+-- no set of windows is settled and lies inside w
 abbrev pub NoneSettled : (ℕ → Bool) → Windows → Type 0
 NoneSettled whole w = (r d : ℕ → ℕ) → SettledInside whole w r d → ⊥
 

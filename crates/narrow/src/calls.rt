@@ -89,7 +89,7 @@ pub fn settle(list: DayList) -> NarrowAnswer
     answer_with(list, all_rounds(list, windows))
 }
 
-// Makes one round of a list from its windows as given: the value check, then the round and row 10.
+// Makes one round of a list from its windows as given: the value check, then the round and row 10. Row 9 is not tested.
 pub fn round(list: DayList) -> NarrowAnswer
     ensures { λ a. ⌜ MakesRound list a ⌝ }
 {
