@@ -1,18 +1,25 @@
+-- What narrowing asks of a planner's test, and that the overload test is one.
 pub mod Planners
+pub mod OverloadPlanner
+-- Windows with one value changed, the mirror, what steps keep, what moves cost, and that rounds end.
 mod Puts
-mod MirrorSearches
-mod Keeping
-mod Costs
+pub mod MirrorSearches
+pub mod Keeping
+pub mod Costs
 mod RoundsEnd
+-- Searches are exact, settled sets stay inside, and the law of narrowing. The crates above are to cite NarrowLaws.
 mod Exact
 mod SettledSteps
 mod Fixpoints
 mod UnbrokenPlans
 pub mod NarrowLaws
-pub mod VisitOrder
+pub mod OneOutcome
+-- Narrowing in the mirror, single rounds, and lists that are narrowed alike.
+mod VisitOrder
 pub mod MirrorRounds
-pub mod OverloadPlanner
+pub mod SingleRounds
 pub mod Alike
+-- What the code's proofs cite, case by case.
 mod ArrayCases
 mod SearchCases
 mod EndCases
@@ -20,4 +27,3 @@ mod RoundCases
 mod VisitCases
 mod ListCases
 mod CallCases
-pub mod SingleRounds
