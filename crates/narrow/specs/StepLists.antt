@@ -40,8 +40,7 @@ someRefused test (s ∷ ss) w =
 abbrev pub NothingLeft : Test → (ℕ → Bool) → Windows → Type 0
 NothingLeft test whole w = (k : ℕ) (side : Side) → k < w .n → whole k ≡ true → step test side k w ≡ answered w
 
--- a list of steps from w of which none is refused and after which nothing is left to do
+-- a list of steps from w after which nothing is left to do; that then none of them was refused is part of the law (`refused-once`)
 pub record Completes (test : Test) (whole : ℕ → Bool) (w : Windows) (ss : List Step) : Type 0 where
   pub names : NamesWhole whole (w .n) ss
-  pub none-refused : someRefused test ss w ≡ false
   pub nothing-left : NothingLeft test whole (stepsLeave test ss w)
