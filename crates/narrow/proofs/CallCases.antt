@@ -46,7 +46,7 @@ module _ (l : DayList) (formed : WellFormed l) where
       }
 
   -- the law of narrowing holds of them
-  pub settle-law : NarrowLaw overloadOf (wholeIn l) (windowsOf l) (settleOf l)
+  settle-law : NarrowLaw overloadOf (wholeIn l) (windowsOf l) (settleOf l)
   unfolding settleOf
   settle-law = rw formed (narrow-law overload-planner (wholeIn l) (windowsOf l) list-formed)
 

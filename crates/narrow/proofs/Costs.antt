@@ -41,7 +41,7 @@ cut-trans {u} {v} {w} a b = rw (keeps-n a) (omega (arith, sum-add (u .n) (cut u 
         let below : i < v .n = omega (arith, keeps-n a) in
         omega (arith, a .inside .r i place, a .inside .d i place, b .inside .r i below, b .inside .d i below)
 
-pub costs-trans : {whole : ℕ → Bool} {u v w : Narrowed} → Costs whole u v → Costs whole v w → Costs whole u w
+costs-trans : {whole : ℕ → Bool} {u v w : Narrowed} → Costs whole u v → Costs whole v w → Costs whole u w
 costs-trans a b =
     record {
       keeps = keeps-trans (a .keeps) (b .keeps);
@@ -164,9 +164,6 @@ module _ (test : Test) (whole : ℕ → Bool) (s : Narrowed) (formed : Formed (s
   pub side-cost : (side : Side) (k : ℕ) → k < s .windows .n → whole k ≡ true → (v : Narrowed) → narrowSide test side k s ≡ answered v → Costs whole s v
   side-cost side k place is v e = rw e at (side-says test whole k side s formed place is)
 
-  pub visit-cost : (k : ℕ) → k < s .windows .n → (v : Narrowed) → visit test whole k s ≡ answered v → Costs whole s v
-  visit-cost k place v e = rw e at (visit-says test whole k s formed place)
-
   pub visits-cost : (k : ℕ) → k ≤ s .windows .n → (v : Narrowed) → visits test whole k s ≡ answered v → Costs whole s v
   visits-cost k below v e = rw e at (visits-says test whole s formed k below)
 
@@ -179,5 +176,3 @@ module _ (test : Test) (whole : ℕ → Bool) (s : Narrowed) (formed : Formed (s
   pub rounds-cost : (fuel : ℕ) (v : Narrowed) → rounds test whole fuel s ≡ answered v → Costs whole s v
   rounds-cost fuel v e = rw e at (rounds-says test whole fuel s formed)
 
-  pub rounds-refused : (fuel : ℕ) (x : Code) → rounds test whole fuel s ≡ refused x → WholeRefused whole (s .windows .n) x
-  rounds-refused fuel x e = rw e at (rounds-says test whole fuel s formed)

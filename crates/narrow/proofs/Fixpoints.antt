@@ -31,7 +31,7 @@ module _ (test : Test) (whole : ℕ → Bool) (w : Windows) (formed : Formed w) 
       (z .0, widen w _ _ (z .0) (fixed-inside w k s from room) (z .1), rw full at (fixed-consecutive w formed k s place room (z .0) (z .1)))
 
   -- the searches answer r and d as they are, so there are plans with consecutive minutes from r on and up to d
-  pub nothing-settled : Plannable w → NothingLeft test whole w → Settled whole w
+  nothing-settled : Plannable w → NothingLeft test whole w → Settled whole w
   nothing-settled planned nothing =
       record {
         plan = planned;
@@ -150,7 +150,7 @@ module _ (test : Test) (whole : ℕ → Bool) where
       (visit-still k)
 
   -- a round without moves leaves the windows as they were, and nothing to do
-  pub round-still : (s v : Narrowed) → round test whole s ≡ answered v → v .moves ≡ s .moves → (v ≡ s) × NothingLeft test whole (v .windows)
+  round-still : (s v : Narrowed) → round test whole s ≡ answered v → v .moves ≡ s .moves → (v ≡ s) × NothingLeft test whole (v .windows)
   round-still s v e none =
       let z = (rw e at (visits-still (s .windows .n) s)) .same none in
       (z .0, rw (z .0) (λ k side place q. z .1 k place side q))

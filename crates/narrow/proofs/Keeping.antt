@@ -98,7 +98,7 @@ module _ (test : Test) (w : Windows) (k : ℕ) where
       by-row (StartTried w k) (RefusedAt k) (eqb j (trials w k)) _ (answered (w .r k + j)) (λ _. refl)
       (λ e. let z = eqb-false j (trials w k) e in (omega arith, omega arith))
 
-  pub end-says : Says (EndTried w k) (RefusedAt k) (greatestEnd test w k)
+  end-says : Says (EndTried w k) (RefusedAt k) (greatestEnd test w k)
   unfolding endsSkipped greatestEnd
   end-says =
       let j = endsSkipped test w k in

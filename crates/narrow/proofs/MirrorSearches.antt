@@ -63,7 +63,7 @@ module _ (w : Windows) (formed : Formed w) where
   mirror-plannable plan = rw mirror-back at (plannable-mirror (mirror w) plan)
 
 -- and a planner's test accepts the mirror exactly when it accepts them
-pub test-mirror : {test : Test} → Planner test → (w : Windows) → Formed w → accepts (test (mirror w)) ≡ accepts (test w)
+test-mirror : {test : Test} → Planner test → (w : Windows) → Formed w → accepts (test (mirror w)) ≡ accepts (test w)
 test-mirror {test} planner w formed =
     let here = planner .exact w formed in
     let there = planner .exact (mirror w) (formed-mirror w formed) in
@@ -105,7 +105,7 @@ module _ (w : Windows) (formed : Formed w) (k : ℕ) (place : k < w .n) where
   trials-mirror = omega (arith, mirror-r w k place, mirror-d w k place, formed .in-day k place, formed .room k place)
 
   -- the start j minutes after the mirrored r is the mirror of the end j minutes before d
-  pub fixed-mirror : (j : ℕ) → j < trials w k → fixedAt (mirror w) k (mirror w .r k + j) ≡ mirror (fixedUpTo w k (w .d k - j))
+  fixed-mirror : (j : ℕ) → j < trials w k → fixedAt (mirror w) k (mirror w .r k + j) ≡ mirror (fixedUpTo w k (w .d k - j))
   fixed-mirror j below =
       let due = formed .in-day k place in
       let a : mirror w .r k + j ≡ w .h - (w .d k - j) = omega (arith, mirror-r w k place) in
@@ -113,7 +113,7 @@ module _ (w : Windows) (formed : Formed w) (k : ℕ) (place : k < w .n) where
 
 module _ {test : Test} (planner : Planner test) (w : Windows) (formed : Formed w) (k : ℕ) (place : k < w .n) where
   -- as many ends are skipped as starts in the mirror
-  pub ends-mirror : endsSkipped test w k ≡ startsSkipped test (mirror w) k
+  ends-mirror : endsSkipped test w k ≡ startsSkipped test (mirror w) k
   unfolding startsSkipped endsSkipped
   ends-mirror = rw (trials-mirror w formed k place) (first-cong (trials w k) _ _ each)
     where

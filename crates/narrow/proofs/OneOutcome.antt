@@ -5,11 +5,11 @@ use mathlib.Core.Logic.{inl, inr}
 use mathlib.Core.Bool.{Bool}
 use mathlib.Core.List.{[], _∷_}
 use Prim.Native.Nat.{ℕ}
-use native.Mathlib.Omega.{arith}
 use Rattle.list.specs.Outcomes.{Code, code, Outcome, answered, refused}
 use Rattle.jackson.specs.Windows.{Windows}
-use Rattle.jackson.specs.Intervals.{work, Shown, ShowsOverload}
+use Rattle.jackson.specs.Intervals.{work, ShowsOverload}
 use Rattle.jackson.specs.Existence.{Plannable}
+use Rattle.jackson.proofs.ShownInterval.{shown-one}
 use Rattle.narrow.specs.Searching.{Test}
 use Rattle.narrow.specs.Settling.{Widest}
 use Rattle.narrow.specs.Rounds.{Narrowed}
@@ -18,21 +18,11 @@ use Rattle.narrow.proofs.RoundsEnd.{rounds-unique}
 use Rattle.narrow.proofs.SettledSteps.{plannable-widen}
 use Rattle.narrow.proofs.Fixpoints.{widest-set}
 
--- one interval is shown
-shown-one : (w : Windows) (k x : Code) → ShowsOverload w k → ShowsOverload w x → k ≡ x
-shown-one w k x s t = s .carries ∙ (λ i. code 9 (a i ∷ b i ∷ work w (a i) (b i) ∷ [])) ∙ sym (t .carries)
-  where
-    b : s .b ≡ t .b
-    b =
-        let up = s .shown .smallest (t .a) (t .b) (t .shown .overloaded) in
-        let down = t .shown .smallest (s .a) (s .b) (s .shown .overloaded) in
-        omega arith
-
-    a : s .a ≡ t .a
-    a =
-        let up = s .shown .largest (t .a) (rw b (t .shown .overloaded)) in
-        let down = t .shown .largest (s .a) (rw b at (s .shown .overloaded)) in
-        omega arith
+-- row 9 carries one thing
+shows-one : (w : Windows) (k x : Code) → ShowsOverload w k → ShowsOverload w x → k ≡ x
+shows-one w k x s t =
+    let one = shown-one w (s .a) (s .b) (t .a) (t .b) (s .shown) (t .shown) in
+    s .carries ∙ (λ i. code 9 (one .0 i ∷ one .1 i ∷ work w (one .0 i) (one .1 i) ∷ [])) ∙ sym (t .carries)
 
 -- where windows are answered, a plan exists
 answered-planned : (whole : ℕ → Bool) (w : Windows) (v : Narrowed) → Widest whole w (v .windows) → Plannable w
@@ -61,4 +51,4 @@ module _ {test : Test} {whole : ℕ → Bool} {w : Windows} where
       (λ k e shows none.
       by-plan u b
       (λ planned. absurd (none planned))
-      (λ x f show _. e ∙ ap refused (shown-one w k x shows show) ∙ sym f))
+      (λ x f show _. e ∙ ap refused (shows-one w k x shows show) ∙ sym f))

@@ -138,19 +138,6 @@ step-plannable test w k law latest v q =
 
 -- From the windows given to those left.
 
--- a set that lies inside what is left lies inside what was given
-pub inside-before : {whole : ℕ → Bool} {w v : Windows} → Keeps w v → (r d : ℕ → ℕ) → SettledInside whole v r d → SettledInside whole w r d
-inside-before {whole} {w} {v} keeps r d set =
-    let e : withWindows v r d ≡ withWindows w r d = ap (λ (u : Windows). withWindows u r d) (keeps .entries) in
-    record {
-      inside =
-          record {
-            r = λ i below. omega (arith, keeps .inside .r i below, set .inside .r i (rw (keeps-n keeps) below));
-            d = λ i below. omega (arith, keeps .inside .d i below, set .inside .d i (rw (keeps-n keeps) below));
-          };
-      settled = rw e at (set .settled);
-    }
-
 -- what steps do to windows
 pub record Narrows (whole : ℕ → Bool) (w v : Windows) : Type 0 where
   pub keeps : Keeps w v
