@@ -1,5 +1,5 @@
-//! Days of nested whole entries that are settled one by one, each round by round: document 01's example (a)
-//! is the one with two entries of two minutes.
+//! Days of nested whole entries of which each round settles one: document 01's example (a) is the one with
+//! two entries of two minutes.
 
 use crate::day::Day;
 use crate::samples;
@@ -13,9 +13,9 @@ struct Chain {
     window: (u16, u16),
 }
 
-/// The outermost entry may have any minutes of the day. All others end a minute earlier: they leave no p
-/// minutes free before that, so it comes to the day's right end. Then the second outermost comes to the left
-/// end of what is left, as all others begin a minute later; and so on.
+/// The outermost entry may have any minutes of the day. All others end a minute before it and leave p - 1
+/// minutes free until then, one too few, so it comes to the right end. Then the second outermost comes to the
+/// left end of what is left in the same way, as all inside it begin a minute later; and so on.
 fn chain(h: u16, n: usize, p: u16) -> Chain {
     let mut chain = Chain { entries: vec![], settled: vec![], free: (0, h), window: (0, h) };
     for turn in 0..n {
@@ -47,9 +47,9 @@ pub fn settled_one_by_one(n: usize, p: u16) -> (Day, Day) {
     (day(&entries), day(&settled))
 }
 
-/// A day of `n` entries of which `n - 2` make a chain around the last three minutes. The middle one of these
-/// is taken by a pause entry, place 1, so that the innermost whole entry, place 0, which needs two, has no
-/// minutes when all others are settled. Rounds come to see this one by one, from the outermost in.
+/// A day of `n` entries of which `n - 2` make a chain around three minutes. The middle one of these is taken
+/// by a pause entry, place 1, so that the innermost whole entry, place 0, which needs two, has none when the
+/// chain is settled. Each round settles one entry of the chain, until the last of them, place 2, is refused.
 pub fn refused_in_the_end(n: usize) -> Day {
     let h = 2 * (n as u16 - 2) + 3;
     let Chain { mut entries, free, window, .. } = chain(h, n - 2, 2);

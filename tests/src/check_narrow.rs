@@ -17,6 +17,7 @@ fn wanted(expected: &Result<Narrowed, Refusal>) -> (Answer, Fields) {
     }
 }
 
+/// Answer and fields of a call are those that are wanted.
 #[track_caller]
 fn alike(given: &Fields, found: (Answer, Fields), wanted: (Answer, Fields)) {
     assert_eq!(found.0, wanted.0, "answer to {:?}", &given[..]);
@@ -100,8 +101,8 @@ pub fn settled_by_rounds(fields: &Fields) -> Vec<(Fields, u64)> {
     rounds
 }
 
-/// Rounds of the library, each by a call of its own, leave these windows with these moves, in short, before
-/// one without moves or a refusal ends them.
+/// Rounds of the library, each by a call of its own, leave these windows, in short, with these moves: all
+/// rounds up to the one without moves, or all before a refusal.
 #[track_caller]
 pub fn rounds_leave(day: &Day, wanted: &[(&str, u64)]) {
     let rounds = settled_by_rounds(&flat::of_day(day));

@@ -45,6 +45,22 @@ fn full_tight_days() {
     assert!(all > 500, "{all} moves");
 }
 
+/// Between small days and full ones.
+#[test]
+fn large_days_of_any_size() {
+    let mut random = Random::new(129);
+    let mut moved = 0;
+    for turn in 0..30 {
+        let h = random.within(100, LONGEST_DAY);
+        let n = 8 + random.below(MOST_ENTRIES - 7);
+        let slack = random.within(1, h / 10);
+        let mut day = random::unbroken_day(&mut random, h, n, turn % 3 == 0, slack);
+        day.entries.iter_mut().for_each(|entry| entry.whole = !random.once_in(5));
+        moved += usize::from(settled(&day).1 > 0);
+    }
+    assert!(moved > 15, "{moved} days with moves");
+}
+
 /// "each whole entry has such a plan with its minutes consecutive from its r on, and one with them
 /// consecutive up to its d": the library itself plans these.
 #[test]

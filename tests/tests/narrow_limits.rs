@@ -157,14 +157,14 @@ fn sixty_five_rounds() {
     assert!(rounds[62].0 != flat::of_day(&wanted), "two rounds before");
 }
 
-/// The same with minutes that the innermost entry cannot have: 61 rounds are made before the refusal.
+/// The same around minutes that the innermost entry cannot have: with 64 entries 61 rounds come before the
+/// refusal.
 #[test]
 fn ten_in_round_sixty_two() {
     for n in [4, 5, 6, 20, MOST_ENTRIES] {
-        let day = chains::refused_in_the_end(n);
-        assert_eq!(no_place(&day), 2, "{n} entries");
-        let rounds = settled_by_rounds(&flat::of_day(&day));
-        assert_eq!(rounds.len(), n - 3, "rounds before the refusal of {n} entries");
+        let fields = flat::of_day(&chains::refused_in_the_end(n));
+        not_settled(&fields, 10, 2);
+        assert_eq!(settled_by_rounds(&fields).len(), n - 3, "rounds before the refusal of {n} entries");
     }
 }
 
@@ -184,7 +184,9 @@ fn pause_entries_alone() {
             Ok(narrowed) => assert_eq!((&narrowed.day, narrowed.moves), (&day, 0)),
             Err(refusal) => assert_eq!(refusal.code().0, 9, "{day:?}"),
         }
-        assert!(abi::round(&fields).1 == fields, "one round, with a plan or without one, of {day:?}");
+        let (answer, narrowed) = abi::round(&fields);
+        assert_eq!((answer.number, answer.values), (0, [0, 0, 0]), "one round of {day:?}");
+        assert!(narrowed == fields, "one round, with a plan or without one, of {day:?}");
     }
 }
 
