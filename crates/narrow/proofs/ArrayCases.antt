@@ -14,7 +14,7 @@ use Rattle.jackson.specs.Mirrors.{mirror}
 use Rattle.jackson.specs.declared.types.WindowSet.{WindowSet}
 use Rattle.jackson.proofs.Sums.{le-or-lt, same-cases}
 use Rattle.narrow.specs.Searching.{put, withR, withD, fixedAt}
-use Rattle.narrow.specs.Parts.{Turned}
+use Rattle.narrow.specs.Parts.{MirroredSide}
 
 -- an array in which one number was stored
 pub set-put : (xs : List ℕ) (k x : ℕ) → k < length xs → (i : ℕ) → getD (set xs k x) i 0 ≡ put k x (λ j. getD xs j 0) i
@@ -49,25 +49,25 @@ module _ (s : WindowSet) where
     held-fixed h l = held (set (s .r) k x) (set (s .d) k (x + getD (s .p) k 0)) _ _ (set-put (s .r) k x h) (set-put (s .d) k _ l)
 
   -- both sides turned
-  pub held-mirror : (count : ℕ) → count ≡ min (s .n) 64 → (r d : List ℕ) → Turned (s .h) count (s .r) (s .d) r → Turned (s .h) count (s .d) (s .r) d
+  pub held-mirror : (count : ℕ) → count ≡ min (s .n) 64 → (r d : List ℕ) → MirroredSide (s .h) count (s .r) (s .d) r → MirroredSide (s .h) count (s .d) (s .r) d
       → columns (s .h) (min (s .n) 64) r d (s .p) ≡ mirror (windowsIn s)
   held-mirror count e r d a b = held r d _ _ (rw e at a) (rw e at b)
 
 -- the first i entries are turned
-pub record Turning (h count : ℕ) (side other xs : List ℕ) (i : ℕ) : Type 0 where
+pub record MirroredSoFar (h count : ℕ) (side other xs : List ℕ) (i : ℕ) : Type 0 where
   pub held : count ≤ 64
   pub passed : i ≤ count
   pub long : length xs ≡ 64
-  pub is : Turned h i side other xs
+  pub is : MirroredSide h i side other xs
 
 module _ (h count : ℕ) (side other : List ℕ) where
-  pub turn-start : count ≤ 64 → length side ≡ 64 → Turning h count side other side 0
-  turn-start few long =
+  pub side-start : count ≤ 64 → length side ≡ 64 → MirroredSoFar h count side other side 0
+  side-start few long =
       record { held = few; passed = omega arith; long = long; is = λ j. let z : ltb j 0 ≡ _ = le-ltb j 0 (omega arith) in rw z }
 
-  pub turn-next : (xs : List ℕ) (i x : ℕ) → Turning h count side other xs i → i < count → x ≡ h - getD other i 0
-      → Turning h count side other (set xs i x) (i + 1)
-  turn-next xs i x so l e =
+  pub side-next : (xs : List ℕ) (i x : ℕ) → MirroredSoFar h count side other xs i → i < count → x ≡ h - getD other i 0
+      → MirroredSoFar h count side other (set xs i x) (i + 1)
+  side-next xs i x so l e =
       record {
         held = so .held;
         passed = omega (arith, l);
@@ -85,5 +85,5 @@ module _ (h count : ℕ) (side other : List ℕ) where
           (λ a. rw (le-ltb j i a, le-ltb j (i + 1) (omega (arith, z))))
           (λ a. rw (lt-ltb j i a, lt-ltb j (i + 1) (omega arith)))))
 
-  pub turn-done : (xs : List ℕ) (i : ℕ) → Turning h count side other xs i → count ≤ i → Turned h count side other xs
-  turn-done xs i so l = let z : i ≡ count = omega (arith, so .passed) in rw (← z) (so .is)
+  pub side-done : (xs : List ℕ) (i : ℕ) → MirroredSoFar h count side other xs i → count ≤ i → MirroredSide h count side other xs
+  side-done xs i so l = let z : i ≡ count = omega (arith, so .passed) in rw (← z) (so .is)

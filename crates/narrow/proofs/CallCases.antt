@@ -26,7 +26,7 @@ use Rattle.narrow.specs.Laws.{Formed, RoundLaw, NarrowLaw}
 use Rattle.narrow.specs.Calls.{wholeIn, listWith, settleOf, roundOf, listed, outcomeOf, AnswersAs, HoldsAnswer, Settles, MakesRound}
 use Rattle.narrow.specs.Parts.{stateOf, narrowedOf, Countable}
 use Rattle.narrow.specs.declared.types.NarrowAnswer.{NarrowAnswer}
-use Rattle.narrow.specs.declared.rounds.Narrowing.{Narrowing}
+use Rattle.narrow.specs.declared.rounds.VisitAnswer.{VisitAnswer}
 use Rattle.narrow.proofs.Keeping.{Keeps}
 use Rattle.narrow.proofs.Costs.{round-cost, rounds-cost}
 use Rattle.narrow.proofs.RoundsEnd.{answered-refused}
@@ -165,7 +165,7 @@ module _ (l : DayList) where
       record { answers = answers; holds = holds; law = λ formed. rw (holds .narrowed) (list-round-law formed) }
 
 -- the answer that code makes of what rounds gave
-module _ (l : DayList) (found : Narrowing) where
+module _ (l : DayList) (found : VisitAnswer) where
   pub answers-found : (b : DayList) → found .verdict ≡ Accepted → b ≡ listWith l (windowsIn (found .windows))
       → AnswersAs l (narrowedOf found) (record { verdict = found .verdict; list = b; moves = found .moves })
   answers-found b e is = record { outcome = rw (e, is); beside = rw (e, is) }
@@ -204,7 +204,7 @@ module _ (l : DayList) (v : Verdict) (checked : verdictOf v ≡ checkOf l) where
         unfolding settleOf narrowing
         settle-overloaded x q is = settles l a (answers-refused l a (settleOf l) t x is q (rw (check-passed, test-is, q)))
 
-        pub settle-found : t ≡ Accepted → (found : Narrowing)
+        pub settle-found : t ≡ Accepted → (found : VisitAnswer)
             → narrowedOf found ≡ rounds overloadOf (wholeIn l) (suc (slack (wholeIn l) (windowsIn s))) (unmoved (windowsIn s))
             → AnswersAs l (narrowedOf found) a → Settles l a
         unfolding settleOf narrowing
@@ -213,7 +213,7 @@ module _ (l : DayList) (v : Verdict) (checked : verdictOf v ≡ checkOf l) where
             let same : narrowedOf found ≡ settleOf l = is ∙ given ∙ rw (check-passed, test-is, q) in
             settles l a (rw same at answers)
 
-      pub round-found : (found : Narrowing) → narrowedOf found ≡ round overloadOf (wholeIn l) (stateOf s 0) → AnswersAs l (narrowedOf found) a → MakesRound l a
+      pub round-found : (found : VisitAnswer) → narrowedOf found ≡ round overloadOf (wholeIn l) (stateOf s 0) → AnswersAs l (narrowedOf found) a → MakesRound l a
       unfolding roundOf
       round-found found is answers =
           let given : _ ≡ _ = ap (λ (w : Windows). round overloadOf (wholeIn l) (unmoved w)) (holds .windows) in

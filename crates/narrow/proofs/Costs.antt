@@ -175,4 +175,3 @@ module _ (test : Test) (whole : ℕ → Bool) (s : Narrowed) (formed : Formed (s
 
   pub rounds-cost : (fuel : ℕ) (v : Narrowed) → rounds test whole fuel s ≡ answered v → Costs whole s v
   rounds-cost fuel v e = rw e at (rounds-says test whole fuel s formed)
-

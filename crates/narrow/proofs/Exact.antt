@@ -15,7 +15,7 @@ use Rattle.jackson.specs.Existence.{Plannable}
 use Rattle.jackson.specs.Mirrors.{mirror}
 use Rattle.jackson.proofs.Sums.{le-or-lt}
 use Rattle.jackson.proofs.Searches.{First, first-below}
-use Rattle.narrow.specs.Searching.{Test, accepts, fixedAt, fixedUpTo, trials, startsSkipped, leastStart, greatestEnd}
+use Rattle.narrow.specs.Searching.{Test, accepts, fixedAt, fixedUpTo, trials, failedStarts, leastStart, greatestEnd}
 use Rattle.narrow.specs.Searching.{IsLeastStart, NoStart, IsGreatestEnd, NoEnd, SearchLaw}
 use Rattle.narrow.specs.Laws.{Formed}
 use Rattle.narrow.proofs.Planners.{Planner}
@@ -86,7 +86,7 @@ module _ {test : Test} (planner : Planner test) (w : Windows) (formed : Formed w
 
   -- what the search for a start answers
   pub start-searched : Searched (IsLeastStart w k) (NoStart w k) k (leastStart test w k)
-  unfolding startsSkipped leastStart
+  unfolding failedStarts leastStart
   start-searched =
       by-row (IsLeastStart w k) _ (eqb j (trials w k)) _ (answered (w .r k + j))
       (λ e. let full = eqb-true j (trials w k) e in (refl, λ s from room. skipped s from (omega arith) room))
@@ -101,7 +101,7 @@ module _ {test : Test} (planner : Planner test) (w : Windows) (formed : Formed w
       })
     where
       j : ℕ
-      j = startsSkipped test w k
+      j = failedStarts test w k
 
       first : First (trials w k) (λ i. accepts (test (fixedAt w k (w .r k + i)))) j
       first = first-below (trials w k) _

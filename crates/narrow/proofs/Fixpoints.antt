@@ -13,7 +13,7 @@ use Rattle.jackson.proofs.Sums.{le-or-lt, below-suc}
 use Rattle.jackson.proofs.PlanFacts.{widen}
 use Rattle.narrow.specs.Searching.{Test, withR, withD, fixedAt, SearchLaw}
 use Rattle.narrow.specs.Settling.{Consecutive, Settled, SettledInside, Widest}
-use Rattle.narrow.specs.Rounds.{Side, earliest, latest, step, Narrowed, moved, movesOf, narrowSide, visit, visits, round, Rounds, last, next, stopped, rounds, slack}
+use Rattle.narrow.specs.Rounds.{Side, earliest, latest, step, Narrowed, moved, movesOf, narrowSide, visit, visits, round, RoundsGive, last, next, stopped, rounds, slack}
 use Rattle.narrow.specs.StepLists.{NothingLeft}
 use Rattle.narrow.specs.Laws.{Formed}
 use Rattle.narrow.proofs.RoundsEnd.{rounds-are}
@@ -156,7 +156,7 @@ module _ (test : Test) (whole : ℕ → Bool) where
       (z .0, rw (z .0) (λ k side place q. z .1 k place side q))
 
   -- so rounds end with nothing to do
-  pub rounds-end : {s : Narrowed} {o : Outcome Narrowed} → Rounds test whole s o → Says (λ v. NothingLeft test whole (v .windows)) Anything o
+  pub rounds-end : {s : Narrowed} {o : Outcome Narrowed} → RoundsGive test whole s o → Says (λ v. NothingLeft test whole (v .windows)) Anything o
   rounds-end (last {s = s} {v = v} e none) = round-still s v e none .1
   rounds-end (next e some rest) = rounds-end rest
   rounds-end (stopped e) = tt

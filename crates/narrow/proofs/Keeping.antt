@@ -11,7 +11,7 @@ use Rattle.list.specs.Outcomes.{Code, code, answered, refused}
 use Rattle.list.proofs.Inversion.{Says, by-row, by-step}
 use Rattle.jackson.specs.Windows.{Windows, withWindows}
 use Rattle.jackson.proofs.Searches.{first-below}
-use Rattle.narrow.specs.Searching.{Test, withR, withD, trials, startsSkipped, endsSkipped, leastStart, greatestEnd}
+use Rattle.narrow.specs.Searching.{Test, withR, withD, trials, failedStarts, failedEnds, leastStart, greatestEnd}
 use Rattle.narrow.specs.Rounds.{Side, earliest, latest, step}
 use Rattle.narrow.specs.Laws.{Formed}
 use Rattle.narrow.proofs.Puts.{place-cases, put-other}
@@ -91,17 +91,17 @@ EndTried w k e = (e ≤ w .d k) × (w .r k + w .p k ≤ e)
 module _ (test : Test) (w : Windows) (k : ℕ) where
   -- a search finds one of them, or refuses k
   pub start-says : Says (StartTried w k) (RefusedAt k) (leastStart test w k)
-  unfolding startsSkipped leastStart
+  unfolding failedStarts leastStart
   start-says =
-      let j = startsSkipped test w k in
+      let j = failedStarts test w k in
       let within : j ≤ trials w k = first-below (trials w k) _ .within in
       by-row (StartTried w k) (RefusedAt k) (eqb j (trials w k)) _ (answered (w .r k + j)) (λ _. refl)
       (λ e. let z = eqb-false j (trials w k) e in (omega arith, omega arith))
 
   end-says : Says (EndTried w k) (RefusedAt k) (greatestEnd test w k)
-  unfolding endsSkipped greatestEnd
+  unfolding failedEnds greatestEnd
   end-says =
-      let j = endsSkipped test w k in
+      let j = failedEnds test w k in
       let within : j ≤ trials w k = first-below (trials w k) _ .within in
       by-row (EndTried w k) (RefusedAt k) (eqb j (trials w k)) _ (answered (w .d k - j)) (λ _. refl)
       (λ e. let z = eqb-false j (trials w k) e in (omega arith, omega arith))

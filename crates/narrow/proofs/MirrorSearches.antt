@@ -13,7 +13,7 @@ use Rattle.jackson.specs.Windows.{Windows, withWindows}
 use Rattle.jackson.specs.Existence.{Plannable}
 use Rattle.jackson.specs.Mirrors.{mirror, mirrorPlan}
 use Rattle.jackson.proofs.PlanFacts.{mirror-plan, mirror-mirror}
-use Rattle.narrow.specs.Searching.{Test, accepts, put, withR, withD, withWindow, fixedAt, fixedUpTo, trials, startsSkipped, endsSkipped, leastStart, greatestEnd}
+use Rattle.narrow.specs.Searching.{Test, accepts, put, withR, withD, withWindow, fixedAt, fixedUpTo, trials, failedStarts, failedEnds, leastStart, greatestEnd}
 use Rattle.narrow.specs.Laws.{Formed}
 use Rattle.narrow.proofs.Planners.{Planner}
 use Rattle.narrow.proofs.Puts.{place-cases, put-back, up-to-formed}
@@ -113,8 +113,8 @@ module _ (w : Windows) (formed : Formed w) (k : ℕ) (place : k < w .n) where
 
 module _ {test : Test} (planner : Planner test) (w : Windows) (formed : Formed w) (k : ℕ) (place : k < w .n) where
   -- as many ends are skipped as starts in the mirror
-  ends-mirror : endsSkipped test w k ≡ startsSkipped test (mirror w) k
-  unfolding startsSkipped endsSkipped
+  ends-mirror : failedEnds test w k ≡ failedStarts test (mirror w) k
+  unfolding failedStarts failedEnds
   ends-mirror = rw (trials-mirror w formed k place) (first-cong (trials w k) _ _ each)
     where
       each : (j : ℕ) → j < trials w k
@@ -130,7 +130,7 @@ module _ {test : Test} (planner : Planner test) (w : Windows) (formed : Formed w
   end-by-mirror = rw (trials-mirror w formed k place, ends-mirror) (go (eqb j (trials w k)))
     where
       j : ℕ
-      j = startsSkipped test (mirror w) k
+      j = failedStarts test (mirror w) k
 
       at-d : w .d k - j ≡ w .h - (mirror w .r k + j)
       at-d = omega (arith, mirror-r w k place, formed .in-day k place)

@@ -12,7 +12,7 @@ use Rattle.jackson.specs.Windows.{Windows, Inside, withWindows}
 use Rattle.jackson.specs.Existence.{Plannable}
 use Rattle.narrow.specs.Searching.{Test, SearchLaw}
 use Rattle.narrow.specs.Settling.{SettledInside, NoneSettled, Widest, minutesCut}
-use Rattle.narrow.specs.Rounds.{Side, step, Narrowed, unmoved, visit, round, Rounds, rounds, slack, narrowing}
+use Rattle.narrow.specs.Rounds.{Side, step, Narrowed, unmoved, visit, round, RoundsGive, rounds, slack, narrowing}
 use Rattle.narrow.specs.StepLists.{Step, NamesWhole, stepsLeave, someRefused, Completes}
 use Rattle.narrow.specs.Laws.{Formed, Reason, RoundLaw, NarrowLaw}
 use Rattle.narrow.proofs.Planners.{Planner}
@@ -91,9 +91,9 @@ module _ {test : Test} (planner : Planner test) (whole : ℕ → Bool) (w : Wind
       go (answered t) e = pass (planner .exact w formed .1 e)
       go (refused k) e = fail k e (λ planned. let z : _≡_ {A = ℕ} 0 1 = cc (planner .exact w formed .0 planned, e) in omega arith)
 
-  by-rounds : Plannable w → Rounds test whole (unmoved w) (narrowing test whole w)
+  by-rounds : Plannable w → RoundsGive test whole (unmoved w) (narrowing test whole w)
   by-rounds planned =
-      by-plan (Rounds test whole (unmoved w)) (λ _. rounds-are test whole _ (unmoved w) formed (omega arith)) (λ k e none. absurd (none planned))
+      by-plan (RoundsGive test whole (unmoved w)) (λ _. rounds-are test whole _ (unmoved w) formed (omega arith)) (λ k e none. absurd (none planned))
 
   -- settled sets stay inside, and a refusal says that there is none
   narrowing-narrows : NarrowsOr whole w (narrowing test whole w)

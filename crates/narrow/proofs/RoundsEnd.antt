@@ -9,7 +9,7 @@ use lib.Dec.{eqb}
 use Rattle.list.specs.Outcomes.{Code, Outcome, answered, refused, andThen}
 use Rattle.narrow.specs.Searching.{Test}
 use Rattle.narrow.specs.Rounds.{Narrowed, round}
-use Rattle.narrow.specs.Rounds.{Rounds, last, next, stopped, rounds, slack}
+use Rattle.narrow.specs.Rounds.{RoundsGive, last, next, stopped, rounds, slack}
 use Rattle.narrow.specs.Laws.{Formed}
 use Rattle.narrow.proofs.Costs.{Costs, by-test, round-cost}
 
@@ -23,23 +23,23 @@ answered-refused e f = let z : _≡_ {A = ℕ} 0 1 = cc (e, f) in omega arith
 module _ (test : Test) (whole : ℕ → Bool) where
   -- each round but the last cuts a minute, so that this many are enough
   pub rounds-are : (fuel : ℕ) (s : Narrowed) → Formed (s .windows) → slack whole (s .windows) < fuel
-      → Rounds test whole s (rounds test whole fuel s)
+      → RoundsGive test whole s (rounds test whole fuel s)
   unfolding rounds
   rounds-are zero s formed enough = absurd (omega arith)
   rounds-are (suc fuel) s formed enough = go (round test whole s) refl (λ v c. rounds-are fuel v (c .keeps .formed))
     where
       go : (o : Outcome Narrowed) → round test whole s ≡ o
-          → ((v : Narrowed) → Costs whole s v → slack whole (v .windows) < fuel → Rounds test whole v (rounds test whole fuel v))
-          → Rounds test whole s (andThen o (λ v. cond (eqb (v .moves) (s .moves)) (answered v) (rounds test whole fuel v)))
+          → ((v : Narrowed) → Costs whole s v → slack whole (v .windows) < fuel → RoundsGive test whole v (rounds test whole fuel v))
+          → RoundsGive test whole s (andThen o (λ v. cond (eqb (v .moves) (s .moves)) (answered v) (rounds test whole fuel v)))
       go (refused x) e rest = stopped e
       go (answered v) e rest =
           let c = round-cost test whole s formed v e in
-          by-test (Rounds test whole s) (eqb (v .moves) (s .moves)) _ _
+          by-test (RoundsGive test whole s) (eqb (v .moves) (s .moves)) _ _
           (λ q. last e (eqb-true (v .moves) (s .moves) q))
           (λ q. let ne = eqb-false (v .moves) (s .moves) q in next e ne (rest v c (omega (arith, c .more, c .paid))))
 
 -- and end in one way
-pub rounds-unique : {test : Test} {whole : ℕ → Bool} {s : Narrowed} {a b : Outcome Narrowed} → Rounds test whole s a → Rounds test whole s b → a ≡ b
+pub rounds-unique : {test : Test} {whole : ℕ → Bool} {s : Narrowed} {a b : Outcome Narrowed} → RoundsGive test whole s a → RoundsGive test whole s b → a ≡ b
 rounds-unique (last e q) (last f z) = sym e ∙ f
 rounds-unique (last e q) (next f ne rest) = absurd (ne (rw (← answered-same e f) q))
 rounds-unique (last e q) (stopped f) = sym e ∙ f

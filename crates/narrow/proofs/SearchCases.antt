@@ -11,7 +11,7 @@ use Rattle.jackson.specs.Counting.{firstBelow}
 use Rattle.jackson.specs.Windows.{Windows}
 use Rattle.jackson.proofs.Sums.{le-or-lt}
 use Rattle.jackson.proofs.Searches.{First, first-below}
-use Rattle.narrow.specs.Searching.{Test, accepts, fixedAt, trials, startsSkipped, leastStart}
+use Rattle.narrow.specs.Searching.{Test, accepts, fixedAt, trials, failedStarts, leastStart}
 
 -- the first number that passes is one
 first-one : (n : ℕ) (f : ℕ → Bool) (a b : ℕ) → First n f a → First n f b → a ≡ b
@@ -50,8 +50,8 @@ module _ (test : Test) (w : Windows) (k : ℕ) where
               (λ a. so .none j a plan);
         }
 
-    skipped : (x + w .p k ≤ w .d k → accepts (test (fixedAt w k x)) ≡ true) → startsSkipped test w k ≡ x - w .r k
-    unfolding startsSkipped
+    skipped : (x + w .p k ≤ w .d k → accepts (test (fixedAt w k x)) ≡ true) → failedStarts test w k ≡ x - w .r k
+    unfolding failedStarts
     skipped plan =
         let f : ℕ → Bool = λ j. accepts (test (fixedAt w k (w .r k + j))) in
         first-one (trials w k) f (firstBelow (trials w k) f) (x - w .r k) (first-below (trials w k) f)
@@ -65,13 +65,13 @@ module _ (test : Test) (w : Windows) (k : ℕ) where
     pub tried-found : x + w .p k ≤ w .d k → accepts (test (fixedAt w k x)) ≡ true → leastStart test w k ≡ answered x
     unfolding leastStart
     tried-found room plan =
-        let less : startsSkipped test w k ≡ trials w k → ⊥ = λ e. omega (arith, e, skipped (λ _. plan), so .from-r, room) in
-        let is : w .r k + startsSkipped test w k ≡ x = omega (arith, skipped (λ _. plan), so .from-r) in
+        let less : failedStarts test w k ≡ trials w k → ⊥ = λ e. omega (arith, e, skipped (λ _. plan), so .from-r, room) in
+        let is : w .r k + failedStarts test w k ≡ x = omega (arith, skipped (λ _. plan), so .from-r) in
         rw (ne-eqb _ _ less, is)
 
     -- and if the window is used up there is none
     pub tried-all : w .d k < x + w .p k → leastStart test w k ≡ refused (code 10 (k ∷ []))
     unfolding leastStart
     tried-all used =
-        let all : startsSkipped test w k ≡ trials w k = omega (arith, skipped (λ l. absurd (omega arith)), so .from-r, so .within, used) in
+        let all : failedStarts test w k ≡ trials w k = omega (arith, skipped (λ l. absurd (omega arith)), so .from-r, so .within, used) in
         rw (eq-eqb _ _ all)

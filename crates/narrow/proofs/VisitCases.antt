@@ -24,7 +24,7 @@ use Rattle.narrow.specs.Searching.{Test}
 use Rattle.narrow.specs.Rounds.{Side, earliest, latest, Narrowed, unmoved, step, movesOf, narrowSide, visit, visits, round, rounds, slack}
 use Rattle.narrow.specs.Calls.{isWhole, wholeIn}
 use Rattle.narrow.specs.Parts.{stateOf, narrowedOf, Searchable, Countable}
-use Rattle.narrow.specs.declared.rounds.Narrowing.{Narrowing}
+use Rattle.narrow.specs.declared.rounds.VisitAnswer.{VisitAnswer}
 use Rattle.narrow.proofs.Keeping.{keeps-n}
 use Rattle.narrow.proofs.Costs.{Costs, side-cost, visits-cost, round-cost}
 use Rattle.narrow.proofs.RoundCases.{moved-one}
@@ -40,7 +40,7 @@ side-moves test side k s = go (step test side k (s .windows))
     go (refused x) = tt
 
 -- a visit, after its first search
-module _ (s : WindowSet) (moves k : ℕ) (ready : Searchable s k) (a : Narrowing)
+module _ (s : WindowSet) (moves k : ℕ) (ready : Searchable s k) (a : VisitAnswer)
     (is : narrowedOf a ≡ narrowSide overloadOf earliest k (stateOf s moves)) where
   started : a .verdict ≡ Accepted → narrowSide overloadOf earliest k (stateOf s moves) ≡ answered (stateOf (a .windows) (a .moves))
   started e = rw e at (sym is)
@@ -58,7 +58,7 @@ module _ (s : WindowSet) (moves k : ℕ) (ready : Searchable s k) (a : Narrowing
     pub visit-moves : a .moves ≤ moves + 2
     visit-moves = rw (started e) at (side-moves overloadOf earliest k (stateOf s moves))
 
-    pub visit-ends : (b : Narrowing) → narrowedOf b ≡ narrowSide overloadOf latest k (stateOf (a .windows) (a .moves))
+    pub visit-ends : (b : VisitAnswer) → narrowedOf b ≡ narrowSide overloadOf latest k (stateOf (a .windows) (a .moves))
         → narrowedOf b ≡ andThen (narrowSide overloadOf earliest k (stateOf s moves)) (narrowSide overloadOf latest k)
     visit-ends b last = rw (started e) last
 
@@ -72,7 +72,7 @@ visits-stay test whole s x k (suc n) h e =
     (λ l. let z : k ≡ suc n = omega arith in rw z at e)
 
 -- the places below k were visited, with this result
-pub record Visited (l : DayList) (s : Narrowed) (now : Narrowing) (k : ℕ) : Type 0 where
+pub record Visited (l : DayList) (s : Narrowed) (now : VisitAnswer) (k : ℕ) : Type 0 where
   pub passed : k ≤ l .n
   pub accepted : now .verdict ≡ Accepted
   pub so : visits overloadOf (wholeIn l) k s ≡ answered (stateOf (now .windows) (now .moves))
@@ -82,7 +82,7 @@ module _ (l : DayList) (s : WindowSet) (moves : ℕ) (ready : Countable l s move
   unfolding visits
   visited-none = record { passed = omega arith; accepted = refl; so = refl }
 
-  module _ (now : Narrowing) (k : ℕ) (v : Visited l (stateOf s moves) now k) where
+  module _ (now : VisitAnswer) (k : ℕ) (v : Visited l (stateOf s moves) now k) where
     pub visited-all : l .n ≤ k → narrowedOf now ≡ round overloadOf (wholeIn l) (stateOf s moves)
     visited-all h =
         let z : windowsIn s .n ≡ k = omega (arith, ready .count, v .passed) in
@@ -99,7 +99,7 @@ module _ (l : DayList) (s : WindowSet) (moves : ℕ) (ready : Countable l s move
       pub next-few : now .moves < 4294967290
       next-few = omega (arith, cost .paid, ready .few)
 
-      module _ (long : length (l .entries) ≡ 64) (whole : Bool) (kind : whole ≡ isWhole (getD (l .entries) k blank .kind)) (a : Narrowing)
+      module _ (long : length (l .entries) ≡ 64) (whole : Bool) (kind : whole ≡ isWhole (getD (l .entries) k blank .kind)) (a : VisitAnswer)
           (is : narrowedOf a ≡ cond whole (andThen (narrowSide overloadOf earliest k (stateOf (now .windows) (now .moves))) (narrowSide overloadOf latest k)) (answered (stateOf (now .windows) (now .moves)))) where
         after : visits overloadOf (wholeIn l) (k + 1) (stateOf s moves) ≡ narrowedOf a
         unfolding visits visit
@@ -131,7 +131,7 @@ module _ (l : DayList) (given : WindowSet) where
   pub rounded-none : Countable l given 0 → Rounded l given given 0
   rounded-none ready = record { ready = ready; fuel = suc (slack (wholeIn l) (windowsIn given)); enough = omega arith; same = refl }
 
-  module _ (now : WindowSet) (moves : ℕ) (so : Rounded l given now moves) (a : Narrowing)
+  module _ (now : WindowSet) (moves : ℕ) (so : Rounded l given now moves) (a : VisitAnswer)
       (is : narrowedOf a ≡ round overloadOf (wholeIn l) (stateOf now moves)) where
     abbrev The : Outcome Narrowed
     The = rounds overloadOf (wholeIn l) (suc (slack (wholeIn l) (windowsIn given))) (unmoved (windowsIn given))

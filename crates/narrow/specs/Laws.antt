@@ -11,7 +11,7 @@ use Rattle.jackson.specs.Intervals.{ShowsOverload}
 use Rattle.jackson.specs.Existence.{Plannable}
 use Rattle.narrow.specs.Searching.{Test, SearchLaw}
 use Rattle.narrow.specs.Settling.{SettledInside, NoneSettled, Widest, Unbroken, minutesCut}
-use Rattle.narrow.specs.Rounds.{Narrowed, unmoved, Rounds, slack}
+use Rattle.narrow.specs.Rounds.{Narrowed, unmoved, RoundsGive, slack}
 use Rattle.narrow.specs.StepLists.{Step, NamesWhole, stepsLeave, someRefused, Completes}
 
 -- what the laws ask of windows, and those of a list that passes the value check have (it has at most 64 entries): at most 255 entries, as a
@@ -46,7 +46,7 @@ pub record NarrowLaw (test : Test) (whole : ℕ → Bool) (w : Windows) (o : Out
   -- a search, in any windows with room inside those given, answers the minute of which document 01 speaks
   pub searches : (r d : ℕ → ℕ) → Inside (withWindows w r d) w → ((i : ℕ) → i < w .n → r i + w .p i ≤ d i) → (k : ℕ) → k < w .n → SearchLaw test (withWindows w r d) k
   -- the answer is that of the rounds as document 01 has them
-  pub by-rounds : Plannable w → Rounds test whole (unmoved w) o
+  pub by-rounds : Plannable w → RoundsGive test whole (unmoved w) o
   -- it is the widest settled set of windows inside those given
   pub widest : (v : Narrowed) → o ≡ answered v → Widest whole w (v .windows)
   -- or a refusal, exactly when there is none

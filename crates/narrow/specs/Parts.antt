@@ -14,7 +14,7 @@ use Rattle.narrow.specs.Laws.{Formed}
 use Rattle.narrow.specs.Calls.{wholeIn, outcomeOf}
 use Rattle.narrow.specs.declared.search.Found.{Found}
 use Rattle.narrow.specs.declared.search.Found.the-variants.{Minute, NoMinute}
-use Rattle.narrow.specs.declared.rounds.Narrowing.{Narrowing}
+use Rattle.narrow.specs.declared.rounds.VisitAnswer.{VisitAnswer}
 
 -- the outcome of a search for entry k
 abbrev pub foundOf : ℕ → Found → Outcome ℕ
@@ -26,7 +26,7 @@ abbrev pub stateOf : WindowSet → ℕ → Narrowed
 stateOf s moves = record { windows = windowsIn s; moves = moves }
 
 -- the outcome of visits
-abbrev pub narrowedOf : Narrowing → Outcome Narrowed
+abbrev pub narrowedOf : VisitAnswer → Outcome Narrowed
 narrowedOf a = outcomeOf (a .verdict) (stateOf (a .windows) (a .moves))
 
 -- arrays with windows that have room, and an entry
@@ -41,5 +41,5 @@ pub record Countable (l : DayList) (s : WindowSet) (moves : ℕ) : Type 0 where
   pub few : moves + slack (wholeIn l) (windowsIn s) ≤ 92160
 
 -- one side of the mirrored windows: of the first count entries h minus the other side, of the rest the side as it is
-abbrev pub Turned : ℕ → ℕ → List ℕ → List ℕ → List ℕ → Type 0
-Turned h count side other xs = (i : ℕ) → getD xs i 0 ≡ cond (ltb i count) (h - getD other i 0) (getD side i 0)
+abbrev pub MirroredSide : ℕ → ℕ → List ℕ → List ℕ → List ℕ → Type 0
+MirroredSide h count side other xs = (i : ℕ) → getD xs i 0 ≡ cond (ltb i count) (h - getD other i 0) (getD side i 0)

@@ -55,10 +55,10 @@ abbrev pub round : Test → (ℕ → Bool) → Narrowed → Outcome Narrowed
 round test whole s = visits test whole (s .windows .n) s
 
 -- "Then rounds follow. .. A round without moves is the last, and what it leaves are the windows answered": the rounds from s on end so
-pub data Rounds (test : Test) (whole : ℕ → Bool) : Narrowed → Outcome Narrowed → Type 0 where
-  last : {s v : Narrowed} → round test whole s ≡ answered v → v .moves ≡ s .moves → Rounds test whole s (answered v)
-  next : {s v : Narrowed} {o : Outcome Narrowed} → round test whole s ≡ answered v → (v .moves ≡ s .moves → ⊥) → Rounds test whole v o → Rounds test whole s o
-  stopped : {s : Narrowed} {k : Code} → round test whole s ≡ refused k → Rounds test whole s (refused k)
+pub data RoundsGive (test : Test) (whole : ℕ → Bool) : Narrowed → Outcome Narrowed → Type 0 where
+  last : {s v : Narrowed} → round test whole s ≡ answered v → v .moves ≡ s .moves → RoundsGive test whole s (answered v)
+  next : {s v : Narrowed} {o : Outcome Narrowed} → round test whole s ≡ answered v → (v .moves ≡ s .moves → ⊥) → RoundsGive test whole v o → RoundsGive test whole s o
+  stopped : {s : Narrowed} {k : Code} → round test whole s ≡ refused k → RoundsGive test whole s (refused k)
 
 -- the same as a function: at most so many rounds
 unfoldable pub rounds : Test → (ℕ → Bool) → ℕ → Narrowed → Outcome Narrowed

@@ -47,23 +47,23 @@ abbrev pub trials : Windows → ℕ → ℕ
 trials w k = suc (w .d k) - (w .r k + w .p k)
 
 -- "the search ends at the first start that has a plan": how many starts before it have none, or the number of trials
-unfoldable pub startsSkipped : Test → Windows → ℕ → ℕ
-startsSkipped test w k = firstBelow (trials w k) (λ j. accepts (test (fixedAt w k (w .r k + j))))
+unfoldable pub failedStarts : Test → Windows → ℕ → ℕ
+failedStarts test w k = firstBelow (trials w k) (λ j. accepts (test (fixedAt w k (w .r k + j))))
 
 -- "a plan exists when its window is [e - p, e)": how many ends before the first that has one have none, or the number of trials
-unfoldable pub endsSkipped : Test → Windows → ℕ → ℕ
-endsSkipped test w k = firstBelow (trials w k) (λ j. accepts (test (fixedUpTo w k (w .d k - j))))
+unfoldable pub failedEnds : Test → Windows → ℕ → ℕ
+failedEnds test w k = firstBelow (trials w k) (λ j. accepts (test (fixedUpTo w k (w .d k - j))))
 
 -- "its r becomes the least s ..; or the list is refused", by row 10, which carries the place
 unfoldable pub leastStart : Test → Windows → ℕ → Outcome ℕ
 leastStart test w k =
-    let j = startsSkipped test w k in
+    let j = failedStarts test w k in
     firstOf (row 10 (eqb j (trials w k)) k ∷ []) (answered (w .r k + j))
 
 -- "Then its d becomes the greatest e"
 unfoldable pub greatestEnd : Test → Windows → ℕ → Outcome ℕ
 greatestEnd test w k =
-    let j = endsSkipped test w k in
+    let j = failedEnds test w k in
     firstOf (row 10 (eqb j (trials w k)) k ∷ []) (answered (w .d k - j))
 
 -- What they find, said of plans and not of the test.

@@ -1,5 +1,5 @@
 // Narrowing a list.
-use crate::rounds::Narrowing;
+use crate::rounds::VisitAnswer;
 use crate::rounds::all_rounds;
 use crate::rounds::one_round;
 use crate::types::NarrowAnswer;
@@ -58,7 +58,7 @@ fn refused_with(verdict: Verdict) -> NarrowAnswer
 }
 
 // The answer that rounds give.
-fn answer_with(list: DayList, found: Narrowing) -> NarrowAnswer
+fn answer_with(list: DayList, found: VisitAnswer) -> NarrowAnswer
     requires { ⌜ list .n ≤ 64 ⌝ }
     ensures { λ a. ⌜ AnswersAs list (narrowedOf found) a ⌝ }
 {

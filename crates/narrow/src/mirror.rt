@@ -5,7 +5,7 @@ ghost use mathlib.Core.Path.{_≡_};
 ghost use Prim.Native.Nat.{_-_, _≤_};
 ghost use Rattle.jackson.specs.Windows.{windowsIn};
 ghost use Rattle.jackson.specs.Mirrors.{mirror};
-ghost use Rattle.narrow.specs.Parts.{Turned};
+ghost use Rattle.narrow.specs.Parts.{MirroredSide};
 
 // The minutes from x to the day's end.
 fn minutes_after(h: u16, x: u16) -> u16
@@ -15,9 +15,9 @@ fn minutes_after(h: u16, x: u16) -> u16
 }
 
 // One side of the mirrored windows: of the first count entries h minus the other side, of the rest the side as it is.
-fn turned(h: u16, count: usize, side: [u16; 64], other: &[u16; 64]) -> [u16; 64]
+fn mirrored_side(h: u16, count: usize, side: [u16; 64], other: &[u16; 64]) -> [u16; 64]
     requires { ⌜ count ≤ 64 ⌝ }
-    ensures { λ xs. ⌜ Turned h count side (now (other .entry)) xs ⌝ }
+    ensures { λ xs. ⌜ MirroredSide h count side (now (other .entry)) xs ⌝ }
 {
     let mut xs = side;
     let mut i: usize = 0;
@@ -38,8 +38,8 @@ pub(crate) fn mirrored(windows: WindowSet) -> WindowSet
     let r = windows.r;
     let d = windows.d;
     let p = windows.p;
-    let first = turned(h, count, r, &d);
-    let end = turned(h, count, d, &r);
+    let first = mirrored_side(h, count, r, &d);
+    let end = mirrored_side(h, count, d, &r);
     WindowSet {
         h: h,
         n: n,

@@ -19,7 +19,7 @@ ghost use Rattle.narrow.specs.Calls.{isWhole, wholeIn};
 ghost use Rattle.narrow.specs.Parts.{Searchable, Countable, stateOf, narrowedOf};
 
 // The windows and the moves made so far, or a refusal.
-pub(crate) struct Narrowing {
+pub(crate) struct VisitAnswer {
     pub verdict: Verdict,
     pub windows: WindowSet,
     pub moves: u32,
@@ -42,10 +42,10 @@ fn moved_from(before: u16, after: u16) -> u32
 }
 
 // The answer where a search for entry k found no minute.
-fn refused_at(windows: WindowSet, moves: u32, k: usize) -> Narrowing
+fn refused_at(windows: WindowSet, moves: u32, k: usize) -> VisitAnswer
     ensures { λ a. ⌜ narrowedOf a ≡ refused (code 10 (k ∷ [])) ⌝ }
 {
-    Narrowing {
+    VisitAnswer {
         verdict: Verdict::Refused(Refusal::NoStart(k)),
         windows: windows,
         moves: moves,
@@ -53,7 +53,7 @@ fn refused_at(windows: WindowSet, moves: u32, k: usize) -> Narrowing
 }
 
 // The search for entry k's r, with its move.
-fn narrow_start(windows: WindowSet, moves: u32, k: usize) -> Narrowing
+fn narrow_start(windows: WindowSet, moves: u32, k: usize) -> VisitAnswer
     requires { ⌜ Searchable windows k ⌝ }
     requires { ⌜ moves < 4294967295 ⌝ }
     ensures { λ a. ⌜ narrowedOf a ≡ narrowSide overloadOf earliest k (stateOf windows moves) ⌝ }
@@ -63,7 +63,7 @@ fn narrow_start(windows: WindowSet, moves: u32, k: usize) -> Narrowing
     };
     let mut next = windows;
     next.r[k] = s;
-    Narrowing {
+    VisitAnswer {
         verdict: Verdict::Accepted,
         windows: next,
         moves: moves + moved_from(windows.r[k], s),
@@ -71,7 +71,7 @@ fn narrow_start(windows: WindowSet, moves: u32, k: usize) -> Narrowing
 }
 
 // The search for entry k's d, with its move.
-fn narrow_end(windows: WindowSet, moves: u32, k: usize) -> Narrowing
+fn narrow_end(windows: WindowSet, moves: u32, k: usize) -> VisitAnswer
     requires { ⌜ Searchable windows k ⌝ }
     requires { ⌜ moves < 4294967295 ⌝ }
     ensures { λ a. ⌜ narrowedOf a ≡ narrowSide overloadOf latest k (stateOf windows moves) ⌝ }
@@ -81,7 +81,7 @@ fn narrow_end(windows: WindowSet, moves: u32, k: usize) -> Narrowing
     };
     let mut next = windows;
     next.d[k] = e;
-    Narrowing {
+    VisitAnswer {
         verdict: Verdict::Accepted,
         windows: next,
         moves: moves + moved_from(windows.d[k], e),
@@ -89,13 +89,13 @@ fn narrow_end(windows: WindowSet, moves: u32, k: usize) -> Narrowing
 }
 
 // Visits entry k: a pause entry is passed over; of a whole one the r is searched for, then the d.
-fn visit(whole: bool, windows: WindowSet, moves: u32, k: usize) -> Narrowing
+fn visit(whole: bool, windows: WindowSet, moves: u32, k: usize) -> VisitAnswer
     requires { ⌜ Searchable windows k ⌝ }
     requires { ⌜ moves < 4294967290 ⌝ }
     ensures { λ a. ⌜ narrowedOf a ≡ cond whole (andThen (narrowSide overloadOf earliest k (stateOf windows moves)) (narrowSide overloadOf latest k)) (answered (stateOf windows moves)) ⌝ }
 {
     if !whole {
-        return Narrowing {
+        return VisitAnswer {
             verdict: Verdict::Accepted,
             windows: windows,
             moves: moves,
@@ -110,11 +110,11 @@ fn visit(whole: bool, windows: WindowSet, moves: u32, k: usize) -> Narrowing
 }
 
 // One round: visits the entries from place 0 up.
-pub(crate) fn one_round(list: DayList, windows: WindowSet, moves: u32) -> Narrowing
+pub(crate) fn one_round(list: DayList, windows: WindowSet, moves: u32) -> VisitAnswer
     requires { ⌜ Countable list windows moves ⌝ }
     ensures { λ a. ⌜ narrowedOf a ≡ round overloadOf (wholeIn list) (stateOf windows moves) ⌝ }
 {
-    let mut now = Narrowing {
+    let mut now = VisitAnswer {
         verdict: Verdict::Accepted,
         windows: windows,
         moves: moves,
@@ -134,8 +134,8 @@ pub(crate) fn one_round(list: DayList, windows: WindowSet, moves: u32) -> Narrow
     now
 }
 
-// Rounds until one makes no move, or a refusal.
-pub(crate) fn all_rounds(list: DayList, windows: WindowSet) -> Narrowing
+// RoundsGive until one makes no move, or a refusal.
+pub(crate) fn all_rounds(list: DayList, windows: WindowSet) -> VisitAnswer
     requires { ⌜ Countable list windows 0 ⌝ }
     ensures { λ a. ⌜ narrowedOf a ≡ rounds overloadOf (wholeIn list) (suc (slack (wholeIn list) (windowsIn windows))) (unmoved (windowsIn windows)) ⌝ }
 {

@@ -1,19 +1,19 @@
--- The loop's invariant is `Turning`, the measure what is left of the entries.
+-- The loop's invariant is `MirroredSoFar`, the measure what is left of the entries.
 -- Assumes nothing.
 use borrow.Author.Needs.{needs}
 use Prim.Native.Nat.{_-_}
-use Rattle.narrow.proofs.ArrayCases.{Turning, turn-start, turn-next, turn-done}
-use Rattle.narrow.proofs.mirror.turned.Statement.{statement}
-use Rattle.narrow.proofs.mirror.turned.Tie as tie
+use Rattle.narrow.proofs.ArrayCases.{MirroredSoFar, side-start, side-next, side-done}
+use Rattle.narrow.proofs.mirror.mirrored_side.Statement.{statement}
+use Rattle.narrow.proofs.mirror.mirrored_side.Tie as tie
 
 abbrev Inv-loop : tie.InvT-loop
-Inv-loop h count other xs₀ i₀ xs i = Turning h count xs₀ other xs i
+Inv-loop h count other xs₀ i₀ xs i = MirroredSoFar h count xs₀ other xs i
 
 abbrev μ-loop : tie.MeasureT-loop
 μ-loop h count other xs₀ i₀ xs i = count - i
 
 loop-holds : tie.Need-loop-holds Inv-loop μ-loop
-loop-holds c = turn-start _ _ _ _ (c .pre) (search needs)
+loop-holds c = side-start _ _ _ _ (c .pre) (search needs)
 
 mul-minutes-after : tie.Need-mul-minutes-after Inv-loop μ-loop
 mul-minutes-after c = search needs
@@ -37,13 +37,13 @@ loop-less : tie.Need-loop-less Inv-loop μ-loop
 loop-less c = search needs
 
 loop-again : tie.Need-loop-again Inv-loop μ-loop
-loop-again c = turn-next _ _ _ _ _ _ _ (c .before .before .before .loop .inv) (c .before .before .loop-test .taken) (c .minutes-after .ensures)
+loop-again c = side-next _ _ _ _ _ _ _ (c .before .before .before .loop .inv) (c .before .before .loop-test .taken) (c .minutes-after .ensures)
 
 returns : tie.Need-returns Inv-loop μ-loop
-returns c = turn-done _ _ _ _ _ _ (c .before .loop .inv) (c .loop-test .left)
+returns c = side-done _ _ _ _ _ _ (c .before .loop .inv) (c .loop-test .left)
 
-pub turned-spec : {M : Type 1} → statement M
-turned-spec =
+pub mirrored-side-spec : {M : Type 1} → statement M
+mirrored-side-spec =
     tie.close
     (tie.spec
     Inv-loop
