@@ -1,7 +1,7 @@
 -- Visits and rounds, as code makes them.
 -- Assumes nothing.
 use mathlib.Core.Path.{_≡_, refl, sym, ap, _∙_}
-use mathlib.Core.Bool.{Bool, true, cond}
+use mathlib.Core.Bool.{Bool, true, false, cond}
 use Prim.Native.Nat.{ℕ, zero, suc, _+_, _-_, _<_, _≤_}
 use native.Mathlib.Numerals.{add-one}
 use native.Mathlib.Omega.{arith}
@@ -39,15 +39,22 @@ side-moves test side k s = go (step test side k (s .windows))
     go (answered v) = omega (arith, moved-one (s .windows .r k) (v .r k), moved-one (s .windows .d k) (v .d k))
     go (refused x) = tt
 
--- a visit, after its first search
-module _ (s : WindowSet) (moves k : ℕ) (ready : Searchable s k) (a : VisitAnswer)
+-- a pause entry is passed over
+pub visit-passed : (s : Narrowed) (k : ℕ) (whole : Bool) → whole ≡ false → answered s ≡ visit overloadOf (λ _. whole) k s
+unfolding visit
+visit-passed s k whole pause = rw pause
+
+-- a whole one, after its first search
+module _ (s : WindowSet) (moves k : ℕ) (ready : Searchable s k) (whole : Bool) (is-whole : whole ≡ true) (a : VisitAnswer)
     (is : narrowedOf a ≡ narrowSide overloadOf earliest k (stateOf s moves)) where
   started : a .verdict ≡ Accepted → narrowSide overloadOf earliest k (stateOf s moves) ≡ answered (stateOf (a .windows) (a .moves))
   started e = rw e at (sym is)
 
-  pub visit-stopped : (x : Refusal) → a .verdict ≡ Refused x
-      → narrowedOf a ≡ andThen (narrowSide overloadOf earliest k (stateOf s moves)) (narrowSide overloadOf latest k)
-  visit-stopped x e = let z : narrowSide overloadOf earliest k (stateOf s moves) ≡ refused (codeOf x) = rw e at (sym is) in rw (z, e)
+  pub visit-stopped : (x : Refusal) → a .verdict ≡ Refused x → narrowedOf a ≡ visit overloadOf (λ _. whole) k (stateOf s moves)
+  unfolding visit
+  visit-stopped x e =
+      let z : narrowSide overloadOf earliest k (stateOf s moves) ≡ refused (codeOf x) = rw e at (sym is) in
+      rw (is-whole, z, e)
 
   module _ (e : a .verdict ≡ Accepted) where
     pub visit-on : Searchable (a .windows) k
@@ -59,8 +66,9 @@ module _ (s : WindowSet) (moves k : ℕ) (ready : Searchable s k) (a : VisitAnsw
     visit-moves = rw (started e) at (side-moves overloadOf earliest k (stateOf s moves))
 
     pub visit-ends : (b : VisitAnswer) → narrowedOf b ≡ narrowSide overloadOf latest k (stateOf (a .windows) (a .moves))
-        → narrowedOf b ≡ andThen (narrowSide overloadOf earliest k (stateOf s moves)) (narrowSide overloadOf latest k)
-    visit-ends b last = rw (started e) last
+        → narrowedOf b ≡ visit overloadOf (λ _. whole) k (stateOf s moves)
+    unfolding visit
+    visit-ends b last = rw (is-whole, started e) last
 
 -- a refusal of earlier visits stays
 visits-stay : (test : Test) (whole : ℕ → Bool) (s : Narrowed) (x : Code) (k n : ℕ) → k ≤ n → visits test whole k s ≡ refused x → visits test whole n s ≡ refused x
@@ -100,7 +108,7 @@ module _ (l : DayList) (s : WindowSet) (moves : ℕ) (ready : Countable l s move
       next-few = omega (arith, cost .paid, ready .few)
 
       module _ (long : length (l .entries) ≡ 64) (whole : Bool) (kind : whole ≡ isWhole (getD (l .entries) k blank .kind)) (a : VisitAnswer)
-          (is : narrowedOf a ≡ cond whole (andThen (narrowSide overloadOf earliest k (stateOf (now .windows) (now .moves))) (narrowSide overloadOf latest k)) (answered (stateOf (now .windows) (now .moves)))) where
+          (is : narrowedOf a ≡ visit overloadOf (λ _. whole) k (stateOf (now .windows) (now .moves))) where
         after : visits overloadOf (wholeIn l) (k + 1) (stateOf s moves) ≡ narrowedOf a
         unfolding visits visit
         after =

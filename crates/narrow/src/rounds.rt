@@ -8,13 +8,12 @@ use list::types::Kind;
 use list::types::Refusal;
 use list::types::Verdict;
 ghost use mathlib.Core.Path.{_≡_};
-ghost use mathlib.Core.Bool.{cond};
 ghost use mathlib.Core.List.{[], _∷_};
 ghost use Prim.Native.Nat.{suc, _<_};
-ghost use Rattle.list.specs.Outcomes.{code, answered, refused, andThen};
+ghost use Rattle.list.specs.Outcomes.{code, refused};
 ghost use Rattle.jackson.specs.Windows.{windowsIn};
 ghost use Rattle.jackson.specs.Intervals.{overloadOf};
-ghost use Rattle.narrow.specs.Rounds.{earliest, latest, moved, narrowSide, unmoved, round, rounds, slack};
+ghost use Rattle.narrow.specs.Rounds.{earliest, latest, moved, narrowSide, visit, unmoved, round, rounds, slack};
 ghost use Rattle.narrow.specs.Calls.{isWhole, wholeIn};
 ghost use Rattle.narrow.specs.Parts.{Searchable, Countable, stateOf, narrowedOf};
 
@@ -70,7 +69,7 @@ fn narrow_start(windows: WindowSet, moves: u32, k: usize) -> VisitAnswer
     }
 }
 
-// The search for entry k's d, with its move.
+// The search for entry k's d, with its move. In a visit it finds one, since the r just found is a place.
 fn narrow_end(windows: WindowSet, moves: u32, k: usize) -> VisitAnswer
     requires { ⌜ Searchable windows k ⌝ }
     requires { ⌜ moves < 4294967295 ⌝ }
@@ -92,7 +91,7 @@ fn narrow_end(windows: WindowSet, moves: u32, k: usize) -> VisitAnswer
 fn visit(whole: bool, windows: WindowSet, moves: u32, k: usize) -> VisitAnswer
     requires { ⌜ Searchable windows k ⌝ }
     requires { ⌜ moves < 4294967290 ⌝ }
-    ensures { λ a. ⌜ narrowedOf a ≡ cond whole (andThen (narrowSide overloadOf earliest k (stateOf windows moves)) (narrowSide overloadOf latest k)) (answered (stateOf windows moves)) ⌝ }
+    ensures { λ a. ⌜ narrowedOf a ≡ visit overloadOf (λ _. whole) k (stateOf windows moves) ⌝ }
 {
     if !whole {
         return VisitAnswer {
