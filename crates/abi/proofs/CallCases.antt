@@ -5,7 +5,7 @@ use mathlib.Core.List.{List, [], _∷_}
 use Prim.Native.Nat.{ℕ}
 use lib.ListN.{length}
 use Rattle.list.specs.Outcomes.{Outcome, answered, refused}
-use Rattle.list.specs.Refusals.{codeOf, verdictOf, listAnswerOf, writeAnswerOf}
+use Rattle.list.specs.Refusals.{codeOf, verdictOf, outcomeOf, writeAnswerOf}
 use Rattle.list.specs.Reading.{readOf}
 use Rattle.list.specs.Writing.{writeOf}
 use Rattle.list.specs.Promises.{Reads, Writes}
@@ -32,12 +32,12 @@ RefusedAs x b = b ≡ record { number = codeOf x .number; values = three (codeOf
 module _ (bs old : List ℕ) (a : ReadAnswer) (w : Reads bs a) where
   pub read-accepted : (fields : List ℕ) → a .verdict ≡ Accepted → fields ≡ flatOf (a .list) → ReadCall bs old (record { number = 0; values = 0 ∷ 0 ∷ 0 ∷ [] }) fields
   read-accepted fields v q =
-      let o : readOf bs ≡ answered (a .list) = sym (w .outcome) ∙ ap (λ (t : Verdict). listAnswerOf t (a .list)) v in
+      let o : readOf bs ≡ answered (a .list) = sym (w .outcome) ∙ ap (λ (t : Verdict). outcomeOf t (a .list)) v in
       record { answer = rw o; buffer = rw o q }
 
   pub read-refused : (x : Refusal) (b : Answer) → a .verdict ≡ Refused x → RefusedAs x b → ReadCall bs old b old
   read-refused x b v q =
-      let o : readOf bs ≡ refused (codeOf x) = sym (w .outcome) ∙ ap (λ (t : Verdict). listAnswerOf t (a .list)) v in
+      let o : readOf bs ≡ refused (codeOf x) = sym (w .outcome) ∙ ap (λ (t : Verdict). outcomeOf t (a .list)) v in
       record { answer = rw o q; buffer = rw o }
 
 module _ (xs old new : List ℕ) (l : DayList) (a : WriteAnswer) (p : l ≡ valueOf xs) (w : Writes l old a new) where

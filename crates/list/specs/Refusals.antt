@@ -26,19 +26,18 @@ codeOf (PlanBufferShort h) = code 11 (h ∷ [])
 codeOf (ListBufferShort needed) = code 12 (needed ∷ [])
 codeOf (UnknownPlace place) = code 13 (place ∷ [])
 
+-- a verdict with what stands beside Accepted
+abbrev pub outcomeOf : {A : Type 0} → Verdict → A → Outcome A
+outcomeOf Accepted a = answered a
+outcomeOf (Refused x) a = refused (codeOf x)
+
 -- a test's answer
 abbrev pub verdictOf : Verdict → Outcome (Unit {0})
-verdictOf Accepted = answered tt
-verdictOf (Refused x) = refused (codeOf x)
-
--- a verdict with the list that stands beside it
-abbrev pub listAnswerOf : Verdict → DayList → Outcome DayList
-listAnswerOf Accepted l = answered l
-listAnswerOf (Refused x) l = refused (codeOf x)
+verdictOf v = outcomeOf v tt
 
 -- a reader's answer
 abbrev pub readAnswerOf : ReadAnswer → Outcome DayList
-readAnswerOf a = listAnswerOf (a .verdict) (a .list)
+readAnswerOf a = outcomeOf (a .verdict) (a .list)
 
 -- a writer's answer: the number of bytes written
 abbrev pub writeAnswerOf : WriteAnswer → Outcome ℕ

@@ -7,7 +7,7 @@ use native.Mathlib.Omega.{arith}
 use lib.ListN.{length}
 use lib.Seq.{length-take-le}
 use Rattle.list.specs.Outcomes.{Code, Outcome, answered, refused, andThen}
-use Rattle.list.specs.Refusals.{codeOf, verdictOf}
+use Rattle.list.specs.Refusals.{codeOf, verdictOf, outcomeOf}
 use Rattle.list.specs.DayLists.{emptyList}
 use Rattle.list.specs.Checks.{checkOf, WellFormed}
 use Rattle.list.specs.declared.types.DayList.{DayList}
@@ -23,7 +23,7 @@ use Rattle.jackson.specs.declared.types.WindowSet.{WindowSet}
 use Rattle.jackson.proofs.ListLaws.{list-roomy, list-few, list-minutes}
 use Rattle.narrow.specs.Rounds.{Narrowed, unmoved, round, rounds, narrowing, slack}
 use Rattle.narrow.specs.Laws.{Formed, RoundLaw, NarrowLaw}
-use Rattle.narrow.specs.Calls.{wholeIn, listWith, settleOf, roundOf, listed, outcomeOf, AnswersAs, HoldsAnswer, Settles, MakesRound}
+use Rattle.narrow.specs.Calls.{wholeIn, listWith, settleOf, roundOf, listed, AnswersAs, HoldsAnswer, Settles, MakesRound}
 use Rattle.narrow.specs.Parts.{stateOf, narrowedOf, Countable}
 use Rattle.narrow.specs.declared.types.NarrowAnswer.{NarrowAnswer}
 use Rattle.narrow.specs.declared.rounds.VisitAnswer.{VisitAnswer}

@@ -5,7 +5,7 @@ use mathlib.Core.Bool.{Bool, true, false}
 use mathlib.Core.List.{List, [], _∷_, map}
 use lib.ListN.{getD}
 use Rattle.list.specs.Outcomes.{Outcome, answered, refused, andThen}
-use Rattle.list.specs.Refusals.{codeOf}
+use Rattle.list.specs.Refusals.{outcomeOf}
 use Rattle.list.specs.DayLists.{entriesOf, blank, dayList, emptyList}
 use Rattle.list.specs.Checks.{checkOf, WellFormed}
 use Rattle.list.specs.declared.types.Seal.the-variants.{Missing}
@@ -65,11 +65,6 @@ roundOf l = andThen (checkOf l) (λ _. round overloadOf (wholeIn l) (unmoved (wi
 -- the list with the windows answered, and the moves
 abbrev pub listed : DayList → Outcome Narrowed → Outcome (DayList × ℕ)
 listed l o = andThen o (λ v. answered (listWith l (v .windows), v .moves))
-
--- a verdict with what stands beside Accepted
-abbrev pub outcomeOf : {A : Type 0} → Verdict → A → Outcome A
-outcomeOf Accepted a = answered a
-outcomeOf (Refused x) a = refused (codeOf x)
 
 -- the answer of a call
 abbrev pub narrowAnswerOf : NarrowAnswer → Outcome (DayList × ℕ)

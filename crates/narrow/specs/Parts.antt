@@ -6,12 +6,13 @@ use mathlib.Core.List.{List, [], _∷_}
 use lib.Dec.{ltb}
 use lib.ListN.{getD}
 use Rattle.list.specs.Outcomes.{code, Outcome, answered, refused}
+use Rattle.list.specs.Refusals.{outcomeOf}
 use Rattle.list.specs.declared.types.DayList.{DayList}
 use Rattle.jackson.specs.Windows.{windowsIn}
 use Rattle.jackson.specs.declared.types.WindowSet.{WindowSet}
 use Rattle.narrow.specs.Rounds.{Narrowed, slack}
 use Rattle.narrow.specs.Laws.{Formed}
-use Rattle.narrow.specs.Calls.{wholeIn, outcomeOf}
+use Rattle.narrow.specs.Calls.{wholeIn}
 use Rattle.narrow.specs.declared.search.Found.{Found}
 use Rattle.narrow.specs.declared.search.Found.the-variants.{Minute, NoMinute}
 use Rattle.narrow.specs.declared.rounds.VisitAnswer.{VisitAnswer}
