@@ -30,12 +30,17 @@ pub fn untouched_bytes(room: usize) -> Vec<u8> {
     (0..room).map(|place| 0x80 | (place % 101) as u8).collect()
 }
 
+/// Lends fields to a call, and gives them back.
+fn lending_fields(call: impl FnOnce(&mut Fields) -> Answer) -> (Answer, Fields) {
+    let mut fields = untouched_fields();
+    let answer = call(&mut fields);
+    (answer, fields)
+}
+
 /// Reads a list through the library.
 pub fn read(bytes: &[u8]) -> (Answer, Fields) {
-    let mut fields = untouched_fields();
     // SAFETY: the library reads `bytes.len()` bytes and writes one array, all of them lent here.
-    let answer = unsafe { dock_read(bytes.as_ptr(), bytes.len(), &mut fields) };
-    (answer, fields)
+    lending_fields(|fields| unsafe { dock_read(bytes.as_ptr(), bytes.len(), fields) })
 }
 
 /// Bytes before and behind those that are lent to a call, which it has no business with.
@@ -76,9 +81,7 @@ pub fn schedule_into(fields: &Fields, plan: &mut [u8]) -> Answer {
 
 /// Settles a list's windows through the library.
 pub fn settle(fields: &Fields) -> (Answer, Fields) {
-    let mut narrowed = untouched_fields();
-    let answer = settle_into(fields, &mut narrowed);
-    (answer, narrowed)
+    lending_fields(|narrowed| settle_into(fields, narrowed))
 }
 
 /// Settles a list's windows through the library into these fields, whatever they hold.
@@ -89,9 +92,7 @@ pub fn settle_into(fields: &Fields, narrowed: &mut Fields) -> Answer {
 
 /// Narrows a list's windows by one round through the library.
 pub fn round(fields: &Fields) -> (Answer, Fields) {
-    let mut narrowed = untouched_fields();
-    let answer = round_into(fields, &mut narrowed);
-    (answer, narrowed)
+    lending_fields(|narrowed| round_into(fields, narrowed))
 }
 
 /// Narrows a list's windows by one round through the library into these fields, whatever they hold.

@@ -1,6 +1,7 @@
 //! What the tests of the dock planner stand on: the calls of the static library, a second reader, writer,
 //! planner and narrowing of the day's list written straight from document 01, all plans and settled windows
-//! of small days found by trying everything, and random lists to try these on.
+//! of small days found by trying everything, the values that every call refuses or accepts, and random lists
+//! to try these on.
 
 pub mod abi;
 pub mod brute;
@@ -9,6 +10,7 @@ pub mod check;
 pub mod check_narrow;
 pub mod day;
 pub mod flat;
+pub mod ignored;
 pub mod jackson;
 pub mod narrow;
 pub mod overload;
@@ -18,4 +20,5 @@ pub mod reader;
 pub mod samples;
 pub mod settled;
 pub mod small;
+pub mod values;
 pub mod writer;

@@ -77,15 +77,6 @@ pub fn day(entries: &[Entry]) -> Fields {
     value(100, entries.len() as u32, entries)
 }
 
-/// Full days of 100 minutes in which one entry is made wrong, at each place in turn, with that place.
-pub fn wrong_at_each_place(spoil: fn(&mut Entry)) -> impl Iterator<Item = (usize, Fields)> {
-    (0..MOST_ENTRIES).map(move |place| {
-        let mut entries = vec![entry(0, 100, 1); MOST_ENTRIES];
-        spoil(&mut entries[place]);
-        (place, day(&entries))
-    })
-}
-
 /// Document 01's sample input.
 pub fn document() -> Vec<u8> {
     hex("0C 00 03 | 11 F5 01 00 00 04 00 | 3F F6 01 00 00 4D 00 00 00 02 00 08 00 03 00

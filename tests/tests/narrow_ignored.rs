@@ -7,14 +7,10 @@ use dock_tests::chains;
 use dock_tests::check_narrow::{no_place, settled, windows_in};
 use dock_tests::day::{Day, MOST_ENTRIES};
 use dock_tests::flat::{self, Fields, SIZE, WIDTH};
+use dock_tests::ignored::{self, SEAL, SERIAL, STANDS};
 use dock_tests::random::{self, Random};
 use dock_tests::samples::{boxes, with_serials};
 use dock_tests::settled::Windows;
-
-/// The numbers of a place that travel along.
-const SERIAL: usize = 0;
-const STANDS: usize = 1;
-const SEAL: usize = 2;
 
 /// What both calls say of a value, with the windows that they leave.
 fn said(fields: &Fields, n: usize) -> [(Answer, Windows); 2] {
@@ -67,16 +63,18 @@ fn travels_along(seed: u64, numbers: &[usize]) {
     let mut seen = Seen::default();
     days(&mut Random::new(seed), |random, day| {
         let n = day.entries.len();
-        let before = said(&flat::of_day(day), n);
+        let fields = flat::of_day(day);
+        let before = said(&fields, n);
         seen.count(before[0].0);
-        let mut other = flat::of_day(day);
-        for place in 0..n {
-            numbers.iter().for_each(|number| other[2 + WIDTH * place + number] = random.any() as u32);
-        }
+        let other = ignored::with_any(random, &fields, numbers);
         assert!(said(&other, n) == before, "{numbers:?} of {day:?}");
         let (answer, narrowed) = abi::settle(&other);
         for at in (0..n).flat_map(|place| numbers.iter().map(move |number| 2 + WIDTH * place + number)) {
-            let wanted = if (at - 2) % WIDTH == STANDS { 1 } else { other[at] };
+            let wanted = match (at - 2) % WIDTH {
+                STANDS => u32::from(other[at] != 0),
+                SEAL if other[at - 1] == 0 => 0, // a number beside no seal is nothing
+                _ => other[at],
+            };
             assert!(answer.number != 0 || narrowed[at] == wanted, "number {at} after {day:?}");
         }
     });
@@ -114,15 +112,7 @@ fn places_from_n_on_are_never_looked_at() {
         let fields = flat::of_day(day);
         let before = [abi::settle(&fields), abi::round(&fields)];
         seen.count(before[0].0);
-        let used = 2 + WIDTH * day.entries.len();
-        for kind in 0..4 {
-            let mut other = fields;
-            other[used..].fill_with(|| match kind {
-                0 => u32::MAX,
-                1 => random.any() as u32,
-                2 => random.below(usize::from(day.h) + 1) as u32,
-                _ => 1,
-            });
+        for other in ignored::with_junk(random, &fields) {
             assert!([abi::settle(&other), abi::round(&other)] == before, "junk after {day:?}");
         }
     });

@@ -51,68 +51,69 @@ impl Seen {
     }
 }
 
-#[test]
-fn ten_thousand_small_days_against_trying_everything() {
-    let mut random = Random::new(101);
+fn up_to(most: u16, n: usize) -> impl Fn(&mut Random) -> Day {
+    move |random| day(random, most, n)
+}
+
+/// Makes so many random days, holds each against this check, and counts them.
+fn each_of<T>(days: usize, seed: u64, make: impl Fn(&mut Random) -> Day, check: impl Fn(&Day) -> T) -> Seen {
+    let mut random = Random::new(seed);
     let mut seen = Seen::default();
-    for _ in 0..10_000 {
-        let day = day(&mut random, 6, 4);
-        by_trying_everything(&day);
+    for _ in 0..days {
+        let day = make(&mut random);
+        check(&day);
         seen.count(&day);
     }
+    seen
+}
+
+#[test]
+fn ten_thousand_small_days_against_trying_everything() {
+    let seen = each_of(10_000, 101, up_to(6, 4), by_trying_everything);
     assert!(seen.rounds[0] > 3_000 && seen.rounds[1] > 1_000 && seen.rounds[2] > 50, "{seen:?}");
     assert!(seen.overloaded > 1_000 && seen.no_place > 100, "{seen:?}");
 }
 
 /// Two wide whole entries, and two pause entries of a minute that leave little between them: here 10 comes in
 /// round two now and then. Windows drawn around a plan hardly ever do that.
+fn crossed_day(random: &mut Random) -> Day {
+    let mut day = Day { h: 7, entries: vec![] };
+    for _ in 0..2 {
+        let r = random.within(1, 5);
+        let d = random.within(r + 1, r + 2);
+        day.entries.push(Entry { r, d, p: 1, whole: false, ..random::entry(random, 1) });
+        let p = random.within(2, 3);
+        day.entries.push(Entry { r: 0, d: 7, p, whole: true, ..random::entry(random, 1) });
+    }
+    random::shuffle(random, &mut day.entries);
+    day
+}
+
 #[test]
 fn late_refusals_against_trying_everything() {
-    let mut random = Random::new(102);
-    let mut seen = Seen::default();
-    for _ in 0..2_000 {
-        let mut day = Day { h: 7, entries: vec![] };
-        for _ in 0..2 {
-            let r = random.within(1, 5);
-            let d = random.within(r + 1, r + 2);
-            day.entries.push(Entry { r, d, p: 1, whole: false, ..random::entry(&mut random, 1) });
-            let p = random.within(2, 3);
-            day.entries.push(Entry { r: 0, d: 7, p, whole: true, ..random::entry(&mut random, 1) });
-        }
-        random::shuffle(&mut random, &mut day.entries);
-        by_trying_everything(&day);
-        seen.count(&day);
-    }
+    let seen = each_of(2_000, 102, crossed_day, by_trying_everything);
     assert!(seen.no_place > 100 && seen.no_place_later > 10, "{seen:?}");
 }
 
 #[test]
 fn ten_thousand_days_of_up_to_12_minutes_against_the_second_narrowing() {
-    let mut random = Random::new(103);
-    let mut seen = Seen::default();
-    for _ in 0..10_000 {
-        let day = day(&mut random, 12, 6);
-        let settled = settle(&flat::of_day(&day));
-        let round = round(&flat::of_day(&day));
+    let seen = each_of(10_000, 103, up_to(12, 6), |day| {
+        let settled = settle(&flat::of_day(day));
+        let round = round(&flat::of_day(day));
         assert!(settled.is_err() || round.is_ok(), "{day:?}");
-        seen.count(&day);
-    }
+    });
     assert!(seen.rounds[..3].iter().all(|&count| count > 100), "{seen:?}");
     assert!(seen.overloaded > 1_000 && seen.no_place > 200, "{seen:?}");
 }
 
 #[test]
 fn three_thousand_days_of_up_to_60_minutes_against_the_second_narrowing() {
-    let mut random = Random::new(104);
-    let mut seen = Seen::default();
-    for _ in 0..3_000 {
-        let day = day(&mut random, 60, 12);
-        let settled = settle(&flat::of_day(&day));
+    let seen = each_of(3_000, 104, up_to(60, 12), |day| {
+        let settled = settle(&flat::of_day(day));
         if !matches!(settled, Err(Refusal::Overloaded(_))) {
-            settled_by_rounds(&flat::of_day(&day));
+            settled_by_rounds(&flat::of_day(day));
         }
-        seen.count(&day);
-    }
+    });
     assert!(seen.rounds[..4].iter().all(|&count| count > 20), "{seen:?}");
     assert!(seen.overloaded > 500 && seen.no_place > 100, "{seen:?}");
 }
@@ -128,12 +129,9 @@ fn mirror(day: &Day) -> Day {
 /// overloaded.
 #[test]
 fn the_mirror_of_a_day_is_settled_alike() {
-    let mut random = Random::new(105);
-    let mut seen = Seen::default();
-    for _ in 0..5_000 {
-        let day = day(&mut random, 20, 8);
-        let turned = settle(&flat::of_day(&mirror(&day)));
-        match settle(&flat::of_day(&day)) {
+    let seen = each_of(5_000, 105, up_to(20, 8), |day| {
+        let turned = settle(&flat::of_day(&mirror(day)));
+        match settle(&flat::of_day(day)) {
             Ok(narrowed) => {
                 let found = turned.expect("settled as well");
                 assert_eq!((mirror(&found.day), found.moves), (narrowed.day, narrowed.moves), "{day:?}");
@@ -141,8 +139,7 @@ fn the_mirror_of_a_day_is_settled_alike() {
             Err(refusal @ Refusal::NoPlace { .. }) => assert_eq!(turned, Err(refusal), "{day:?}"),
             Err(_) => assert!(matches!(turned, Err(Refusal::Overloaded(_))), "{day:?}"),
         }
-        seen.count(&day);
-    }
+    });
     assert!(seen.rounds[..3].iter().all(|&count| count > 50), "{seen:?}");
     assert!(seen.overloaded > 500 && seen.no_place > 100, "{seen:?}");
 }

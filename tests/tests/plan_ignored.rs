@@ -4,15 +4,10 @@
 use dock_tests::abi::{self, Answer};
 use dock_tests::check::{overloaded, planned};
 use dock_tests::day::{Day, Interval};
-use dock_tests::flat::{self, Fields, WIDTH};
+use dock_tests::flat::{self, Fields};
+use dock_tests::ignored::{self, SEAL, SERIAL, STANDS, WHOLE};
 use dock_tests::random::{self, Random};
 use dock_tests::samples::{plan, windows};
-
-/// The numbers of a place that are not its window or its minutes.
-const SERIAL: usize = 0;
-const STANDS: usize = 1;
-const SEAL: usize = 2;
-const WHOLE: usize = 6;
 
 /// What both calls say of a value, and what the plan's buffer then holds.
 fn said(fields: &Fields) -> (Answer, Answer, Vec<u8>) {
@@ -43,12 +38,7 @@ fn never_looked_at(seed: u64, numbers: &[usize]) {
         let before = said(&fields);
         seen[usize::from(before.0.number == 9)] += 1;
         for _ in 0..3 {
-            let mut other = fields;
-            for place in 0..day.entries.len() {
-                for number in numbers {
-                    other[2 + WIDTH * place + number] = random.any() as u32 >> random.below(32);
-                }
-            }
+            let other = ignored::with_any(random, &fields, numbers);
             assert!(said(&other) == before, "{numbers:?} of {day:?}");
         }
     });
@@ -82,15 +72,7 @@ fn places_from_n_on_are_never_looked_at() {
         let fields = flat::of_day(day);
         let before = said(&fields);
         seen[usize::from(before.0.number == 9)] += 1;
-        let used = 2 + WIDTH * day.entries.len();
-        for kind in 0..4 {
-            let mut other = fields;
-            other[used..].fill_with(|| match kind {
-                0 => u32::MAX,
-                1 => random.any() as u32,
-                2 => random.below(usize::from(day.h) + 1) as u32,
-                _ => 1,
-            });
+        for other in ignored::with_junk(random, &fields) {
             assert!(said(&other) == before, "junk after {day:?}");
         }
     });

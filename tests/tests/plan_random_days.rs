@@ -5,6 +5,7 @@ use dock_tests::brute;
 use dock_tests::check::{self, number};
 use dock_tests::day::{Day, IDLE, LONGEST_DAY, MOST_ENTRIES};
 use dock_tests::random::{self, Random};
+use dock_tests::values;
 
 /// How many entries a plan breaks.
 fn broken(day: &Day, plan: &[u8]) -> usize {
@@ -121,19 +122,14 @@ fn full_days_of_any_windows_against_the_second_planner() {
 /// The rows in their order, 2, 3, 6, 7, 11, 9, on values that may break any of them.
 #[test]
 fn thirty_thousand_wild_values() {
-    let mut random = Random::new(17);
-    let mut seen = [0; 13];
-    for _ in 0..30_000 {
-        let fields = random::wild_fields(&mut random);
+    let seen = values::wild(17, 30_000, |random, fields| {
         let h = fields[0].min(2_000) as usize;
         let any = random.below(2_000);
         let room = random.pick(&[0, h.saturating_sub(1), h, h, h + 1, 2_000, any]);
-        let test = number(&check::overload(&fields));
-        let plan = number(&check::schedule(&fields, room));
+        let test = number(&check::overload(fields));
+        let plan = number(&check::schedule(fields, room));
         assert!(plan == test || plan == 11 && (test == 0 || test == 9), "{plan} and {test}");
-        seen[plan] += 1;
-    }
-    for expected in [0, 2, 3, 6, 7, 9, 11] {
-        assert!(seen[expected] > 300, "too few of an answer: {seen:?}");
-    }
+        plan
+    });
+    seen.more_than(300, &[0, 2, 3, 6, 7, 9, 11]);
 }

@@ -2,6 +2,7 @@
 
 use dock_tests::check::{not_written, written};
 use dock_tests::flat::{self, Fields, WIDTH};
+use dock_tests::ignored::with_rest;
 use dock_tests::random::{self, Random};
 use dock_tests::{check, samples, writer};
 
@@ -10,14 +11,6 @@ const ROOM: usize = 1000;
 /// The flat form of document 01's sample.
 fn sample() -> Fields {
     flat::of_day(&check::accepted(&samples::document()))
-}
-
-/// The value with other numbers in all its places from n on.
-fn with_rest(fields: &Fields, mut other: impl FnMut() -> u32) -> Fields {
-    let mut fields = *fields;
-    let used = 2 + WIDTH * fields[1] as usize;
-    fields[used..].fill_with(&mut other);
-    fields
 }
 
 #[test]

@@ -1,0 +1,230 @@
+//! Lists handed over as values, for every call that takes one: those that it must refuse whatever else it is
+//! lent, those at the limits that it must accept, and wild ones. "A list handed over as a value is tested for
+//! 2, 3, then 6 and 7 per entry; 2 and 3 then carry 0, 6 and 7 the entry's place."
+
+use crate::day::MOST_ENTRIES;
+use crate::flat::{Fields, SIZE, WIDTH};
+use crate::random::{self, Random};
+use std::panic::{self, AssertUnwindSafe};
+
+/// Holds a call against the values that it must refuse: `check` gets each of them with the number and the
+/// value carried. Fails with the names of the rules that are broken.
+#[track_caller]
+pub fn refused(check: impl Fn(&Fields, u32, usize)) {
+    hold(&RULES, |lists, kinds| lists(&|list, number, carries| check(&list.of(kinds), number, carries)));
+}
+
+/// Holds a call against values at the limits of the rules, which it must accept. All of them have a plan, and
+/// windows that are settled. Fails with the names of the limits.
+#[track_caller]
+pub fn accepted(check: impl Fn(&Fields)) {
+    let limits = [
+        ("the shortest day", list(1, 0, &[])),
+        ("the longest day", list(1440, 0, &[])),
+        ("an entry at any time of the longest day", list(1440, 1, &[[0, 1440, 1]])),
+        ("64 entries", day(&[[0, 100, 1]; MOST_ENTRIES])),
+        ("a window of just its minutes", day(&[[40, 50, 10]])),
+        ("the first minute", day(&[[0, 1, 1]])),
+        ("the last minute", day(&[[99, 100, 1]])),
+        ("an entry that fills the day", day(&[[0, 100, 100]])),
+    ];
+    hold(&limits, |list, kinds| check(&list.of(kinds)));
+}
+
+/// Which places are whole.
+type Kinds = fn(usize) -> bool;
+
+/// The rules on values are the same for entries of either kind.
+const KINDS: [(&str, Kinds); 3] =
+    [("pause", |_| false), ("whole", |_| true), ("whole and pause in turn", |place| place % 2 == 0)];
+
+/// Runs a check of each rule with entries of each kind, all of them even if some fail, so that the failure
+/// has the names of all broken rules.
+#[track_caller]
+fn hold<T>(rules: &[(&str, T)], check: impl Fn(&T, Kinds)) {
+    let mut broken = vec![];
+    for (rule, lists) in rules {
+        for (name, kinds) in KINDS {
+            if panic::catch_unwind(AssertUnwindSafe(|| check(lists, kinds))).is_err() {
+                broken.push(format!("{rule}, entries {name}"));
+            }
+        }
+    }
+    assert!(broken.is_empty(), "broken: {broken:#?}");
+}
+
+/// r, d and p of an entry, right or wrong or too large for their fields.
+type Times = [u32; 3];
+
+/// A value but for the kinds of its entries.
+struct List {
+    h: u32,
+    n: u32,
+    entries: Vec<Times>,
+}
+
+fn list(h: u32, n: u32, entries: &[Times]) -> List {
+    List { h, n, entries: entries.to_vec() }
+}
+
+/// A list that says a day of 100 minutes with these entries.
+fn day(entries: &[Times]) -> List {
+    list(100, entries.len() as u32, entries)
+}
+
+impl List {
+    fn of(&self, kinds: Kinds) -> Fields {
+        let mut fields = [0; SIZE];
+        (fields[0], fields[1]) = (self.h, self.n);
+        for (place, &[r, d, p]) in self.entries.iter().enumerate() {
+            let numbers = [9, 0, 0, r, d, p, u32::from(kinds(place))];
+            fields[2 + WIDTH * place..][..WIDTH].copy_from_slice(&numbers);
+        }
+        fields
+    }
+}
+
+/// A check that the list is refused with this number, carrying this value.
+type Refused<'a> = &'a dyn Fn(List, u32, usize);
+
+/// The rules, each with the lists that break it.
+const RULES: [(&str, fn(Refused)); 12] = [
+    ("a day of 0 minutes or over 1,440 is 2", day_length),
+    ("more than 64 entries are 3", too_many),
+    ("3 whatever the entries", too_many_of_any_sort),
+    ("2 before 3", day_length_first),
+    ("2 and 3 before 6", header_first),
+    ("6 and 7 carry the entry's place", wrong_at_each_place),
+    ("6 before 7", no_minutes_first),
+    ("a window lies in the day and holds the minutes, else 7", window),
+    ("a sum over 65,535 is 7", large_sum),
+    ("an empty window is 7", empty_window),
+    ("the first wrong entry is told", first_wrong_entry),
+    ("a number too large for its field is refused by its own row", too_large),
+];
+
+fn day_length(refused: Refused) {
+    for h in [0, 1441, 1442, 32_768, 65_535] {
+        refused(list(h, 0, &[]), 2, 0);
+        refused(list(h, 1, &[[0, 1, 1]]), 2, 0);
+    }
+}
+
+fn too_many(refused: Refused) {
+    refused(list(100, 65, &[]), 3, 0);
+    for n in 65..=255 {
+        refused(list(100, n, &[[0, 100, 1]; MOST_ENTRIES]), 3, 0);
+    }
+}
+
+/// 3 is given before any entry is looked at: there are only 64 places.
+fn too_many_of_any_sort(refused: Refused) {
+    for entry in [[0, 100, 1], [0, 0, 0], [0, 101, 1], [0, 100, 100]] {
+        refused(list(100, 255, &[entry; MOST_ENTRIES]), 3, 0);
+    }
+}
+
+fn day_length_first(refused: Refused) {
+    refused(list(0, 65, &[]), 2, 0);
+    refused(list(1441, 255, &[]), 2, 0);
+}
+
+fn header_first(refused: Refused) {
+    let wrong = [[0, 0, 0]; MOST_ENTRIES];
+    refused(list(0, 64, &wrong), 2, 0);
+    refused(list(0, 65, &wrong), 2, 0);
+    refused(list(1441, 64, &wrong), 2, 0);
+    refused(list(100, 65, &wrong), 3, 0);
+    refused(list(100, 255, &wrong), 3, 0);
+    refused(list(100, 64, &wrong), 6, 0);
+    refused(list(0, 1, &[[0, 0, 1]]), 2, 0);
+}
+
+/// Full days in which one entry has no minutes, ends past the day or is too long for it.
+fn wrong_at_each_place(refused: Refused) {
+    for (number, wrong) in [(6, [0, 100, 0]), (7, [0, 101, 1]), (7, [0, 100, 101])] {
+        for place in 0..MOST_ENTRIES {
+            let mut entries = [[0, 100, 1]; MOST_ENTRIES];
+            entries[place] = wrong;
+            refused(day(&entries), number, place);
+        }
+    }
+}
+
+fn no_minutes_first(refused: Refused) {
+    for (r, d) in [(0, 101), (60, 50), (65_535, 65_535), (0, 0)] {
+        refused(day(&[[r, d, 0]]), 6, 0);
+    }
+}
+
+fn window(refused: Refused) {
+    for times in [[0, 101, 1], [100, 100, 1], [40, 50, 11], [41, 50, 10], [51, 50, 1], [0, 0, 1]] {
+        refused(day(&[times]), 7, 0);
+    }
+}
+
+/// r + p above 65,535 must not begin at 0 again: r 65,535 and p 1 is 7.
+fn large_sum(refused: Refused) {
+    for (r, p) in [(65_535, 1), (65_535, 2), (1, 65_535), (2, 65_535), (32_768, 32_768), (65_535, 65_535)] {
+        refused(day(&[[r, 100, p]]), 7, 0);
+        refused(day(&[[0, 100, 1], [r, 100, p]]), 7, 1);
+    }
+}
+
+/// An empty window makes no interval and would pass the overload test, and no start could be tried in it. It
+/// is 7, and never comes to 9 or 10.
+fn empty_window(refused: Refused) {
+    for times in [[50, 50, 1], [60, 50, 1]] {
+        refused(day(&[times]), 7, 0);
+        refused(day(&[[0, 100, 10], times]), 7, 1);
+    }
+    refused(day(&[[0, 10, 10], [5, 5, 1]]), 7, 1);
+}
+
+fn first_wrong_entry(refused: Refused) {
+    let (right, idle, wide) = ([0, 100, 1], [0, 100, 0], [0, 100, 101]);
+    refused(day(&[wide, idle]), 7, 0);
+    refused(day(&[idle, wide]), 6, 0);
+    refused(day(&[right, wide]), 7, 1);
+    refused(day(&[right, idle]), 6, 1);
+    refused(day(&[right, wide, idle]), 7, 1);
+    refused(day(&[right, idle, wide]), 6, 1);
+}
+
+/// Numbers too large for their field get the refusal that the number itself would get.
+fn too_large(refused: Refused) {
+    for more in [65_536, 65_548, 65_536 + 100, 131_072, u32::MAX] {
+        refused(list(more, 1, &[[0, 100, 4]]), 2, 0);
+        refused(day(&[[more, 100, 4]]), 7, 0);
+        refused(day(&[[0, more, 4]]), 7, 0);
+        refused(day(&[[0, 100, more]]), 7, 0);
+    }
+    for n in [65, 256, 257, 256 + 3, 65_536 + 3, 0xFFFF_FF03] {
+        refused(list(100, n, &[[0, 100, 4]]), 3, 0);
+    }
+}
+
+/// How often each number was answered, 0 for a success.
+#[derive(Debug)]
+pub struct Seen([usize; 14]);
+
+/// Asks a call for the number that it answers to so many values that may break any row.
+pub fn wild(seed: u64, times: usize, mut call: impl FnMut(&mut Random, &Fields) -> usize) -> Seen {
+    let mut random = Random::new(seed);
+    let mut seen = Seen([0; 14]);
+    for _ in 0..times {
+        let fields = random::wild_fields(&mut random);
+        seen.0[call(&mut random, &fields)] += 1;
+    }
+    seen
+}
+
+impl Seen {
+    /// Each of these numbers was answered more than `times`.
+    #[track_caller]
+    pub fn more_than(&self, times: usize, numbers: &[usize]) {
+        for &number in numbers {
+            assert!(self.0[number] > times, "too few of an answer: {self:?}");
+        }
+    }
+}
