@@ -9,6 +9,7 @@ pub mod Costs
 mod RoundsEnd
 -- Searches are exact, settled sets stay inside, and the law of narrowing. The crates above are to cite NarrowLaws.
 mod Exact
+pub mod MirrorSettled
 mod SettledSteps
 mod Fixpoints
 mod UnbrokenPlans

@@ -85,7 +85,7 @@ module _ (w : Windows) (k : ℕ) (place : k < w .n) where
   fixed-at-mirror e long in-day = put-mirror (e - w .p k) e _ _ refl (omega arith)
 
   -- another r of k, in the mirror another d
-  pub with-r-mirror : (s : ℕ) → withD (mirror w) k (w .h - s) ≡ mirror (withR w k s)
+  with-r-mirror : (s : ℕ) → withD (mirror w) k (w .h - s) ≡ mirror (withR w k s)
   with-r-mirror s =
       sym (with-d (mirror w) k (w .h - s)) ∙ put-mirror s (w .d k) _ _ mirror-r refl ∙ ap mirror (with-r w k s)
 
