@@ -2,7 +2,7 @@
 -- Assumes nothing.
 use mathlib.Core.Path.{_≡_, refl, sym, ap, _∙_, fun-ext}
 use mathlib.Core.Bool.{Bool, true, false, cond, false≢true}
-use Prim.Native.Nat.{ℕ, zero, suc, _+_, _-_, _<_, _≤_}
+use Prim.Native.Nat.{ℕ, zero, suc, _+_, _<_, _≤_}
 use native.Mathlib.Omega.{arith}
 use Rattle.list.specs.Outcomes.{Outcome, answered, refused, andThen}
 use Rattle.list.proofs.Inversion.{Says, by-step, Anything}
@@ -46,24 +46,22 @@ module _ {test : Test} (planner : Planner test) (whole : ℕ → Bool) where
 moved-none : (a b : ℕ) → moved a b ≡ 0 → a ≡ b
 moved-none a b = place-cases (λ t. _≡_ {A = ℕ} (cond t 0 1) 0 → a ≡ b) a b (λ e _. e) (λ _ z. absurd (omega arith))
 
--- so a step without a move leaves the windows as they are
+-- so a window of k put without a move leaves the windows as they are
 window-still : (k : ℕ) (w : Windows) (s e : ℕ) → movesOf k w (withWindow w k s e) ≡ 0 → withWindow w k s e ≡ w
 window-still k w s e none =
     let from : w .r k ≡ s = moved-none (w .r k) _ (omega arith) ∙ put-same k s (w .r) in
     let to : w .d k ≡ e = moved-none (w .d k) _ (omega arith) ∙ put-same k e (w .d) in
     (λ j. withWindow w k (sym from j) (sym to j)) ∙ with-r w k (w .r k) ∙ (λ j. withWindows w (put-back k (w .r) j) (w .d))
 
+-- what holds of every answer
+by-answer : (P : Windows → Type 0) (o : Outcome ℕ) (f : ℕ → Windows) → ((x : ℕ) → P (f x)) → Says P Anything (andThen o (λ x. answered (f x)))
+by-answer P (answered x) f each = each x
+by-answer P (refused k) f each = tt
+
+-- and so does a step; whatever room the windows have, so not by the mirror
 step-still : (test : Test) (side : Side) (k : ℕ) (w : Windows) → Says (λ v. movesOf k w v ≡ 0 → v ≡ w) Anything (step test side k w)
-step-still test earliest k w = go (leastStart test w k)
-  where
-    go : (o : Outcome ℕ) → Says (λ v. movesOf k w v ≡ 0 → v ≡ w) Anything (andThen o (λ s. answered (withR w k s)))
-    go (answered s) = rw (← with-r w k s) (window-still k w s (w .d k))
-    go (refused x) = tt
-step-still test latest k w = go (greatestEnd test w k)
-  where
-    go : (o : Outcome ℕ) → Says (λ v. movesOf k w v ≡ 0 → v ≡ w) Anything (andThen o (λ e. answered (withD w k e)))
-    go (answered e) = rw (← with-d w k e) (window-still k w (w .r k) e)
-    go (refused x) = tt
+step-still test earliest k w = by-answer _ (leastStart test w k) (withR w k) (λ s. rw (← with-r w k s) (window-still k w s (w .d k)))
+step-still test latest k w = by-answer _ (greatestEnd test w k) (withD w k) (λ e. rw (← with-d w k e) (window-still k w (w .r k) e))
 
 -- from s to v: moves are only added, and if none is, nothing has changed and X holds
 record Still (X : Type 0) (s v : Narrowed) : Type 0 where

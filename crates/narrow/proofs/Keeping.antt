@@ -3,11 +3,11 @@
 use mathlib.Core.Path.{_≡_, refl, ap, _∙_}
 use mathlib.Core.Bool.{cond}
 use mathlib.Core.List.{[], _∷_}
-use Prim.Native.Nat.{ℕ, _+_, _-_, _<_, _≤_}
+use Prim.Native.Nat.{ℕ, _+_, _<_, _≤_}
 use native.Mathlib.Omega.{arith}
 use borrow.Author.Tests.{eqb-false, le-ltb}
 use lib.Dec.{eqb}
-use Rattle.list.specs.Outcomes.{Code, code, answered, refused}
+use Rattle.list.specs.Outcomes.{Code, code, answered}
 use Rattle.list.proofs.Inversion.{Says, by-row, by-step}
 use Rattle.jackson.specs.Windows.{Windows, Inside, withWindows}
 use Rattle.jackson.specs.Mirrors.{mirror}
@@ -25,7 +25,7 @@ pub record Keeps (w v : Windows) : Type 0 where
   pub inside : Inside v w
   pub past : (i : ℕ) → w .n ≤ i → (v .r i ≡ w .r i) × (v .d i ≡ w .d i)
 
--- windows with room, inside such ones
+-- windows inside those of w that leave every entry room
 pub formed-inside : (w : Windows) → Formed w → (r d : ℕ → ℕ) → Inside (withWindows w r d) w → ((i : ℕ) → i < w .n → r i + w .p i ≤ d i)
     → Formed (withWindows w r d)
 formed-inside w formed r d inside room =
@@ -36,7 +36,7 @@ formed-inside w formed r d inside room =
       room = room;
     }
 
--- windows inside w that leave every entry room, and are those of w past the entries
+-- they keep w, if past the entries they are those of w
 pub keeps-windows : (w : Windows) → Formed w → (r d : ℕ → ℕ)
     → ((i : ℕ) → i < w .n → (w .r i ≤ r i) × (d i ≤ w .d i) × (r i + w .p i ≤ d i))
     → ((i : ℕ) → w .n ≤ i → (r i ≡ w .r i) × (d i ≡ w .d i))
@@ -94,9 +94,7 @@ keeps-mirror w formed {v} keeps =
       entries = ap (λ x. withWindows x (mirror v .r) (mirror v .d)) (keeps .entries);
       formed = formed-mirror v (keeps .formed);
       inside = rw (mirror-back w formed) at (inside-mirror v (mirror w) (keeps-h keeps) (keeps-n keeps) (keeps .inside));
-      past =
-          λ i l.
-          rw (keeps-n keeps, le-ltb i (w .n) l) (rw (le-ltb i (w .n) l) at (keeps .past i l));
+      past = λ i l. rw (keeps-n keeps, le-ltb i (w .n) l) (rw (le-ltb i (w .n) l) at (keeps .past i l));
     }
 
 -- Searches and steps.

@@ -105,24 +105,25 @@ module _ (w : Windows) (formed : Formed w) (k : ℕ) (place : k < w .n) where
 pub record InMirror (f g : Test) : Type 0 where
   pub accepted : (u : Windows) → Formed u → accepts (f (mirror u)) ≡ accepts (g u)
 
--- every test has such a one
+-- for any test g there is one
 abbrev pub mirrorTest : Test → Test
-mirrorTest test u = test (mirror u)
+mirrorTest g u = g (mirror u)
 
-pub any-in-mirror : (test : Test) → InMirror (mirrorTest test) test
-any-in-mirror test = record { accepted = λ u formed. ap (λ x. accepts (test x)) (mirror-back u formed) }
+pub any-in-mirror : (g : Test) → InMirror (mirrorTest g) g
+any-in-mirror g = record { accepted = λ u formed. ap (λ x. accepts (g x)) (mirror-back u formed) }
 
--- and a planner's is its own
+-- and for a planner's test it is the test itself
 pub planner-in-mirror : {test : Test} → Planner test → InMirror test test
-planner-in-mirror {test} planner = record { accepted = each }
-  where
-    each : (u : Windows) → Formed u → accepts (test (mirror u)) ≡ accepts (test u)
-    each u formed =
-        let here = planner .exact u formed in
-        let there = planner .exact (mirror u) (formed-mirror u formed) in
-        alike (test (mirror u)) (test u)
-        (λ e. here .0 (mirror-plannable u formed (there .1 e)))
-        (λ e. there .0 (plannable-mirror u (here .1 e)))
+planner-in-mirror {test} planner =
+    record {
+      accepted =
+          λ u formed.
+          let here = planner .exact u formed in
+          let there = planner .exact (mirror u) (formed-mirror u formed) in
+          alike (test (mirror u)) (test u)
+          (λ e. here .0 (mirror-plannable u formed (there .1 e)))
+          (λ e. there .0 (plannable-mirror u (here .1 e)));
+    }
 
 module _ {f g : Test} (same : InMirror f g) (w : Windows) (formed : Formed w) (k : ℕ) (place : k < w .n) where
   -- as many ends are skipped as starts in the mirror

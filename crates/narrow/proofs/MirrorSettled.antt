@@ -28,14 +28,15 @@ consecutive-mirror h m k s e run =
     }
 
 module _ (w : Windows) (formed : Formed w) (k : ℕ) (place : k < w .n) where
-  -- from r on, in the mirror up to d
-  pub end-plan : SidePlan earliest w k → SidePlan latest (mirror w) k
-  end-plan z =
+  -- minutes from r on are minutes up to d in the mirror
+  pub earliest-mirror : SidePlan earliest w k → SidePlan latest (mirror w) k
+  earliest-mirror z =
       let e : w .h - w .r k - w .p k ≡ w .h - (w .r k + w .p k) = omega arith in
       (_, mirror-plan w (z .0) (z .1), rw (mirror-d w k place, e) (consecutive-mirror (w .h) (z .0) k _ _ (z .2)))
 
-  start-plan : SidePlan latest w k → SidePlan earliest (mirror w) k
-  start-plan z =
+  -- and those up to d are from r on
+  latest-mirror : SidePlan latest w k → SidePlan earliest (mirror w) k
+  latest-mirror z =
       let e : w .h - w .d k + w .p k ≡ w .h - (w .d k - w .p k) = omega (arith, formed .in-day k place, formed .room k place) in
       (_, mirror-plan w (z .0) (z .1), rw (mirror-r w k place, e) (consecutive-mirror (w .h) (z .0) k _ _ (z .2)))
 
@@ -43,8 +44,8 @@ pub settled-mirror : (whole : ℕ → Bool) (w : Windows) → Formed w → Settl
 settled-mirror whole w formed settled =
     record {
       plan = plannable-mirror w (settled .plan);
-      from-r = λ k place q. start-plan w formed k place (settled .up-to-d k place q);
-      up-to-d = λ k place q. end-plan w formed k place (settled .from-r k place q);
+      from-r = λ k place q. latest-mirror w formed k place (settled .up-to-d k place q);
+      up-to-d = λ k place q. earliest-mirror w formed k place (settled .from-r k place q);
     }
 
 module _ (whole : ℕ → Bool) (w : Windows) (formed : Formed w) (r d : ℕ → ℕ) (set : SettledInside whole w r d) where

@@ -22,7 +22,7 @@ use Rattle.narrow.proofs.Planners.{Planner}
 use Rattle.narrow.proofs.Puts.{put-same, put-under, fixed-consecutive, window-after-r, fixed-inside, consecutive-fixed}
 use Rattle.narrow.proofs.MirrorSearches.{plannable-mirror, formed-mirror, mirror-back, planner-in-mirror, step-mirror}
 use Rattle.narrow.proofs.Keeping.{Keeps, keeps-same, keeps-n, keeps-trans, keeps-mirror, keeps-r}
-use Rattle.narrow.proofs.MirrorSettled.{SidePlan, end-plan, set-formed, set-mirror}
+use Rattle.narrow.proofs.MirrorSettled.{SidePlan, earliest-mirror, set-formed, set-mirror}
 use Rattle.narrow.proofs.Exact.{Searched, start-searched}
 
 -- windows have a plan if some inside them have one
@@ -117,7 +117,7 @@ module _ {test : Test} (planner : Planner test) (whole : ℕ → Bool) (w : Wind
 
 -- Ends, by the mirror.
 
--- from w to v in the mirror
+-- what is done to the mirrored windows is done to the windows
 narrows-mirror : {whole : ℕ → Bool} (w : Windows) → Formed w → (v : Windows) → Narrows whole (mirror w) v → Narrows whole w (mirror v)
 narrows-mirror {whole} w formed v a =
     record {
@@ -143,7 +143,7 @@ module _ {test : Test} (planner : Planner test) (whole : ℕ → Bool) where
       go : (o : Outcome Windows) → StepNarrowsOr whole earliest k (mirror w) o → StepNarrowsOr whole latest k w (andThen o (λ v. answered (mirror v)))
       go (answered v) a =
           let kept = a .narrows .keeps in
-          record { narrows = narrows-mirror w formed v (a .narrows); plan = end-plan v (kept .formed) k (omega (arith, keeps-n kept)) (a .plan) }
+          record { narrows = narrows-mirror w formed v (a .narrows); plan = earliest-mirror v (kept .formed) k (omega (arith, keeps-n kept)) (a .plan) }
       go (refused x) none = λ r d set. none _ _ (set-mirror whole w formed r d set)
 
   side-narrows : (side : Side) (s : Narrowed) → Formed (s .windows) → (k : ℕ) → k < s .windows .n → whole k ≡ true
