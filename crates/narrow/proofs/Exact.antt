@@ -46,7 +46,7 @@ module _ (Is : ℕ → Type 0) (None : Type 0) (k : ℕ) (one : (s t : ℕ) → 
       back (refused x) (ten, _) none = ap refused ten
 
 module _ (w : Windows) (k : ℕ) where
-  -- there is at most one least start and one greatest end
+  -- there is at most one least start and one greatest end; the second by the mirror would be longer
   one-start : (s t : ℕ) → IsLeastStart w k s → IsLeastStart w k t → s ≡ t
   one-start s t a b =
       let up : s ≤ t = le-or-lt s t (λ l. l) (λ l. absurd (a .least t (b .from-r) l (b .plan))) in

@@ -2,60 +2,43 @@
 -- Assumes nothing.
 use mathlib.Core.Path.{_≡_, refl, sym, ap, _∙_, fun-ext}
 use mathlib.Core.Bool.{Bool, true, false, cond, false≢true}
-use Prim.Native.Nat.{ℕ, zero, suc, _+_, _-_, _<_, _≤_}
+use Prim.Native.Nat.{ℕ, zero, suc, _+_, _<_, _≤_}
 use native.Mathlib.Omega.{arith}
 use Rattle.list.specs.Outcomes.{Outcome, answered, refused, andThen}
 use Rattle.list.proofs.Inversion.{Says, by-step, Anything}
 use Rattle.jackson.specs.Windows.{Windows, withWindows}
-use Rattle.jackson.specs.Plans.{Plan}
 use Rattle.jackson.specs.Existence.{Plannable}
 use Rattle.jackson.proofs.Sums.{le-or-lt, below-suc}
-use Rattle.jackson.proofs.PlanFacts.{widen}
-use Rattle.narrow.specs.Searching.{Test, withR, withD, fixedAt, SearchLaw}
-use Rattle.narrow.specs.Settling.{Consecutive, Settled, SettledInside, Widest}
+use Rattle.narrow.specs.Searching.{Test, withR, withD, withWindow, leastStart, greatestEnd}
+use Rattle.narrow.specs.Settling.{Settled, SettledInside, Widest}
 use Rattle.narrow.specs.Rounds.{Side, earliest, latest, step, Narrowed, moved, movesOf, narrowSide, visit, visits, round, RoundsGive, last, next, stopped, rounds, slack}
 use Rattle.narrow.specs.StepLists.{NothingLeft}
 use Rattle.narrow.specs.Laws.{Formed}
+use Rattle.narrow.proofs.Planners.{Planner}
 use Rattle.narrow.proofs.RoundsEnd.{rounds-are}
-use Rattle.narrow.proofs.Puts.{place-cases, put-back, fixed-up-to, fixed-consecutive, fixed-inside}
-use Rattle.narrow.proofs.SettledSteps.{Narrows, NarrowsOr, start-found, end-found, rounds-narrow}
+use Rattle.narrow.proofs.Puts.{place-cases, put-same, put-back, with-r, with-d}
+use Rattle.narrow.proofs.MirrorSettled.{SidePlan}
+use Rattle.narrow.proofs.SettledSteps.{Narrows, NarrowsOr, step-narrows, rounds-narrow}
 
 -- Windows that no step changes.
 
-module _ (test : Test) (whole : ℕ → Bool) (w : Windows) (formed : Formed w) (laws : (k : ℕ) → k < w .n → SearchLaw test w k) where
-  -- a plan for k's window fixed to [s, e) is one for w, and k has all of these minutes
-  fixed-run : (k : ℕ) → k < w .n → (s e : ℕ) → s + w .p k ≡ e → w .r k ≤ s → e ≤ w .d k → Plannable (fixedAt w k s)
-      → (m : ℕ → ℕ) × Plan w m × Consecutive (w .h) m k s e
-  fixed-run k place s e full from to z =
-      let room : s + w .p k ≤ w .d k = omega arith in
-      (z .0, widen w _ _ (z .0) (fixed-inside w k s from room) (z .1), rw full at (fixed-consecutive w formed k s place room (z .0) (z .1)))
+module _ {test : Test} (planner : Planner test) (whole : ℕ → Bool) where
+  -- each step leaves a plan with consecutive minutes on its side, and these windows
+  nothing-settled : (w : Windows) → Formed w → Plannable w → NothingLeft test whole w → Settled whole w
+  nothing-settled w formed planned nothing = record { plan = planned; from-r = left earliest; up-to-d = left latest }
+    where
+      left : (side : Side) (k : ℕ) → k < w .n → whole k ≡ true → SidePlan side w k
+      left side k place q = (rw (nothing k side place q) at (step-narrows planner whole side w formed k place q)) .plan
 
-  -- the searches answer r and d as they are, so there are plans with consecutive minutes from r on and up to d
-  nothing-settled : Plannable w → NothingLeft test whole w → Settled whole w
-  nothing-settled planned nothing =
+  -- settled sets stay inside on the way, so windows at which nothing is left to do are the widest
+  pub nothing-widest : (w v : Windows) → Plannable w → Narrows whole w v → NothingLeft test whole v → Widest whole w v
+  nothing-widest w v planned narrows nothing =
       record {
-        plan = planned;
-        from-r =
-            λ k place q.
-            let found = laws k place .start-is (w .r k) .0 (start-found test k w w (nothing k earliest place q) .0) in
-            fixed-run k place (w .r k) (w .r k + w .p k) refl (omega arith) (found .room) (found .plan);
-        up-to-d =
-            λ k place q.
-            let found = laws k place .end-is (w .d k) .0 (end-found test k w w (nothing k latest place q) .0) in
-            fixed-run k place (w .d k - w .p k) (w .d k) (omega (arith, found .room)) (omega (arith, found .room)) (omega arith)
-            (rw (fixed-up-to w k (w .d k) (omega (arith, found .room))) at (found .plan));
+        entries = narrows .keeps .entries;
+        inside = narrows .keeps .inside;
+        settled = nothing-settled v (narrows .keeps .formed) (narrows .plannable planned) nothing;
+        widest = λ r d set. let z = narrows .stays r d set .inside in record { r = z .r; d = z .d };
       }
-
--- settled sets stay inside on the way, so windows at which nothing is left to do are the widest
-pub nothing-widest : (test : Test) (whole : ℕ → Bool) (w v : Windows) → ((k : ℕ) → k < v .n → SearchLaw test v k)
-    → Plannable w → Narrows whole w v → NothingLeft test whole v → Widest whole w v
-nothing-widest test whole w v laws planned narrows nothing =
-    record {
-      entries = narrows .keeps .entries;
-      inside = narrows .keeps .inside;
-      settled = nothing-settled test whole v (narrows .keeps .formed) laws (narrows .plannable planned) nothing;
-      widest = λ r d set. let z = narrows .stays r d set .inside in record { r = z .r; d = z .d };
-    }
 
 -- Rounds without moves.
 
@@ -63,14 +46,22 @@ nothing-widest test whole w v laws planned narrows nothing =
 moved-none : (a b : ℕ) → moved a b ≡ 0 → a ≡ b
 moved-none a b = place-cases (λ t. _≡_ {A = ℕ} (cond t 0 1) 0 → a ≡ b) a b (λ e _. e) (λ _ z. absurd (omega arith))
 
--- so a step without a move leaves the windows as they are
-step-still : (test : Test) (side : Side) (k : ℕ) (w v : Windows) → step test side k w ≡ answered v → movesOf k w v ≡ 0 → v ≡ w
-step-still test earliest k w v e none =
-    let at = moved-none (w .r k) (v .r k) (omega arith) in
-    start-found test k w v e .1 ∙ ap (withR w k) (sym at) ∙ (λ i. withWindows w (put-back k (w .r) i) (w .d))
-step-still test latest k w v e none =
-    let at = moved-none (w .d k) (v .d k) (omega arith) in
-    end-found test k w v e .1 ∙ ap (withD w k) (sym at) ∙ (λ i. withWindows w (w .r) (put-back k (w .d) i))
+-- so a window of k put without a move leaves the windows as they are
+window-still : (k : ℕ) (w : Windows) (s e : ℕ) → movesOf k w (withWindow w k s e) ≡ 0 → withWindow w k s e ≡ w
+window-still k w s e none =
+    let from : w .r k ≡ s = moved-none (w .r k) _ (omega arith) ∙ put-same k s (w .r) in
+    let to : w .d k ≡ e = moved-none (w .d k) _ (omega arith) ∙ put-same k e (w .d) in
+    (λ j. withWindow w k (sym from j) (sym to j)) ∙ with-r w k (w .r k) ∙ (λ j. withWindows w (put-back k (w .r) j) (w .d))
+
+-- what holds of every answer
+by-answer : (P : Windows → Type 0) (o : Outcome ℕ) (f : ℕ → Windows) → ((x : ℕ) → P (f x)) → Says P Anything (andThen o (λ x. answered (f x)))
+by-answer P (answered x) f each = each x
+by-answer P (refused k) f each = tt
+
+-- and so does a step; whatever room the windows have, so not by the mirror
+step-still : (test : Test) (side : Side) (k : ℕ) (w : Windows) → Says (λ v. movesOf k w v ≡ 0 → v ≡ w) Anything (step test side k w)
+step-still test earliest k w = by-answer _ (leastStart test w k) (withR w k) (λ s. rw (← with-r w k s) (window-still k w s (w .d k)))
+step-still test latest k w = by-answer _ (greatestEnd test w k) (withD w k) (λ e. rw (← with-d w k e) (window-still k w (w .r k) e))
 
 -- from s to v: moves are only added, and if none is, nothing has changed and X holds
 record Still (X : Type 0) (s v : Narrowed) : Type 0 where
@@ -105,20 +96,20 @@ module _ (test : Test) (whole : ℕ → Bool) where
 
   side-still : (side : Side) (k : ℕ) (s : Narrowed) → Says (Still (Stays side k s) s) Anything (narrowSide test side k s)
   unfolding narrowSide
-  side-still side k s = go (step test side k (s .windows)) refl
+  side-still side k s = go (step test side k (s .windows)) refl (step-still test side k (s .windows))
     where
-      go : (o : Outcome Windows) → step test side k (s .windows) ≡ o
+      go : (o : Outcome Windows) → step test side k (s .windows) ≡ o → Says (λ v. movesOf k (s .windows) v ≡ 0 → v ≡ s .windows) Anything o
           → Says (Still (Stays side k s) s) Anything
           (andThen o (λ v. answered (record { windows = v; moves = s .moves + movesOf k (s .windows) v })))
-      go (answered v) e =
+      go (answered v) e still =
           record {
             more = omega arith;
             same =
                 λ q.
-                let z = step-still test side k (s .windows) v e (omega arith) in
+                let z = still (omega arith) in
                 (λ i. record { windows = z i; moves = q i }, e ∙ ap answered z);
           }
-      go (refused x) e = tt
+      go (refused x) e still = tt
 
   -- neither step for it does, if it is whole
   abbrev Passed : ℕ → Narrowed → Type 0
@@ -162,15 +153,14 @@ module _ (test : Test) (whole : ℕ → Bool) where
   rounds-end (stopped e) = tt
 
 -- so they answer the widest settled windows
-pub rounds-widest : (test : Test) (whole : ℕ → Bool) → ((w : Windows) → Formed w → (k : ℕ) → k < w .n → SearchLaw test w k)
-    → (fuel : ℕ) (s : Narrowed) → Formed (s .windows) → Plannable (s .windows) → slack whole (s .windows) < fuel
+pub rounds-widest : {test : Test} → Planner test → (whole : ℕ → Bool) (fuel : ℕ) (s : Narrowed) → Formed (s .windows) → Plannable (s .windows) → slack whole (s .windows) < fuel
     → Says (λ v. Widest whole (s .windows) (v .windows)) Anything (rounds test whole fuel s)
-rounds-widest test whole laws fuel s formed planned enough =
-    go (rounds test whole fuel s) (rounds-narrow test whole laws fuel s formed) (rounds-end test whole (rounds-are test whole fuel s formed enough))
+rounds-widest {test} planner whole fuel s formed planned enough =
+    go (rounds test whole fuel s) (rounds-narrow planner whole fuel s formed) (rounds-end test whole (rounds-are test whole fuel s formed enough))
   where
     go : (o : Outcome Narrowed) → NarrowsOr whole (s .windows) o → Says (λ v. NothingLeft test whole (v .windows)) Anything o
         → Says (λ v. Widest whole (s .windows) (v .windows)) Anything o
-    go (answered v) a nothing = nothing-widest test whole (s .windows) (v .windows) (laws (v .windows) (a .keeps .formed)) planned a nothing
+    go (answered v) a nothing = nothing-widest planner whole (s .windows) (v .windows) planned a nothing
     go (refused k) none nothing = tt
 
 -- Two widest settled sets lie inside each other: they are the same windows, if they are the same past the entries.

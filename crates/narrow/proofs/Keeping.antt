@@ -3,19 +3,20 @@
 use mathlib.Core.Path.{_≡_, refl, ap, _∙_}
 use mathlib.Core.Bool.{cond}
 use mathlib.Core.List.{[], _∷_}
-use Prim.Native.Nat.{ℕ, _+_, _-_, _<_, _≤_}
+use Prim.Native.Nat.{ℕ, _+_, _<_, _≤_}
 use native.Mathlib.Omega.{arith}
-use borrow.Author.Tests.{eqb-false}
+use borrow.Author.Tests.{eqb-false, le-ltb}
 use lib.Dec.{eqb}
-use Rattle.list.specs.Outcomes.{Code, code, answered, refused}
+use Rattle.list.specs.Outcomes.{Code, code, answered}
 use Rattle.list.proofs.Inversion.{Says, by-row, by-step}
-use Rattle.jackson.specs.Windows.{Windows, withWindows}
+use Rattle.jackson.specs.Windows.{Windows, Inside, withWindows}
+use Rattle.jackson.specs.Mirrors.{mirror}
 use Rattle.jackson.proofs.Searches.{first-below}
-use Rattle.narrow.specs.Searching.{Test, withR, withD, trials, failedStarts, failedEnds, leastStart, greatestEnd}
+use Rattle.narrow.specs.Searching.{Test, withR, trials, failedStarts, leastStart}
 use Rattle.narrow.specs.Rounds.{Side, earliest, latest, step}
 use Rattle.narrow.specs.Laws.{Formed}
 use Rattle.narrow.proofs.Puts.{place-cases, put-other}
-use Rattle.jackson.specs.Windows.{Inside}
+use Rattle.narrow.proofs.MirrorSearches.{formed-mirror, mirror-back, mirror-r, mirror-d, mirrorTest, any-in-mirror, step-mirror}
 
 -- from w to v: the same entries, with room, inside, and past the entries the same
 pub record Keeps (w v : Windows) : Type 0 where
@@ -24,24 +25,25 @@ pub record Keeps (w v : Windows) : Type 0 where
   pub inside : Inside v w
   pub past : (i : ℕ) → w .n ≤ i → (v .r i ≡ w .r i) × (v .d i ≡ w .d i)
 
--- windows inside w that leave every entry room, and are those of w past the entries
+-- windows inside those of w that leave every entry room
+pub formed-inside : (w : Windows) → Formed w → (r d : ℕ → ℕ) → Inside (withWindows w r d) w → ((i : ℕ) → i < w .n → r i + w .p i ≤ d i)
+    → Formed (withWindows w r d)
+formed-inside w formed r d inside room =
+    record {
+      few = formed .few;
+      minutes = formed .minutes;
+      in-day = λ i place. omega (arith, formed .in-day i place, inside .d i place);
+      room = room;
+    }
+
+-- they keep w, if past the entries they are those of w
 pub keeps-windows : (w : Windows) → Formed w → (r d : ℕ → ℕ)
     → ((i : ℕ) → i < w .n → (w .r i ≤ r i) × (d i ≤ w .d i) × (r i + w .p i ≤ d i))
     → ((i : ℕ) → w .n ≤ i → (r i ≡ w .r i) × (d i ≡ w .d i))
     → Keeps w (withWindows w r d)
 keeps-windows w formed r d each past =
-    record {
-      entries = refl;
-      formed =
-          record {
-            few = formed .few;
-            minutes = formed .minutes;
-            in-day = λ i place. omega (arith, formed .in-day i place, each i place .1);
-            room = λ i place. each i place .2;
-          };
-      inside = record { r = λ i place. each i place .0; d = λ i place. each i place .1 };
-      past = past;
-    }
+    let inside : Inside (withWindows w r d) w = record { r = λ i place. each i place .0; d = λ i place. each i place .1 } in
+    record { entries = refl; formed = formed-inside w formed r d inside (λ i place. each i place .2); inside = inside; past = past }
 
 pub keeps-same : (w : Windows) → Formed w → Keeps w w
 keeps-same w formed = keeps-windows w formed (w .r) (w .d) (λ i place. (omega arith, omega arith, formed .room i place)) (λ i _. (refl, refl))
@@ -75,49 +77,47 @@ keeps-trans {u} {v} {w} a b =
           (y .0 ∙ x .0, y .1 ∙ x .1);
     }
 
+-- The mirror.
+
+-- what lies inside does so in the mirror
+pub inside-mirror : (v w : Windows) → v .h ≡ w .h → v .n ≡ w .n → Inside v w → Inside (mirror v) (mirror w)
+inside-mirror v w day count inside =
+    record {
+      r = λ i place. omega (arith, mirror-r v i (omega arith), mirror-r w i place, inside .d i place);
+      d = λ i place. omega (arith, mirror-d v i (omega arith), mirror-d w i place, inside .r i place);
+    }
+
+-- what is kept in the mirror is kept
+pub keeps-mirror : (w : Windows) → Formed w → {v : Windows} → Keeps (mirror w) v → Keeps w (mirror v)
+keeps-mirror w formed {v} keeps =
+    record {
+      entries = ap (λ x. withWindows x (mirror v .r) (mirror v .d)) (keeps .entries);
+      formed = formed-mirror v (keeps .formed);
+      inside = rw (mirror-back w formed) at (inside-mirror v (mirror w) (keeps-h keeps) (keeps-n keeps) (keeps .inside));
+      past = λ i l. rw (keeps-n keeps, le-ltb i (w .n) l) (rw (le-ltb i (w .n) l) at (keeps .past i l));
+    }
+
 -- Searches and steps.
 
 -- row 10 with the place of k
 abbrev pub RefusedAt : ℕ → Code → Type 0
 RefusedAt k x = x ≡ code 10 (k ∷ [])
 
--- the starts and the ends of k that are tried
+-- the starts of k that are tried
 abbrev pub StartTried : Windows → ℕ → ℕ → Type 0
 StartTried w k s = (w .r k ≤ s) × (s + w .p k ≤ w .d k)
 
-abbrev pub EndTried : Windows → ℕ → ℕ → Type 0
-EndTried w k e = (e ≤ w .d k) × (w .r k + w .p k ≤ e)
-
-module _ (test : Test) (w : Windows) (k : ℕ) where
-  -- a search finds one of them, or refuses k
-  pub start-says : Says (StartTried w k) (RefusedAt k) (leastStart test w k)
-  unfolding failedStarts leastStart
-  start-says =
-      let j = failedStarts test w k in
-      let within : j ≤ trials w k = first-below (trials w k) _ .within in
-      by-row (StartTried w k) (RefusedAt k) (eqb j (trials w k)) _ (answered (w .r k + j)) (λ _. refl)
-      (λ e. let z = eqb-false j (trials w k) e in (omega arith, omega arith))
-
-  end-says : Says (EndTried w k) (RefusedAt k) (greatestEnd test w k)
-  unfolding failedEnds greatestEnd
-  end-says =
-      let j = failedEnds test w k in
-      let within : j ≤ trials w k = first-below (trials w k) _ .within in
-      by-row (EndTried w k) (RefusedAt k) (eqb j (trials w k)) _ (answered (w .d k - j)) (λ _. refl)
-      (λ e. let z = eqb-false j (trials w k) e in (omega arith, omega arith))
-
-  -- what holds of the windows with any of them holds of what a step answers
-  step-by : (P : Windows → Type 0) → ((s : ℕ) → StartTried w k s → P (withR w k s)) → ((e : ℕ) → EndTried w k e → P (withD w k e))
-      → (side : Side) → Says P (RefusedAt k) (step test side k w)
-  step-by P f g earliest = by-step (StartTried w k) (RefusedAt k) P (leastStart test w k) (λ s. answered (withR w k s)) start-says f
-  step-by P f g latest = by-step (EndTried w k) (RefusedAt k) P (greatestEnd test w k) (λ e. answered (withD w k e)) end-says g
+-- a search finds one of them, or refuses k
+pub start-says : (test : Test) (w : Windows) (k : ℕ) → Says (StartTried w k) (RefusedAt k) (leastStart test w k)
+unfolding failedStarts leastStart
+start-says test w k =
+    let j = failedStarts test w k in
+    let within : j ≤ trials w k = first-below (trials w k) _ .within in
+    by-row (StartTried w k) (RefusedAt k) (eqb j (trials w k)) _ (answered (w .r k + j)) (λ _. refl)
+    (λ e. let z = eqb-false j (trials w k) e in (omega arith, omega arith))
 
 module _ (w : Windows) (formed : Formed w) (k : ℕ) (place : k < w .n) where
-  -- past the entries nothing is put
-  elsewhere : (i : ℕ) → w .n ≤ i → i ≡ k → ⊥
-  elsewhere i l e = omega arith
-
-  -- another r of k, or another d, of those tried
+  -- another r of k, of those tried
   pub keeps-r : (s : ℕ) → StartTried w k s → Keeps w (withR w k s)
   keeps-r s (from, room) =
       keeps-windows w formed _ _
@@ -125,24 +125,17 @@ module _ (w : Windows) (formed : Formed w) (k : ℕ) (place : k < w .n) where
       place-cases (λ t. (w .r i ≤ cond t s (w .r i)) × (w .d i ≤ w .d i) × (cond t s (w .r i) + w .p i ≤ w .d i)) i k
       (λ q. (omega (arith, ap (w .r) q), omega arith, omega (arith, ap (w .p) q, ap (w .d) q)))
       (λ _. (omega arith, omega arith, formed .room i below)))
-      (λ i l. (put-other k s (w .r) i (elsewhere i l), refl))
+      (λ i l. (put-other k s (w .r) i (λ e. omega arith), refl))
 
-  pub keeps-d : (e : ℕ) → EndTried w k e → Keeps w (withD w k e)
-  keeps-d e (to, room) =
-      keeps-windows w formed _ _
-      (λ i below.
-      place-cases (λ t. (w .r i ≤ w .r i) × (cond t e (w .d i) ≤ w .d i) × (w .r i + w .p i ≤ cond t e (w .d i))) i k
-      (λ q. (omega arith, omega (arith, ap (w .d) q), omega (arith, ap (w .p) q, ap (w .r) q)))
-      (λ _. (omega arith, omega arith, formed .room i below)))
-      (λ i l. (refl, put-other k e (w .d) i (elsewhere i l)))
+  start-keeps : (test : Test) → Says (Keeps w) (RefusedAt k) (step test earliest k w)
+  start-keeps test =
+      by-step (StartTried w k) (RefusedAt k) (Keeps w) (leastStart test w k) (λ s. answered (withR w k s)) (start-says test w k) keeps-r
 
-  -- a step keeps the windows, or refuses its entry
-  pub step-says : (test : Test) (side : Side) → Says (Keeps w) (RefusedAt k) (step test side k w)
-  step-says test = step-by test w k (Keeps w) keeps-r keeps-d
-
-pub step-keeps : (test : Test) (side : Side) (k : ℕ) (w v : Windows) → Formed w → k < w .n → step test side k w ≡ answered v → Keeps w v
-step-keeps test side k w v formed place e = rw e at (step-says w formed k place test side)
-
--- whatever the windows
-pub step-refused : (test : Test) (side : Side) (k : ℕ) (w : Windows) (x : Code) → step test side k w ≡ refused x → x ≡ code 10 (k ∷ [])
-step-refused test side k w x e = rw e at (step-by test w k (λ _. Unit {0}) (λ _ _. tt) (λ _ _. tt) side)
+-- a step keeps the windows, or refuses its entry; the one for d as that for r in the mirror does
+pub step-says : (w : Windows) → Formed w → (k : ℕ) → k < w .n → (test : Test) (side : Side) → Says (Keeps w) (RefusedAt k) (step test side k w)
+step-says w formed k place test earliest = start-keeps w formed k place test
+step-says w formed k place test latest =
+    rw (step-mirror (any-in-mirror test) w formed k place)
+    (by-step (Keeps (mirror w)) (RefusedAt k) (Keeps w) (step (mirrorTest test) earliest k (mirror w)) (λ v. answered (mirror v))
+    (start-keeps (mirror w) (formed-mirror w formed) k place (mirrorTest test))
+    (λ v keeps. keeps-mirror w formed keeps))

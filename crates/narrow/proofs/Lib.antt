@@ -7,8 +7,9 @@ pub mod MirrorSearches
 pub mod Keeping
 pub mod Costs
 mod RoundsEnd
--- Searches are exact, settled sets stay inside, and the law of narrowing. The crates above are to cite NarrowLaws.
+-- Searches are exact, settled sets are settled in the mirror and stay inside, and the law of narrowing. The crates above are to cite NarrowLaws.
 mod Exact
+pub mod MirrorSettled
 mod SettledSteps
 mod Fixpoints
 mod UnbrokenPlans

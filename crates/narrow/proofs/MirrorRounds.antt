@@ -1,5 +1,4 @@
--- Visits and rounds of the mirrored windows leave the mirrored windows with the same moves, or refuse the same entry; and settled windows
--- are settled in the mirror.
+-- Visits and rounds of the mirrored windows leave the mirrored windows with the same moves, or refuse the same entry.
 -- Assumes nothing.
 use mathlib.Core.Path.{_≡_, refl, sym, ap, _∙_}
 use mathlib.Core.Bool.{Bool, true, false, cond}
@@ -11,18 +10,16 @@ use Rattle.list.specs.Outcomes.{Outcome, answered, refused, andThen}
 use Rattle.list.proofs.Inversion.{Says}
 use Rattle.jackson.specs.Windows.{Windows}
 use Rattle.jackson.specs.Existence.{Plannable}
-use Rattle.jackson.specs.Mirrors.{mirror, mirrorPlan}
+use Rattle.jackson.specs.Mirrors.{mirror}
 use Rattle.jackson.proofs.Sums.{sum-cong}
-use Rattle.jackson.proofs.PlanFacts.{mirror-plan}
-use Rattle.narrow.specs.Searching.{Test, withR, withD, leastStart, greatestEnd}
-use Rattle.narrow.specs.Settling.{Consecutive, Settled}
-use Rattle.narrow.specs.Rounds.{earliest, latest, Narrowed, unmoved, moved, movesOf, narrowSide, visit, visits, round, rounds, slack, narrowing}
+use Rattle.narrow.specs.Searching.{Test}
+use Rattle.narrow.specs.Rounds.{earliest, latest, step, Narrowed, unmoved, moved, movesOf, narrowSide, visit, visits, round, rounds, slack, narrowing}
 use Rattle.narrow.specs.Laws.{Formed}
 use Rattle.narrow.proofs.Planners.{Planner}
-use Rattle.narrow.proofs.Puts.{place-cases, put-same}
-use Rattle.narrow.proofs.MirrorSearches.{plannable-mirror, formed-mirror, mirror-back, mirror-r, mirror-d, with-r-mirror, end-by-mirror}
-use Rattle.narrow.proofs.Keeping.{keeps-n, RefusedAt, StartTried, start-says}
-use Rattle.narrow.proofs.Costs.{moved-same, Costs, CostsOr, side-says, visits-says, round-says}
+use Rattle.narrow.proofs.Puts.{place-cases}
+use Rattle.narrow.proofs.MirrorSearches.{plannable-mirror, formed-mirror, mirror-back, mirror-r, mirror-d, planner-in-mirror, step-mirror}
+use Rattle.narrow.proofs.Keeping.{Keeps, keeps-h, keeps-n, RefusedAt, step-says}
+use Rattle.narrow.proofs.Costs.{Costs, CostsOr, side-says, visits-says, round-says}
 use Rattle.narrow.proofs.VisitOrder.{counted, visit-order}
 
 -- One search in the mirror.
@@ -54,30 +51,39 @@ moved-mirror h a b l m =
     (λ e. rw (eq-eqb (h - a) (h - b) (omega arith)))
     (λ ne. rw (ne-eqb (h - a) (h - b) (λ e. ne (omega arith))))
 
+-- as many moves are made in the mirror
+moves-mirror : (k : ℕ) {w v : Windows} → Formed w → k < w .n → Keeps w v → movesOf k (mirror w) (mirror v) ≡ movesOf k w v
+moves-mirror k {w} {v} formed place keeps =
+    let there : k < v .n = omega (arith, keeps-n keeps) in
+    let day = keeps-h keeps in
+    let due = formed .in-day k place in
+    let room = formed .room k place in
+    let later = keeps .formed .in-day k there in
+    let left = keeps .formed .room k there in
+    rw (mirror-r w k place, mirror-d w k place, mirror-r v k there, mirror-d v k there, day)
+    (omega (
+      arith,
+      moved-mirror (w .h) (w .r k) (v .r k) (omega arith) (omega arith),
+      moved-mirror (w .h) (w .d k) (v .d k) (omega arith) (omega arith),
+    ))
+
 module _ {test : Test} (planner : Planner test) (k : ℕ) where
   -- a changed r is a changed d in the mirror
   pub side-mirror : (s : Narrowed) → Formed (s .windows) → k < s .windows .n
       → narrowSide test latest k (mirrorState s) ≡ mirrored (narrowSide test earliest k s)
   unfolding narrowSide
-  side-mirror s formed place = rw found (go (leastStart test w k) (start-says test w k))
+  side-mirror s formed place = rw found (go (step test earliest k w) (step-says w formed k place test earliest))
     where
       w : Windows
       w = s .windows
 
-      found : greatestEnd test (mirror w) k ≡ andThen (leastStart test w k) (λ x. answered (w .h - x))
-      found = rw (mirror-back w formed) at (end-by-mirror planner (mirror w) (formed-mirror w formed) k place)
+      found : step test latest k (mirror w) ≡ andThen (step test earliest k w) (λ v. answered (mirror v))
+      found = rw (mirror-back w formed) at (step-mirror (planner-in-mirror planner) (mirror w) (formed-mirror w formed) k place)
 
-      -- r of the mirror stays, and so does d
-      moves : (x : ℕ) → StartTried w k x → movesOf k (mirror w) (withD (mirror w) k (w .h - x)) ≡ movesOf k w (withR w k x)
-      moves x (from, room) =
-          let due = formed .in-day k place in
-          rw (put-same k (w .h - x) (mirror w .d), put-same k x (w .r), mirror-d w k place)
-          (omega (arith, moved-same (mirror w .r k), moved-same (w .d k), moved-mirror (w .h) (w .r k) x (omega arith) (omega arith)))
-
-      go : (o : Outcome ℕ) → Says (StartTried w k) (RefusedAt k) o
-          → andThen (andThen (andThen o (λ x. answered (w .h - x))) (λ e. answered (withD (mirror w) k e))) (λ v. answered (counted k (mirrorState s) v))
-          ≡ mirrored (andThen (andThen o (λ x. answered (withR w k x))) (λ v. answered (counted k s v)))
-      go (answered x) tried = λ j. answered (record { windows = with-r-mirror w k place x j; moves = s .moves + moves x tried j })
+      go : (o : Outcome Windows) → Says (Keeps w) (RefusedAt k) o
+          → andThen (andThen o (λ v. answered (mirror v))) (λ v. answered (counted k (mirrorState s) v))
+          ≡ mirrored (andThen o (λ v. answered (counted k s v)))
+      go (answered v) keeps = λ j. answered (record { windows = mirror v; moves = s .moves + moves-mirror k formed place keeps j })
       go (refused x) _ = refl
 
   -- so a changed d is a changed r
@@ -148,29 +154,3 @@ narrowing-mirror planner whole w formed plan =
     let there = formed-mirror w formed in
     rw (planner .exact w formed .0 plan, planner .exact (mirror w) there .0 (plannable-mirror w plan), slack-mirror whole w formed)
     (rounds-mirror planner whole (suc (slack whole w)) (unmoved w) formed)
-
--- Settled windows in the mirror.
-
--- consecutive minutes are consecutive in the mirrored plan
-consecutive-mirror : (h : ℕ) (m : ℕ → ℕ) (k s e : ℕ) → Consecutive h m k s e → Consecutive h (mirrorPlan h m) k (h - e) (h - s)
-consecutive-mirror h m k s e run =
-    record {
-      each = λ t below l u. run .each (h - suc t) (omega arith) (omega arith) (omega arith);
-      only = λ t below q. let z = run .only (h - suc t) (omega arith) q in (omega arith, omega arith);
-    }
-
-pub settled-mirror : (whole : ℕ → Bool) (w : Windows) → Formed w → Settled whole w → Settled whole (mirror w)
-settled-mirror whole w formed settled =
-    record {
-      plan = plannable-mirror w (settled .plan);
-      from-r =
-          λ k place is.
-          let z = settled .up-to-d k place is in
-          let e : w .h - w .d k + w .p k ≡ w .h - (w .d k - w .p k) = omega (arith, formed .in-day k place, formed .room k place) in
-          (_, mirror-plan w (z .0) (z .1), rw (mirror-r w k place, e) (consecutive-mirror (w .h) (z .0) k _ _ (z .2)));
-      up-to-d =
-          λ k place is.
-          let z = settled .from-r k place is in
-          let e : w .h - w .r k - w .p k ≡ w .h - (w .r k + w .p k) = omega arith in
-          (_, mirror-plan w (z .0) (z .1), rw (mirror-d w k place, e) (consecutive-mirror (w .h) (z .0) k _ _ (z .2)));
-    }

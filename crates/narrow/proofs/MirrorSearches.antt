@@ -14,9 +14,10 @@ use Rattle.jackson.specs.Existence.{Plannable}
 use Rattle.jackson.specs.Mirrors.{mirror, mirrorPlan}
 use Rattle.jackson.proofs.PlanFacts.{mirror-plan, mirror-mirror}
 use Rattle.narrow.specs.Searching.{Test, accepts, put, withR, withD, withWindow, fixedAt, fixedUpTo, trials, failedStarts, failedEnds, leastStart, greatestEnd}
+use Rattle.narrow.specs.Rounds.{earliest, latest, step}
 use Rattle.narrow.specs.Laws.{Formed}
 use Rattle.narrow.proofs.Planners.{Planner}
-use Rattle.narrow.proofs.Puts.{place-cases, put-back, up-to-formed}
+use Rattle.narrow.proofs.Puts.{place-cases, with-r, with-d, up-to-formed}
 
 -- a search for the first looks at the tests below n alone
 first-cong : (n : ℕ) (f g : ℕ → Bool) → ((i : ℕ) → i < n → f i ≡ g i) → firstBelow n f ≡ firstBelow n g
@@ -62,15 +63,6 @@ module _ (w : Windows) (formed : Formed w) where
   pub mirror-plannable : Plannable (mirror w) → Plannable w
   mirror-plannable plan = rw mirror-back at (plannable-mirror (mirror w) plan)
 
--- and a planner's test accepts the mirror exactly when it accepts them
-test-mirror : {test : Test} → Planner test → (w : Windows) → Formed w → accepts (test (mirror w)) ≡ accepts (test w)
-test-mirror {test} planner w formed =
-    let here = planner .exact w formed in
-    let there = planner .exact (mirror w) (formed-mirror w formed) in
-    alike (test (mirror w)) (test w)
-    (λ e. here .0 (mirror-plannable w formed (there .1 e)))
-    (λ e. there .0 (plannable-mirror w (here .1 e)))
-
 module _ (w : Windows) (k : ℕ) (place : k < w .n) where
   -- the mirrored window of k
   pub mirror-r : mirror w .r k ≡ w .h - w .d k
@@ -93,11 +85,9 @@ module _ (w : Windows) (k : ℕ) (place : k < w .n) where
   fixed-at-mirror e long in-day = put-mirror (e - w .p k) e _ _ refl (omega arith)
 
   -- another r of k, in the mirror another d
-  pub with-r-mirror : (s : ℕ) → withD (mirror w) k (w .h - s) ≡ mirror (withR w k s)
+  with-r-mirror : (s : ℕ) → withD (mirror w) k (w .h - s) ≡ mirror (withR w k s)
   with-r-mirror s =
-      (λ j. withWindows w (sym (put-back k (mirror w .r)) j) (put k (w .h - s) (mirror w .d)))
-      ∙ put-mirror s (w .d k) _ _ mirror-r refl
-      ∙ (λ j. mirror (withWindows w (put k s (w .r)) (put-back k (w .d) j)))
+      sym (with-d (mirror w) k (w .h - s)) ∙ put-mirror s (w .d k) _ _ mirror-r refl ∙ ap mirror (with-r w k s)
 
 module _ (w : Windows) (formed : Formed w) (k : ℕ) (place : k < w .n) where
   -- as many starts are tried in the mirror
@@ -111,26 +101,50 @@ module _ (w : Windows) (formed : Formed w) (k : ℕ) (place : k < w .n) where
       let a : mirror w .r k + j ≡ w .h - (w .d k - j) = omega (arith, mirror-r w k place) in
       rw a (fixed-at-mirror w k place (w .d k - j) (omega arith) (omega arith))
 
-module _ {test : Test} (planner : Planner test) (w : Windows) (formed : Formed w) (k : ℕ) (place : k < w .n) where
+-- f accepts the mirror of windows exactly when g accepts them
+pub record InMirror (f g : Test) : Type 0 where
+  pub accepted : (u : Windows) → Formed u → accepts (f (mirror u)) ≡ accepts (g u)
+
+-- for any test g there is one
+abbrev pub mirrorTest : Test → Test
+mirrorTest g u = g (mirror u)
+
+pub any-in-mirror : (g : Test) → InMirror (mirrorTest g) g
+any-in-mirror g = record { accepted = λ u formed. ap (λ x. accepts (g x)) (mirror-back u formed) }
+
+-- and for a planner's test it is the test itself
+pub planner-in-mirror : {test : Test} → Planner test → InMirror test test
+planner-in-mirror {test} planner =
+    record {
+      accepted =
+          λ u formed.
+          let here = planner .exact u formed in
+          let there = planner .exact (mirror u) (formed-mirror u formed) in
+          alike (test (mirror u)) (test u)
+          (λ e. here .0 (mirror-plannable u formed (there .1 e)))
+          (λ e. there .0 (plannable-mirror u (here .1 e)));
+    }
+
+module _ {f g : Test} (same : InMirror f g) (w : Windows) (formed : Formed w) (k : ℕ) (place : k < w .n) where
   -- as many ends are skipped as starts in the mirror
-  ends-mirror : failedEnds test w k ≡ failedStarts test (mirror w) k
+  ends-mirror : failedEnds g w k ≡ failedStarts f (mirror w) k
   unfolding failedStarts failedEnds
   ends-mirror = rw (trials-mirror w formed k place) (first-cong (trials w k) _ _ each)
     where
       each : (j : ℕ) → j < trials w k
-          → accepts (test (fixedUpTo w k (w .d k - j))) ≡ accepts (test (fixedAt (mirror w) k (mirror w .r k + j)))
+          → accepts (g (fixedUpTo w k (w .d k - j))) ≡ accepts (f (fixedAt (mirror w) k (mirror w .r k + j)))
       each j below =
           let e = w .d k - j in
           rw (fixed-mirror w formed k place j below)
-          (sym (test-mirror planner (fixedUpTo w k e) (up-to-formed w formed k e place (omega arith) (omega arith))))
+          (sym (same .accepted (fixedUpTo w k e) (up-to-formed w formed k e place (omega arith) (omega arith))))
 
   -- the greatest end is the least start of the mirror, mirrored
-  pub end-by-mirror : greatestEnd test w k ≡ andThen (leastStart test (mirror w) k) (λ s. answered (w .h - s))
+  end-mirror : greatestEnd g w k ≡ andThen (leastStart f (mirror w) k) (λ s. answered (w .h - s))
   unfolding leastStart greatestEnd
-  end-by-mirror = rw (trials-mirror w formed k place, ends-mirror) (go (eqb j (trials w k)))
+  end-mirror = rw (trials-mirror w formed k place, ends-mirror) (go (eqb j (trials w k)))
     where
       j : ℕ
-      j = failedStarts test (mirror w) k
+      j = failedStarts f (mirror w) k
 
       at-d : w .d k - j ≡ w .h - (mirror w .r k + j)
       at-d = omega (arith, mirror-r w k place, formed .in-day k place)
@@ -139,3 +153,16 @@ module _ {test : Test} (planner : Planner test) (w : Windows) (formed : Formed w
           ≡ andThen (firstOf (row 10 t k ∷ []) (answered (mirror w .r k + j))) (λ s. answered (w .h - s))
       go true = refl
       go false = ap answered at-d
+
+  -- so the step for d is the step for r in the mirror, mirrored
+  pub step-mirror : step g latest k w ≡ andThen (step f earliest k (mirror w)) (λ v. answered (mirror v))
+  step-mirror = rw end-mirror (go (leastStart f (mirror w) k))
+    where
+      go : (o : Outcome ℕ) → andThen (andThen o (λ s. answered (w .h - s))) (λ e. answered (withD w k e))
+          ≡ andThen (andThen o (λ s. answered (withR (mirror w) k s))) (λ v. answered (mirror v))
+      go (answered s) = ap answered (rw (mirror-back w formed) at (with-r-mirror (mirror w) k place s))
+      go (refused x) = refl
+
+pub end-by-mirror : {test : Test} → Planner test → (w : Windows) → Formed w → (k : ℕ) → k < w .n
+    → greatestEnd test w k ≡ andThen (leastStart test (mirror w) k) (λ s. answered (w .h - s))
+end-by-mirror planner = end-mirror (planner-in-mirror planner)

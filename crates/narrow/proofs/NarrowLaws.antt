@@ -4,19 +4,19 @@ use mathlib.Core.Path.{_≡_, refl, sym, ap, _∙_}
 use mathlib.Core.Logic.{inl, inr}
 use mathlib.Core.Bool.{Bool, true}
 use mathlib.Core.List.{List, [], _∷_}
-use Prim.Native.Nat.{ℕ, suc, _+_, _<_, _≤_}
+use Prim.Native.Nat.{ℕ, suc, _<_, _≤_}
 use native.Mathlib.Omega.{arith}
 use Rattle.list.specs.Outcomes.{Code, code, Outcome, answered, refused, andThen}
 use Rattle.list.proofs.Inversion.{Says, Anything}
-use Rattle.jackson.specs.Windows.{Windows, Inside, withWindows}
+use Rattle.jackson.specs.Windows.{Windows, withWindows}
 use Rattle.jackson.specs.Existence.{Plannable}
-use Rattle.narrow.specs.Searching.{Test, SearchLaw}
+use Rattle.narrow.specs.Searching.{Test}
 use Rattle.narrow.specs.Settling.{SettledInside, NoneSettled, Widest, minutesCut}
 use Rattle.narrow.specs.Rounds.{Side, step, Narrowed, unmoved, visit, round, RoundsGive, rounds, slack, narrowing}
 use Rattle.narrow.specs.StepLists.{Step, NamesWhole, stepsLeave, someRefused, Completes}
 use Rattle.narrow.specs.Laws.{Formed, Reason, RoundLaw, NarrowLaw}
 use Rattle.narrow.proofs.Planners.{Planner}
-use Rattle.narrow.proofs.Keeping.{Keeps}
+use Rattle.narrow.proofs.Keeping.{Keeps, formed-inside}
 use Rattle.narrow.proofs.Costs.{CostsOr, round-cost, round-refused, rounds-says}
 use Rattle.narrow.proofs.RoundsEnd.{rounds-are}
 use Rattle.narrow.proofs.Exact.{search-law}
@@ -29,25 +29,25 @@ use Rattle.narrow.proofs.UnbrokenPlans.{unbroken-some, unbroken-widest}
 module _ {test : Test} (planner : Planner test) (whole : ℕ → Bool) where
   module _ (side : Side) (w : Windows) (formed : Formed w) (k : ℕ) (place : k < w .n) (is-whole : whole k ≡ true) where
     pub step-stays : (v : Windows) → step test side k w ≡ answered v → (r d : ℕ → ℕ) → SettledInside whole w r d → SettledInside whole v r d
-    step-stays v e = (rw e at (step-narrows test whole (search-law planner) side w formed k place is-whole)) .stays
+    step-stays v e = (rw e at (step-narrows planner whole side w formed k place is-whole)) .narrows .stays
 
     pub step-none : (x : Code) → step test side k w ≡ refused x → NoneSettled whole w
-    step-none x e = rw e at (step-narrows test whole (search-law planner) side w formed k place is-whole)
+    step-none x e = rw e at (step-narrows planner whole side w formed k place is-whole)
 
   module _ (s : Narrowed) (formed : Formed (s .windows)) where
     pub visit-stays : (k : ℕ) → k < s .windows .n → (v : Narrowed) → visit test whole k s ≡ answered v
         → (r d : ℕ → ℕ) → SettledInside whole (s .windows) r d → SettledInside whole (v .windows) r d
-    visit-stays k place v e = (rw e at (visit-narrows test whole (search-law planner) s formed k place)) .stays
+    visit-stays k place v e = (rw e at (visit-narrows planner whole s formed k place)) .stays
 
     pub visit-none : (k : ℕ) → k < s .windows .n → (x : Code) → visit test whole k s ≡ refused x → NoneSettled whole (s .windows)
-    visit-none k place x e = rw e at (visit-narrows test whole (search-law planner) s formed k place)
+    visit-none k place x e = rw e at (visit-narrows planner whole s formed k place)
 
     pub round-stays : (v : Narrowed) → round test whole s ≡ answered v
         → (r d : ℕ → ℕ) → SettledInside whole (s .windows) r d → SettledInside whole (v .windows) r d
-    round-stays v e = (rw e at (round-narrows test whole (search-law planner) s formed)) .stays
+    round-stays v e = (rw e at (round-narrows planner whole s formed)) .stays
 
     pub round-none : (x : Code) → round test whole s ≡ refused x → NoneSettled whole (s .windows)
-    round-none x e = rw e at (round-narrows test whole (search-law planner) s formed)
+    round-none x e = rw e at (round-narrows planner whole s formed)
 
   -- All that a round from windows not yet moved keeps.
   pub round-law : (w : Windows) → Formed w → RoundLaw whole w (round test whole (unmoved w))
@@ -64,19 +64,6 @@ module _ {test : Test} (planner : Planner test) (whole : ℕ → Bool) where
 -- Narrowing.
 
 module _ {test : Test} (planner : Planner test) (whole : ℕ → Bool) (w : Windows) (formed : Formed w) where
-  laws : (v : Windows) → Formed v → (k : ℕ) → k < v .n → SearchLaw test v k
-  laws = search-law planner
-
-  -- windows with room inside are as the value check lets them through
-  formed-inside : (r d : ℕ → ℕ) → Inside (withWindows w r d) w → ((i : ℕ) → i < w .n → r i + w .p i ≤ d i) → Formed (withWindows w r d)
-  formed-inside r d inside room =
-      record {
-        few = formed .few;
-        minutes = formed .minutes;
-        in-day = λ i place. omega (arith, formed .in-day i place, inside .d i place);
-        room = room;
-      }
-
   -- the rounds that follow where a plan exists
   abbrev outcome : Outcome Narrowed
   outcome = rounds test whole (suc (slack whole w)) (unmoved w)
@@ -99,13 +86,13 @@ module _ {test : Test} (planner : Planner test) (whole : ℕ → Bool) (w : Wind
   narrowing-narrows : NarrowsOr whole w (narrowing test whole w)
   narrowing-narrows =
       by-plan (NarrowsOr whole w)
-      (λ _. rounds-narrow test whole laws _ (unmoved w) formed)
+      (λ _. rounds-narrow planner whole _ (unmoved w) formed)
       (λ k e none r d set. none (plannable-widen w r d (set .inside) (set .settled .plan)))
 
   narrowing-widest : Says (λ v. Widest whole w (v .windows)) Anything (narrowing test whole w)
   narrowing-widest =
       by-plan (Says (λ v. Widest whole w (v .windows)) Anything)
-      (λ planned. rounds-widest test whole laws _ (unmoved w) formed planned (omega arith))
+      (λ planned. rounds-widest planner whole _ (unmoved w) formed planned (omega arith))
       (λ k e none. tt)
 
   narrowing-reason : Says (λ _. Unit {0}) (Reason whole w) (narrowing test whole w)
@@ -157,7 +144,7 @@ module _ {test : Test} (planner : Planner test) (whole : ℕ → Bool) (w : Wind
     steps-refused : (ss : List Step) → NamesWhole whole (w .n) ss → someRefused test ss w ≡ true
         → (i : ℕ) × (narrowing test whole w ≡ refused (code 10 (i ∷ [])))
     steps-refused ss names some =
-        let z = refused-if-none (steps-none test whole laws ss w formed names some) in
+        let z = refused-if-none (steps-none planner whole ss w formed names some) in
         go (z .0) (z .1) (reason (z .0) (z .1))
       where
         go : (k : Code) → narrowing test whole w ≡ refused k → Reason whole w k
@@ -167,11 +154,11 @@ module _ {test : Test} (planner : Planner test) (whole : ℕ → Bool) (w : Wind
 
     module _ (ss : List Step) (done : Completes test whole w ss) where
       narrows : Narrows whole w (stepsLeave test ss w)
-      narrows = steps-narrow test whole laws ss w formed (done .names)
+      narrows = steps-narrow planner whole ss w formed (done .names)
 
       -- one that leaves nothing to do leaves the widest settled windows
       steps-widest : Widest whole w (stepsLeave test ss w)
-      steps-widest = nothing-widest test whole w _ (laws _ (narrows .keeps .formed)) planned narrows (done .nothing-left)
+      steps-widest = nothing-widest planner whole w _ planned narrows (done .nothing-left)
 
       -- whatever else is the widest is what it leaves
       steps-are : (v : Windows) → Keeps w v → Widest whole w v → v ≡ stepsLeave test ss w
@@ -196,7 +183,7 @@ module _ {test : Test} (planner : Planner test) (whole : ℕ → Bool) (w : Wind
   pub narrow-law : NarrowLaw test whole w (narrowing test whole w)
   narrow-law =
       record {
-        searches = λ r d inside room k place. laws (withWindows w r d) (formed-inside r d inside room) k place;
+        searches = λ r d inside room k place. search-law planner (withWindows w r d) (formed-inside w formed r d inside room) k place;
         by-rounds = by-rounds;
         widest = widest;
         refused-exactly = (λ z. none-settled (z .0) (z .1), refused-if-none);
@@ -208,7 +195,7 @@ module _ {test : Test} (planner : Planner test) (whole : ℕ → Bool) (w : Wind
             steps-are planned xs ended _ (narrows planned ss done .keeps) (steps-widest planned ss done);
         refused-once =
             λ planned ss xs names some done.
-            steps-none test whole laws ss w formed names some _ _ (widest-set whole w _ (steps-widest planned xs done));
+            steps-none planner whole ss w formed names some _ _ (widest-set whole w _ (steps-widest planned xs done));
         unbroken-kept = λ v e m plan unbroken. unbroken-widest whole w formed m plan unbroken (v .windows) (widest v e);
         unbroken-none = λ k e m plan unbroken. unbroken-some whole w formed m plan unbroken (none-settled k e);
         moves-cut = λ v e. rw e at narrowing-cut;

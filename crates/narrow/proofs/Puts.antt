@@ -81,6 +81,13 @@ module _ (w : Windows) (formed : Formed w) (k s : ℕ) (place : k < w .n) (room 
         only = λ t below e. let z = plan .inside k t place below e in (omega (arith, a, z .0), omega (arith, b, z .1));
       }
 
+-- with k's own d, or its own r, in the window put
+pub with-r : (w : Windows) (k s : ℕ) → withWindow w k s (w .d k) ≡ withR w k s
+with-r w k s = ap (withWindows w (put k s (w .r))) (put-back k (w .d))
+
+pub with-d : (w : Windows) (k e : ℕ) → withWindow w k (w .r k) e ≡ withD w k e
+with-d w k e = ap (λ (f : ℕ → ℕ). withWindows w f (put k e (w .d))) (put-back k (w .r))
+
 -- a window put in the place of k's own does not ask what r and d that had
 module _ (w : Windows) (k x s e : ℕ) where
   pub window-after-r : withWindow (withR w k x) k s e ≡ withWindow w k s e

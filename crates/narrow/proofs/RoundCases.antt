@@ -1,6 +1,6 @@
 -- Searches with their moves, visits and rounds, as code makes them.
 -- Assumes nothing.
-use mathlib.Core.Path.{_≡_, refl, sym, ap}
+use mathlib.Core.Path.{_≡_, sym, ap}
 use Prim.Native.Nat.{ℕ, _+_, _<_, _≤_, min}
 use native.Mathlib.Omega.{arith}
 use borrow.Author.Tests.{eq-eqb, ne-eqb}
@@ -14,14 +14,13 @@ use Rattle.narrow.specs.Searching.{Test, withR, withD, leastStart, great
 use Rattle.narrow.specs.Rounds.{earliest, latest, Narrowed, moved, movesOf, narrowSide}
 use Rattle.narrow.specs.Parts.{stateOf}
 use Rattle.narrow.proofs.Puts.{put-same}
+use Rattle.narrow.proofs.Costs.{moved-same}
 use Rattle.narrow.proofs.ArrayCases.{held-r, held-d}
-
-moved-none : (x : ℕ) → moved x x ≡ 0
-moved-none x = rw (eq-eqb x x refl)
 
 pub moved-one : (x y : ℕ) → moved x y ≤ 1
 moved-one x y = same-cases x y (λ e _. rw (eq-eqb x y e) (omega arith)) (λ e _. rw (ne-eqb x y e) (omega arith))
 
+-- The search for d is computed like that for r: by the mirror it would be longer.
 module _ (test : Test) (k : ℕ) (s : Narrowed) where
   module _ (x : ℕ) where
     pub start-found : leastStart test (s .windows) k ≡ answered x
@@ -30,7 +29,7 @@ module _ (test : Test) (k : ℕ) (s : Narrowed) where
     start-found e = rw e (ap (λ (m : ℕ). answered (record { windows = withR (s .windows) k x; moves = s .moves + m })) one)
       where
         one : movesOf k (s .windows) (withR (s .windows) k x) ≡ moved (s .windows .r k) x
-        one = rw (put-same k x (s .windows .r), moved-none (s .windows .d k)) (omega arith)
+        one = rw (put-same k x (s .windows .r), moved-same (s .windows .d k)) (omega arith)
 
     pub end-found : greatestEnd test (s .windows) k ≡ answered x
         → narrowSide test latest k s ≡ answered (record { windows = withD (s .windows) k x; moves = s .moves + moved (s .windows .d k) x })
@@ -38,7 +37,7 @@ module _ (test : Test) (k : ℕ) (s : Narrowed) where
     end-found e = rw e (ap (λ (m : ℕ). answered (record { windows = withD (s .windows) k x; moves = s .moves + m })) one)
       where
         one : movesOf k (s .windows) (withD (s .windows) k x) ≡ moved (s .windows .d k) x
-        one = rw (put-same k x (s .windows .d), moved-none (s .windows .r k)) (omega arith)
+        one = rw (put-same k x (s .windows .d), moved-same (s .windows .r k)) (omega arith)
 
   module _ (x : Code) where
     pub start-refused : leastStart test (s .windows) k ≡ refused x → narrowSide test earliest k s ≡ refused x

@@ -1,142 +1,33 @@
 -- Steps, visits, rounds and lists of steps keep every settled set of windows inside, and once a step is refused there is none.
 -- Assumes nothing.
-use mathlib.Core.Path.{_≡_, refl, sym, ap, _∙_}
+use mathlib.Core.Path.{_≡_, refl, ap, subst, _∙_}
 use mathlib.Core.Bool.{Bool, true, false, cond, not, _||_, false≢true}
 use mathlib.Core.List.{List, [], _∷_}
-use Prim.Native.Nat.{ℕ, zero, suc, _+_, _-_, _<_, _≤_}
+use Prim.Native.Nat.{ℕ, zero, suc, _+_, _<_, _≤_}
 use native.Mathlib.Omega.{arith}
 use lib.Dec.{eqb}
-use Rattle.list.specs.Outcomes.{Code, Outcome, answered, refused, andThen}
+use Rattle.list.specs.Outcomes.{Outcome, answered, refused, andThen}
 use Rattle.list.proofs.Inversion.{Says, by-step}
 use Rattle.jackson.specs.Windows.{Windows, Inside, withWindows}
-use Rattle.jackson.specs.Plans.{Plan}
 use Rattle.jackson.specs.Existence.{Plannable}
+use Rattle.jackson.specs.Mirrors.{mirror}
 use Rattle.jackson.proofs.Sums.{le-or-lt}
-use Rattle.jackson.proofs.PlanFacts.{widen, plan-room}
-use Rattle.narrow.specs.Searching.{Test, accepts, put, withR, withD, fixedAt, fixedUpTo, leastStart, greatestEnd, SearchLaw}
-use Rattle.narrow.specs.Settling.{Consecutive, SettledInside, NoneSettled}
+use Rattle.jackson.proofs.PlanFacts.{widen}
+use Rattle.narrow.specs.Searching.{Test, accepts, withR, fixedAt, leastStart, IsLeastStart, NoStart}
+use Rattle.narrow.specs.Settling.{SettledInside, NoneSettled}
 use Rattle.narrow.specs.Rounds.{Side, earliest, latest, step, Narrowed, narrowSide, visit, visits, round, rounds}
 use Rattle.narrow.specs.StepLists.{Step, NamesWhole, leftBy, stepsLeave, someRefused}
 use Rattle.narrow.specs.Laws.{Formed}
-use Rattle.narrow.proofs.Keeping.{Keeps, step-keeps, keeps-same, keeps-n, keeps-trans, step-refused}
-use Rattle.narrow.proofs.Puts.{put-same, put-under, put-over, fixed-up-to, consecutive-fixed}
-
--- One step.
-
--- what a search found, read off the windows that its step left
-found : (o : Outcome ℕ) (f : ℕ → Windows) (g : Windows → ℕ) → ((s : ℕ) → g (f s) ≡ s) → (v : Windows)
-    → andThen o (λ s. answered (f s)) ≡ answered v → (o ≡ answered (g v)) × (v ≡ f (g v))
-found (answered s) f g back v e =
-    let left : f s ≡ v = ap (λ o. leftBy o v) e in
-    let at : s ≡ g v = sym (back s) ∙ ap g left in
-    (ap answered at, sym left ∙ ap f at)
-found (refused x) f g back v e = let z : _≡_ {A = ℕ} 0 1 = cc in absurd (omega arith)
-
-module _ (test : Test) (k : ℕ) (w v : Windows) where
-  pub start-found : step test earliest k w ≡ answered v → (leastStart test w k ≡ answered (v .r k)) × (v ≡ withR w k (v .r k))
-  start-found = found (leastStart test w k) (withR w k) (λ u. u .r k) (λ s. put-same k s (w .r)) v
-
-  pub end-found : step test latest k w ≡ answered v → (greatestEnd test w k ≡ answered (v .d k)) × (v ≡ withD w k (v .d k))
-  end-found = found (greatestEnd test w k) (withD w k) (λ u. u .d k) (λ e. put-same k e (w .d)) v
-
-module _ (whole : ℕ → Bool) (w : Windows) (formed : Formed w) (r d : ℕ → ℕ) (set : SettledInside whole w r d) (k : ℕ) (place : k < w .n) where
-  -- a settled set has a plan, so it leaves each entry room
-  settled-room : r k + w .p k ≤ d k
-  settled-room = let z = set .settled .plan in plan-room (withWindows w r d) (z .0) (z .1) k place (formed .minutes k place)
-
-  -- a plan of it that gives k the minutes of [s, s + p) is one for w with k's window so fixed
-  fixed-plan : (s : ℕ) → (m : ℕ → ℕ) × Plan (withWindows w r d) m × Consecutive (w .h) m k s (s + w .p k) → Plannable (fixedAt w k s)
-  fixed-plan s z = (z .0, consecutive-fixed w (z .0) k s (widen w r d (z .0) (set .inside) (z .1)) (z .2))
-
-  -- a step whose search is not refused and keeps the set inside
-  answers : (o : Outcome ℕ) (f : ℕ → Windows) → ((x : Code) → o ≡ refused x → ⊥) → ((s : ℕ) → o ≡ answered s → SettledInside whole (f s) r d)
-      → (v : Windows) × (andThen o (λ s. answered (f s)) ≡ answered v) × SettledInside whole v r d
-  answers (answered s) f never kept = (f s, refl, kept s refl)
-  answers (refused x) f never kept = absurd (never x refl)
-
-  module _ {test : Test} (law : SearchLaw test w k) (is-whole : whole k ≡ true) where
-    -- so the search for r answers at most the set's own r, the one for d at least its own d, and the set stays inside
-    pub step-settled : (side : Side) → (v : Windows) × (step test side k w ≡ answered v) × SettledInside whole v r d
-    step-settled earliest = answers (leastStart test w k) (withR w k) never (λ s e. kept s (before s e))
-      where
-        here : Plannable (fixedAt w k (r k))
-        here = fixed-plan (r k) (set .settled .from-r k place is-whole)
-
-        never : (x : Code) → leastStart test w k ≡ refused x → ⊥
-        never x e =
-            let ten = step-refused test earliest k w x (rw e) in
-            law .no-start .0 (e ∙ ap refused ten) (r k) (set .inside .r k place) (omega (arith, settled-room, set .inside .d k place)) here
-
-        before : (s : ℕ) → leastStart test w k ≡ answered s → s ≤ r k
-        before s e = le-or-lt s (r k) (λ l. l) (λ l. absurd (law .start-is s .0 e .least (r k) (set .inside .r k place) l here))
-
-        kept : (s : ℕ) → s ≤ r k → SettledInside whole (withR w k s) r d
-        kept s l =
-            record {
-              inside =
-                  record {
-                    r = λ i below. put-under k s (w .r) i (r i) (λ e. omega (arith, ap r e)) (set .inside .r i below);
-                    d = set .inside .d;
-                  };
-              settled = set .settled;
-            }
-    step-settled latest = answers (greatestEnd test w k) (withD w k) never (λ s e. kept s (after s e))
-      where
-        here : Plannable (fixedUpTo w k (d k))
-        here =
-            let e : (d k - w .p k) + w .p k ≡ d k = omega (arith, settled-room) in
-            rw (fixed-up-to w k (d k) (omega (arith, settled-room))) (fixed-plan (d k - w .p k) (rw e (set .settled .up-to-d k place is-whole)))
-
-        never : (x : Code) → greatestEnd test w k ≡ refused x → ⊥
-        never x e =
-            let ten = step-refused test latest k w x (rw e) in
-            law .no-end .0 (e ∙ ap refused ten) (d k) (set .inside .d k place) (omega (arith, settled-room, set .inside .r k place)) here
-
-        after : (s : ℕ) → greatestEnd test w k ≡ answered s → d k ≤ s
-        after s e = le-or-lt (d k) s (λ l. l) (λ l. absurd (law .end-is s .0 e .greatest (d k) l (set .inside .d k place) here))
-
-        kept : (s : ℕ) → d k ≤ s → SettledInside whole (withD w k s) r d
-        kept s l =
-            record {
-              inside =
-                  record {
-                    r = set .inside .r;
-                    d = λ i below. put-over k s (w .d) i (d i) (λ e. omega (arith, ap d e)) (set .inside .d i below);
-                  };
-              settled = set .settled;
-            }
+use Rattle.narrow.proofs.Planners.{Planner}
+use Rattle.narrow.proofs.Puts.{put-same, put-under, fixed-consecutive, window-after-r, fixed-inside, consecutive-fixed}
+use Rattle.narrow.proofs.MirrorSearches.{plannable-mirror, formed-mirror, mirror-back, planner-in-mirror, step-mirror}
+use Rattle.narrow.proofs.Keeping.{Keeps, keeps-same, keeps-n, keeps-trans, keeps-mirror, keeps-r}
+use Rattle.narrow.proofs.MirrorSettled.{SidePlan, earliest-mirror, set-formed, set-mirror}
+use Rattle.narrow.proofs.Exact.{Searched, start-searched}
 
 -- windows have a plan if some inside them have one
 pub plannable-widen : (w : Windows) (r d : ℕ → ℕ) → Inside (withWindows w r d) w → Plannable (withWindows w r d) → Plannable w
 plannable-widen w r d inside z = (z .0, widen w r d (z .0) inside (z .1))
-
--- so there is a plan after a step that is answered: the one that its search asked for
-pub step-plannable : (test : Test) (w : Windows) (k : ℕ) → SearchLaw test w k
-    → (side : Side) (v : Windows) → step test side k w ≡ answered v → Plannable v
-step-plannable test w k law earliest v e =
-    let z = start-found test k w v e in
-    let s = v .r k in
-    let is = law .start-is s .0 (z .0) in
-    rw (z .1)
-    (plannable-widen (withR w k s) (put k s (w .r)) (put k (s + w .p k) (w .d))
-    (record {
-      r = λ i _. omega arith;
-      d = λ i _. put-under k (s + w .p k) (w .d) i _ (λ q. omega (arith, ap (w .d) q, is .room)) (omega arith);
-    })
-    (is .plan))
-step-plannable test w k law latest v q =
-    let z = end-found test k w v q in
-    let e = v .d k in
-    let is = law .end-is e .0 (z .0) in
-    rw (z .1)
-    (plannable-widen (withD w k e) (put k (e - w .p k) (w .r)) (put k e (w .d))
-    (record {
-      r = λ i _. put-over k (e - w .p k) (w .r) i _ (λ q. omega (arith, ap (w .r) q, is .room)) (omega arith);
-      d = λ i _. omega arith;
-    })
-    (is .plan))
-
--- From the windows given to those left.
 
 -- what steps do to windows
 pub record Narrows (whole : ℕ → Bool) (w v : Windows) : Type 0 where
@@ -145,10 +36,7 @@ pub record Narrows (whole : ℕ → Bool) (w v : Windows) : Type 0 where
   pub stays : (r d : ℕ → ℕ) → SettledInside whole w r d → SettledInside whole v r d
   pub plannable : Plannable w → Plannable v
 
--- what a step does, and what visits and rounds do; a refusal says that no set is settled
-abbrev pub StepNarrows : (ℕ → Bool) → Windows → Outcome Windows → Type 0
-StepNarrows whole w = Says (Narrows whole w) (λ _. NoneSettled whole w)
-
+-- what visits and rounds do; a refusal says that no set is settled
 abbrev pub NarrowsOr : (ℕ → Bool) → Windows → Outcome Narrowed → Type 0
 NarrowsOr whole w = Says (λ v. Narrows whole w (v .windows)) (λ _. NoneSettled whole w)
 
@@ -176,29 +64,93 @@ then whole w o f told next = by-step _ _ _ o f told (λ s a. onward (s .windows)
     onward u a (answered v) b = narrows-trans a b
     onward u a (refused k) none = none-before a none
 
--- Steps, visits, rounds and lists of steps, for a test whose searches obey their law.
+-- One step.
 
-module _ (test : Test) (whole : ℕ → Bool) (laws : (w : Windows) → Formed w → (k : ℕ) → k < w .n → SearchLaw test w k) where
-  pub step-narrows : (side : Side) (w : Windows) → Formed w → (k : ℕ) → k < w .n → whole k ≡ true → StepNarrows whole w (step test side k w)
-  step-narrows side w formed k place is-whole = go (step test side k w) refl
+-- what a step for k does beside that: it leaves a plan with the minutes of k consecutive on its side
+pub record StepNarrows (whole : ℕ → Bool) (side : Side) (k : ℕ) (w v : Windows) : Type 0 where
+  pub narrows : Narrows whole w v
+  pub plan : SidePlan side v k
+
+abbrev pub StepNarrowsOr : (ℕ → Bool) → Side → ℕ → Windows → Outcome Windows → Type 0
+StepNarrowsOr whole side k w = Says (StepNarrows whole side k w) (λ _. NoneSettled whole w)
+
+-- a plan for k's window fixed to [r, r + p) is one for w, and k has all of these minutes
+fixed-plan : (w : Windows) → Formed w → (k : ℕ) → k < w .n → Plannable (fixedAt w k (w .r k)) → SidePlan earliest w k
+fixed-plan w formed k place z =
+    let room = formed .room k place in
+    (z .0, widen w _ _ (z .0) (fixed-inside w k (w .r k) (omega arith) room) (z .1), fixed-consecutive w formed k (w .r k) place room (z .0) (z .1))
+
+module _ {test : Test} (planner : Planner test) (whole : ℕ → Bool) (w : Windows) (formed : Formed w) (k : ℕ) (place : k < w .n) (is-whole : whole k ≡ true) where
+  -- a settled set has a plan with k from its own r on, so the search for r answers at most that, and the set stays inside
+  start-narrows : StepNarrowsOr whole earliest k w (step test earliest k w)
+  start-narrows = go (leastStart test w k) (start-searched planner w formed k place)
     where
-      kept : (r d : ℕ → ℕ) → SettledInside whole w r d → Says (λ v. SettledInside whole v r d) (λ _. ⊥) (step test side k w)
-      kept r d set = let z = step-settled whole w formed r d set k place (laws w formed k place) is-whole side in rw (z .1) (z .2)
+      here : (r d : ℕ → ℕ) → SettledInside whole w r d → Plannable (fixedAt w k (r k))
+      here r d set =
+          let z = set .settled .from-r k place is-whole in
+          (z .0, consecutive-fixed w (z .0) k (r k) (widen w r d (z .0) (set .inside) (z .1)) (z .2))
 
-      go : (o : Outcome Windows) → step test side k w ≡ o → StepNarrows whole w o
-      go (answered v) e =
+      kept : (s : ℕ) → IsLeastStart w k s → (r d : ℕ → ℕ) → SettledInside whole w r d → SettledInside whole (withR w k s) r d
+      kept s start r d set =
+          let before : s ≤ r k = le-or-lt s (r k) (λ l. l) (λ l. absurd (start .least (r k) (set .inside .r k place) l (here r d set))) in
           record {
-            keeps = step-keeps test side k w v formed place e;
-            stays = λ r d set. rw e at (kept r d set);
-            plannable = λ _. step-plannable test w k (laws w formed k place) side v e;
+            inside =
+                record {
+                  r = λ i below. put-under k s (w .r) i (r i) (λ e. omega (arith, ap r e)) (set .inside .r i below);
+                  d = set .inside .d;
+                };
+            settled = set .settled;
           }
-      go (refused x) e = λ r d set. rw e at (kept r d set)
+
+      go : (o : Outcome ℕ) → Searched (IsLeastStart w k) (NoStart w k) k o
+          → StepNarrowsOr whole earliest k w (andThen o (λ s. answered (withR w k s)))
+      go (answered s) start =
+          let keeps = keeps-r w formed k place s (start .from-r, start .room) in
+          let same = window-after-r w k s s (s + w .p k) in
+          let plan = fixed-plan (withR w k s) (keeps .formed) k place (rw (put-same k s (w .r), same) (start .plan)) in
+          record { narrows = record { keeps = keeps; stays = kept s start; plannable = λ _. (plan .0, plan .1) }; plan = plan }
+      go (refused x) (_, none) =
+          λ r d set.
+          none (r k) (set .inside .r k place)
+          (omega (arith, set-formed whole w formed r d set .room k place, set .inside .d k place))
+          (here r d set)
+
+-- Ends, by the mirror.
+
+-- what is done to the mirrored windows is done to the windows
+narrows-mirror : {whole : ℕ → Bool} (w : Windows) → Formed w → (v : Windows) → Narrows whole (mirror w) v → Narrows whole w (mirror v)
+narrows-mirror {whole} w formed v a =
+    record {
+      keeps = keeps-mirror w formed (a .keeps);
+      stays =
+          λ r d set.
+          let u = mirror (withWindows w r d) in
+          let back = ap (λ x. mirror (withWindows x (u .r) (u .d))) (a .keeps .entries) ∙ mirror-back (withWindows w r d) (set-formed whole w formed r d set) in
+          subst (λ (x : Windows). SettledInside whole (mirror v) (x .r) (x .d)) back
+          (set-mirror whole v (a .keeps .formed) (u .r) (u .d) (a .stays (u .r) (u .d) (set-mirror whole w formed r d set)));
+      plannable = λ z. plannable-mirror v (a .plannable (plannable-mirror w z));
+    }
+
+-- Steps, visits, rounds and lists of steps.
+
+module _ {test : Test} (planner : Planner test) (whole : ℕ → Bool) where
+  pub step-narrows : (side : Side) (w : Windows) → Formed w → (k : ℕ) → k < w .n → whole k ≡ true → StepNarrowsOr whole side k w (step test side k w)
+  step-narrows earliest w formed k place is-whole = start-narrows planner whole w formed k place is-whole
+  step-narrows latest w formed k place is-whole =
+      rw (step-mirror (planner-in-mirror planner) w formed k place)
+      (go (step test earliest k (mirror w)) (start-narrows planner whole (mirror w) (formed-mirror w formed) k place is-whole))
+    where
+      go : (o : Outcome Windows) → StepNarrowsOr whole earliest k (mirror w) o → StepNarrowsOr whole latest k w (andThen o (λ v. answered (mirror v)))
+      go (answered v) a =
+          let kept = a .narrows .keeps in
+          record { narrows = narrows-mirror w formed v (a .narrows); plan = earliest-mirror v (kept .formed) k (omega (arith, keeps-n kept)) (a .plan) }
+      go (refused x) none = λ r d set. none _ _ (set-mirror whole w formed r d set)
 
   side-narrows : (side : Side) (s : Narrowed) → Formed (s .windows) → (k : ℕ) → k < s .windows .n → whole k ≡ true
       → NarrowsOr whole (s .windows) (narrowSide test side k s)
   unfolding narrowSide
   side-narrows side s formed k place is-whole =
-      by-step _ _ _ (step test side k (s .windows)) _ (step-narrows side (s .windows) formed k place is-whole) (λ v a. a)
+      by-step _ _ _ (step test side k (s .windows)) _ (step-narrows side (s .windows) formed k place is-whole) (λ v a. a .narrows)
 
   pub visit-narrows : (s : Narrowed) → Formed (s .windows) → (k : ℕ) → k < s .windows .n → NarrowsOr whole (s .windows) (visit test whole k s)
   unfolding visit
@@ -234,9 +186,9 @@ module _ (test : Test) (whole : ℕ → Bool) (laws : (w : Windows) → Formed w
       go v f false o told = told
 
   -- one step of a list, which changes nothing if it is refused
-  left-narrows : (w : Windows) → Formed w → (o : Outcome Windows) → StepNarrows whole w o → Narrows whole w (leftBy o w)
-  left-narrows w formed (answered v) a = a
-  left-narrows w formed (refused k) none = narrows-same w formed
+  left-narrows : (side : Side) (k : ℕ) (w : Windows) → Formed w → (o : Outcome Windows) → StepNarrowsOr whole side k w o → Narrows whole w (leftBy o w)
+  left-narrows side k w formed (answered v) a = a .narrows
+  left-narrows side k w formed (refused x) none = narrows-same w formed
 
   -- a list of steps
   pub steps-narrow : (ss : List Step) (w : Windows) → Formed w → NamesWhole whole (w .n) ss → Narrows whole w (stepsLeave test ss w)
@@ -244,7 +196,7 @@ module _ (test : Test) (whole : ℕ → Bool) (laws : (w : Windows) → Formed w
   steps-narrow [] w formed names = narrows-same w formed
   steps-narrow (s ∷ ss) w formed names =
       let o = step test (s .side) (s .place) w in
-      let a = left-narrows w formed o (step-narrows (s .side) w formed (s .place) (names .0) (names .1)) in
+      let a = left-narrows (s .side) (s .place) w formed o (step-narrows (s .side) w formed (s .place) (names .0) (names .1)) in
       narrows-trans a (steps-narrow ss (leftBy o w) (a .keeps .formed) (rw (keeps-n (a .keeps)) (names .2)))
 
   pub steps-none : (ss : List Step) (w : Windows) → Formed w → NamesWhole whole (w .n) ss
@@ -255,8 +207,8 @@ module _ (test : Test) (whole : ℕ → Bool) (laws : (w : Windows) → Formed w
       go (step test (s .side) (s .place) w) (step-narrows (s .side) w formed (s .place) (names .0) (names .1))
       (λ v a. steps-none ss v (a .keeps .formed) (rw (keeps-n (a .keeps)) (names .2)))
     where
-      go : (o : Outcome Windows) → StepNarrows whole w o
+      go : (o : Outcome Windows) → StepNarrowsOr whole (s .side) (s .place) w o
           → ((v : Windows) → Narrows whole w v → someRefused test ss v ≡ true → NoneSettled whole v)
           → (not (accepts o) || someRefused test ss (leftBy o w)) ≡ true → NoneSettled whole w
-      go (answered v) a rest e = none-before a (rest v a e)
+      go (answered v) a rest e = none-before (a .narrows) (rest v (a .narrows) e)
       go (refused k) none rest e = none

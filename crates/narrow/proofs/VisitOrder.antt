@@ -4,6 +4,7 @@ use mathlib.Core.Path.{_≡_, sym, ap, _∙_}
 use Prim.Native.Nat.{ℕ, _+_, _-_, _<_, _≤_}
 use native.Mathlib.Omega.{arith}
 use Rattle.list.specs.Outcomes.{Outcome, answered, refused, andThen}
+use Rattle.list.proofs.Inversion.{Says}
 use Rattle.jackson.specs.Windows.{Windows}
 use Rattle.jackson.proofs.Sums.{le-or-lt}
 use Rattle.narrow.specs.Searching.{Test, put, withR, withD, leastStart, greatestEnd, IsLeastStart, NoStart, IsGreatestEnd, NoEnd}
@@ -11,7 +12,7 @@ use Rattle.narrow.specs.Rounds.{earliest, latest, Narrowed, movesOf, nar
 use Rattle.narrow.specs.Laws.{Formed}
 use Rattle.narrow.proofs.Planners.{Planner}
 use Rattle.narrow.proofs.Puts.{put-same, fixed-up-to, window-after-r, window-after-d}
-use Rattle.narrow.proofs.Keeping.{keeps-r, keeps-d}
+use Rattle.narrow.proofs.Keeping.{Keeps, RefusedAt, keeps-r, step-says}
 use Rattle.narrow.proofs.Costs.{moved-same}
 use Rattle.narrow.proofs.Exact.{Searched, start-searched, end-searched, search-law}
 
@@ -29,7 +30,7 @@ module _ (w : Windows) (k s : ℕ) (start : IsLeastStart w k s) where
         let room = end .room in
         le-or-lt s (e - w .p k) (λ l. omega arith) (λ l. absurd (start .least (e - w .p k) (omega arith) l (rw (fixed-up-to w k e (omega arith)) at (end .plan))))
 
-    -- so each search finds the same after the other
+    -- so each search finds the same after the other; one of the two by the mirror would be longer
     end-after : IsGreatestEnd (withR w k s) k e
     end-after =
         record {
@@ -62,20 +63,23 @@ module _ {test : Test} (planner : Planner test) (k : ℕ) (s : Narrowed) (formed
   -- r and then d, or d and then r: the same windows and moves, or the same refusal
   pub visit-order : andThen (narrowSide test earliest k s) (narrowSide test latest k) ≡ andThen (narrowSide test latest k s) (narrowSide test earliest k)
   unfolding narrowSide
-  visit-order = go (leastStart test w k) (greatestEnd test w k) (start-searched planner w formed k place) (end-searched planner w formed k place)
+  visit-order =
+      go (leastStart test w k) (greatestEnd test w k) (start-searched planner w formed k place) (end-searched planner w formed k place)
+      (step-says w formed k place test latest)
     where
       w : Windows
       w = s .windows
 
       go : (a b : Outcome ℕ) → Searched (IsLeastStart w k) (NoStart w k) k a → Searched (IsGreatestEnd w k) (NoEnd w k) k b
+          → Says (Keeps w) (RefusedAt k) (andThen b (λ e. answered (withD w k e)))
           → andThen (andThen (andThen a (λ x. answered (withR w k x))) (λ v. answered (counted k s v))) (narrowSide test latest k)
           ≡ andThen (andThen (andThen b (λ e. answered (withD w k e))) (λ v. answered (counted k s v))) (narrowSide test earliest k)
-      go (answered x) (answered e) start end =
+      go (answered x) (answered e) start end keeps =
           let after-r = search-law planner (withR w k x) (keeps-r w formed k place x (start .from-r, start .room) .formed) k place in
-          let after-d = search-law planner (withD w k e) (keeps-d w formed k place e (end .to-d, end .room) .formed) k place in
+          let after-d = search-law planner (withD w k e) (keeps .formed) k place in
           rw (after-r .end-is e .1 (end-after w k x start e end), after-d .start-is x .1 (start-after w k x start e end))
           (ap (λ (m : ℕ). answered (record { windows = withD (withR w k x) k e; moves = m }))
           (omega (arith, moved-same (w .r k), moved-same (w .d k), moved-same (put k x (w .r) k), moved-same (put k e (w .d) k))))
-      go (answered x) (refused _) start (_, none) = absurd (start-ends w k x start none)
-      go (refused _) (answered e) (_, none) end = absurd (end-starts w k e end none)
-      go (refused x) (refused y) (a, _) (b, _) = ap refused (a ∙ sym b)
+      go (answered x) (refused _) start (_, none) _ = absurd (start-ends w k x start none)
+      go (refused _) (answered e) (_, none) end _ = absurd (end-starts w k e end none)
+      go (refused x) (refused y) (a, _) (b, _) _ = ap refused (a ∙ sym b)

@@ -1,0 +1,65 @@
+-- Settled windows are settled in the mirror.
+-- Assumes nothing.
+use mathlib.Core.Path.{_≡_, refl}
+use mathlib.Core.Bool.{Bool}
+use Prim.Native.Nat.{ℕ, suc, _+_, _-_, _<_}
+use native.Mathlib.Omega.{arith}
+use Rattle.jackson.specs.Windows.{Windows, withWindows}
+use Rattle.jackson.specs.Plans.{Plan}
+use Rattle.jackson.specs.Mirrors.{mirror, mirrorPlan}
+use Rattle.jackson.proofs.PlanFacts.{mirror-plan, plan-room}
+use Rattle.narrow.specs.Settling.{Consecutive, Settled, SettledInside}
+use Rattle.narrow.specs.Rounds.{Side, earliest, latest}
+use Rattle.narrow.specs.Laws.{Formed}
+use Rattle.narrow.proofs.MirrorSearches.{plannable-mirror, mirror-r, mirror-d}
+use Rattle.narrow.proofs.Keeping.{formed-inside, inside-mirror}
+
+-- a plan with the minutes of k consecutive from its r on, or up to its d
+abbrev pub SidePlan : Side → Windows → ℕ → Type 0
+SidePlan earliest w k = (m : ℕ → ℕ) × Plan w m × Consecutive (w .h) m k (w .r k) (w .r k + w .p k)
+SidePlan latest w k = (m : ℕ → ℕ) × Plan w m × Consecutive (w .h) m k (w .d k - w .p k) (w .d k)
+
+-- consecutive minutes are consecutive in the mirrored plan
+consecutive-mirror : (h : ℕ) (m : ℕ → ℕ) (k s e : ℕ) → Consecutive h m k s e → Consecutive h (mirrorPlan h m) k (h - e) (h - s)
+consecutive-mirror h m k s e run =
+    record {
+      each = λ t below l u. run .each (h - suc t) (omega arith) (omega arith) (omega arith);
+      only = λ t below q. let z = run .only (h - suc t) (omega arith) q in (omega arith, omega arith);
+    }
+
+module _ (w : Windows) (formed : Formed w) (k : ℕ) (place : k < w .n) where
+  -- minutes from r on are minutes up to d in the mirror
+  pub earliest-mirror : SidePlan earliest w k → SidePlan latest (mirror w) k
+  earliest-mirror z =
+      let e : w .h - w .r k - w .p k ≡ w .h - (w .r k + w .p k) = omega arith in
+      (_, mirror-plan w (z .0) (z .1), rw (mirror-d w k place, e) (consecutive-mirror (w .h) (z .0) k _ _ (z .2)))
+
+  -- and those up to d are from r on
+  latest-mirror : SidePlan latest w k → SidePlan earliest (mirror w) k
+  latest-mirror z =
+      let e : w .h - w .d k + w .p k ≡ w .h - (w .d k - w .p k) = omega (arith, formed .in-day k place, formed .room k place) in
+      (_, mirror-plan w (z .0) (z .1), rw (mirror-r w k place, e) (consecutive-mirror (w .h) (z .0) k _ _ (z .2)))
+
+pub settled-mirror : (whole : ℕ → Bool) (w : Windows) → Formed w → Settled whole w → Settled whole (mirror w)
+settled-mirror whole w formed settled =
+    record {
+      plan = plannable-mirror w (settled .plan);
+      from-r = λ k place q. latest-mirror w formed k place (settled .up-to-d k place q);
+      up-to-d = λ k place q. earliest-mirror w formed k place (settled .from-r k place q);
+    }
+
+module _ (whole : ℕ → Bool) (w : Windows) (formed : Formed w) (r d : ℕ → ℕ) (set : SettledInside whole w r d) where
+  -- a settled set has a plan, so it leaves each entry room
+  pub set-formed : Formed (withWindows w r d)
+  set-formed =
+      let z = set .settled .plan in
+      formed-inside w formed r d (set .inside)
+      (λ i place. plan-room (withWindows w r d) (z .0) (z .1) i place (formed .minutes i place))
+
+  -- its mirror is settled inside the mirror
+  pub set-mirror : SettledInside whole (mirror w) (mirror (withWindows w r d) .r) (mirror (withWindows w r d) .d)
+  set-mirror =
+      record {
+        inside = let z = inside-mirror (withWindows w r d) w refl refl (set .inside) in record { r = z .r; d = z .d };
+        settled = settled-mirror whole (withWindows w r d) set-formed (set .settled);
+      }
