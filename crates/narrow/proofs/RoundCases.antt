@@ -17,6 +17,12 @@ use Rattle.narrow.proofs.Puts.{put-same}
 use Rattle.narrow.proofs.Costs.{moved-same}
 use Rattle.narrow.proofs.ArrayCases.{held-r, held-d}
 
+pub moved-none : (x y : ℕ) → x ≡ y → 0 ≡ moved x y
+moved-none x y e = rw (eq-eqb x y e)
+
+pub moved-once : (x y : ℕ) → (x ≡ y → ⊥) → 1 ≡ moved x y
+moved-once x y e = rw (ne-eqb x y e)
+
 pub moved-one : (x y : ℕ) → moved x y ≤ 1
 moved-one x y = same-cases x y (λ e _. rw (eq-eqb x y e) (omega arith)) (λ e _. rw (ne-eqb x y e) (omega arith))
 
