@@ -18,11 +18,12 @@ use Rattle.list.specs.declared.types.WriteAnswer.{WriteAnswer}
 use Rattle.list.specs.declared.types.WriteAnswer.the-variants.{Written, NotWritten}
 use Rattle.jackson.specs.Testing.{Tests}
 use Rattle.jackson.specs.Planning.{Fills}
-use Rattle.narrow.specs.Calls.{narrowAnswerOf, Settles, MakesRound}
+use Rattle.narrow.specs.Rounds.{Narrowed}
+use Rattle.narrow.specs.Calls.{narrowAnswerOf, listed, AnswersAs}
 use Rattle.narrow.specs.declared.types.NarrowAnswer.{NarrowAnswer}
 use Rattle.codes.specs.Numbers.{three}
 use Rattle.abi.specs.Flat.{flatOf, valueOf}
-use Rattle.abi.specs.Calls.{answerWith, ReadCall, WriteCall, OverloadCall, ScheduleCall, NarrowCall, SettleCall, RoundCall}
+use Rattle.abi.specs.Calls.{answerWith, ReadCall, WriteCall, OverloadCall, ScheduleCall, NarrowCall}
 use Rattle.abi.specs.declared.Answer.{Answer}
 
 -- an answer made of a refusal
@@ -72,9 +73,7 @@ module _ (old : List ℕ) (a : NarrowAnswer) where
   pub narrowed-refused : (x : Refusal) (b : Answer) → a .verdict ≡ Refused x → RefusedAs x b → NarrowCall (narrowAnswerOf a) old b old
   narrowed-refused x b v q = rw v (record { answer = q; buffer = refl })
 
-module _ (xs old new : List ℕ) (l : DayList) (p : l ≡ valueOf xs) (a : NarrowAnswer) (b : Answer) (given : NarrowCall (narrowAnswerOf a) old b new) where
-  pub settle-said : Settles l a → SettleCall xs old b new
-  settle-said w = rw (← p) (subst (λ (o : Outcome (DayList × ℕ)). NarrowCall o old b new) (w .answers .outcome) given)
-
-  pub round-said : MakesRound l a → RoundCall xs old b new
-  round-said w = rw (← p) (subst (λ (o : Outcome (DayList × ℕ)). NarrowCall o old b new) (w .answers .outcome) given)
+-- a call that narrows the list value that xs say, with the outcome o
+pub narrow-said : (o : DayList → Outcome Narrowed) (xs old new : List ℕ) (l : DayList) → l ≡ valueOf xs → (a : NarrowAnswer) (b : Answer)
+    → NarrowCall (narrowAnswerOf a) old b new → AnswersAs l (o l) a → NarrowCall (listed (valueOf xs) (o (valueOf xs))) old b new
+narrow-said o xs old new l p a b given w = rw (← p) (subst (λ (u : Outcome (DayList × ℕ)). NarrowCall u old b new) (w .outcome) given)

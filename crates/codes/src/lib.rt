@@ -42,7 +42,7 @@ pub fn numbers_of(x: Refusal) -> RefusalCode
             count: 3,
             values: [a as u64, b as u64, work as u64],
         },
-        Refusal::NoStart(place) => with_one(10, place),
+        Refusal::NoPlace(place) => with_one(10, place),
         Refusal::PlanBufferShort(h) => with_one(11, h),
         Refusal::ListBufferShort(needed) => with_one(12, needed),
         Refusal::UnknownPlace(place) => with_one(13, place),

@@ -2,7 +2,7 @@
 use mathlib.Core.List.{[], _∷_}
 use Rattle.list.specs.Outcomes.{Code, code, Outcome, answered, refused}
 use Rattle.list.specs.declared.types.Refusal.{Refusal}
-use Rattle.list.specs.declared.types.Refusal.the-variants.{BytesMissing, BadDayLength, TooManyEntries, BadMapByte, DefaultWritten, NoMinutes, BadWindow, BytesLeftOver, Overloaded, NoStart, PlanBufferShort, ListBufferShort, UnknownPlace}
+use Rattle.list.specs.declared.types.Refusal.the-variants.{BytesMissing, BadDayLength, TooManyEntries, BadMapByte, DefaultWritten, NoMinutes, BadWindow, BytesLeftOver, Overloaded, NoPlace, PlanBufferShort, ListBufferShort, UnknownPlace}
 use Rattle.list.specs.declared.types.Verdict.{Verdict}
 use Rattle.list.specs.declared.types.Verdict.the-variants.{Accepted, Refused}
 use Rattle.list.specs.declared.types.DayList.{DayList}
@@ -21,7 +21,7 @@ codeOf (NoMinutes at) = code 6 (at ∷ [])
 codeOf (BadWindow at) = code 7 (at ∷ [])
 codeOf (BytesLeftOver at) = code 8 (at ∷ [])
 codeOf (Overloaded a b work) = code 9 (a ∷ b ∷ work ∷ [])
-codeOf (NoStart place) = code 10 (place ∷ [])
+codeOf (NoPlace place) = code 10 (place ∷ [])
 codeOf (PlanBufferShort h) = code 11 (h ∷ [])
 codeOf (ListBufferShort needed) = code 12 (needed ∷ [])
 codeOf (UnknownPlace place) = code 13 (place ∷ [])

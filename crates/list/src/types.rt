@@ -56,7 +56,7 @@ pub enum Refusal {
     // 9: the interval from a to b is overloaded; a, b and its work.
     Overloaded(u16, u16, u32),
     // 10: a whole entry has no place; the entry.
-    NoStart(usize),
+    NoPlace(usize),
     // 11: a plan buffer is under H bytes; H.
     PlanBufferShort(usize),
     // 12: the writer's buffer is too short; the bytes needed.

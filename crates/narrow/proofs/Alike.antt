@@ -15,7 +15,7 @@ use Rattle.jackson.specs.Windows.{Windows, plain, SameWindows}
 use Rattle.jackson.specs.Intervals.{overloadOf}
 use Rattle.jackson.proofs.Alike.{alike-windows, alike-checked}
 use Rattle.narrow.specs.Rounds.{Narrowed, unmoved, round, narrowing}
-use Rattle.narrow.specs.Calls.{isWhole, wholeIn, bare, SameTimes, withTimes, entriesWith, listWith, settleOf, roundOf, listed, standing}
+use Rattle.narrow.specs.Calls.{isWhole, wholeIn, bare, SameTimes, entryWith, entriesWith, listWith, settleOf, roundOf, listed, standing}
 
 -- lists that are equal have the same numbers and kinds
 pub same-times : {a b : DayList} → SameList a b → SameTimes a b
@@ -64,13 +64,6 @@ module _ {a b : DayList} (s : SameList a b) where
   pub same-round : listed a (roundOf a) ≡ listed b (roundOf b)
   same-round = same-listed (times-round (same-times s))
 
-  -- and the same stands in them
-  pub same-settled-standing : standing (listed a (settleOf a)) ≡ standing (listed b (settleOf b))
-  same-settled-standing = ap standing same-settled
-
-  pub same-round-standing : standing (listed a (roundOf a)) ≡ standing (listed b (roundOf b))
-  same-round-standing = ap standing same-round
-
 -- the list with other windows: at each place the serial, seal, p and kind that stood there, and the window's r and d
 module _ (w : Windows) where
   pub with-length : (i : ℕ) (es : List Entry) → length (entriesWith w i es) ≡ length es
@@ -79,7 +72,7 @@ module _ (w : Windows) where
   with-length i (e ∷ es) = ap suc (with-length (i + 1) es)
 
   with-at : (i : ℕ) (es : List Entry) (j : ℕ) (k : ℕ) → k ≡ i + j → j < length es
-      → getD (entriesWith w i es) j blank ≡ withTimes (getD es j blank) (w .r k) (w .d k)
+      → getD (entriesWith w i es) j blank ≡ entryWith (getD es j blank) (w .r k) (w .d k)
   unfolding entriesWith
   with-at i [] j k z h = absurd (omega arith)
   with-at i (e ∷ es) zero k z h = let q : k ≡ i = omega arith in rw q
@@ -90,7 +83,7 @@ module _ (l : DayList) (w : Windows) where
   unfolding listWith
   listed-entries = take-append-seam (entriesWith w 0 (entriesOf l)) _
 
-  pub listed-entry : (i : ℕ) → i < length (entriesOf l) → getD (entriesOf (listWith l w)) i blank ≡ withTimes (getD (entriesOf l) i blank) (w .r i) (w .d i)
+  pub listed-entry : (i : ℕ) → i < length (entriesOf l) → getD (entriesOf (listWith l w)) i blank ≡ entryWith (getD (entriesOf l) i blank) (w .r i) (w .d i)
   listed-entry i h = rw listed-entries (with-at w 0 (entriesOf l) i i (omega arith) h)
 
   pub listed-count : length (entriesOf (listWith l w)) ≡ length (entriesOf l)

@@ -15,7 +15,7 @@ use Rattle.narrow.specs.Searching.{Test}
 use Rattle.narrow.specs.Settling.{minutesCut}
 use Rattle.narrow.specs.Rounds.{Side, earliest, latest, step, Narrowed, moved, movesOf, narrowSide, visit, visits, round}
 use Rattle.narrow.specs.Rounds.{rounds, slack}
-use Rattle.narrow.specs.Laws.{Formed}
+use Rattle.narrow.specs.Laws.{Formed, WholeRefused}
 use Rattle.narrow.proofs.Puts.{place-cases}
 use Rattle.narrow.proofs.Keeping.{Keeps, keeps-same, keeps-n, keeps-p, keeps-trans, RefusedAt, step-says}
 
@@ -23,11 +23,11 @@ use Rattle.narrow.proofs.Keeping.{Keeps, keeps-same, keeps-n, keeps-p, 
 pub record Costs (whole : ℕ → Bool) (s v : Narrowed) : Type 0 where
   pub keeps : Keeps (s .windows) (v .windows)
   pub more : s .moves ≤ v .moves
-  pub paid : v .moves + slack whole (v .windows) ≤ s .moves + slack whole (s .windows)
+  pub bounded : v .moves + slack whole (v .windows) ≤ s .moves + slack whole (s .windows)
   pub cut : v .moves ≤ s .moves + minutesCut (s .windows) (v .windows)
 
 pub costs-same : (whole : ℕ → Bool) (s : Narrowed) → Formed (s .windows) → Costs whole s s
-costs-same whole s formed = record { keeps = keeps-same (s .windows) formed; more = omega arith; paid = omega arith; cut = omega arith }
+costs-same whole s formed = record { keeps = keeps-same (s .windows) formed; more = omega arith; bounded = omega arith; cut = omega arith }
 
 -- minutes cut add up
 cut-trans : {u v w : Windows} → Keeps u v → Keeps v w → minutesCut u v + minutesCut v w ≤ minutesCut u w
@@ -46,7 +46,7 @@ costs-trans a b =
     record {
       keeps = keeps-trans (a .keeps) (b .keeps);
       more = omega (arith, a .more, b .more);
-      paid = omega (arith, a .paid, b .paid);
+      bounded = omega (arith, a .bounded, b .bounded);
       cut = omega (arith, a .cut, b .cut, cut-trans (a .keeps) (b .keeps));
     }
 
@@ -95,10 +95,6 @@ pub by-test : {A : Type 0} (P : A → Type 0) (t : Bool) (a b : A) → (t ≡ tr
 by-test P true a b f g = f refl
 by-test P false a b f g = g refl
 
--- row 10 with the place of a whole entry
-abbrev pub WholeRefused : (ℕ → Bool) → ℕ → Code → Type 0
-WholeRefused whole n x = (i : ℕ) × (i < n) × (whole i ≡ true) × (x ≡ code 10 (i ∷ []))
-
 -- the outcome of what starts with s
 abbrev pub CostsOr : (ℕ → Bool) → Narrowed → Outcome Narrowed → Type 0
 CostsOr whole s = Says (Costs whole s) (WholeRefused whole (s .windows .n))
@@ -125,7 +121,7 @@ module _ (test : Test) (whole : ℕ → Bool) where
             record {
               keeps = keeps;
               more = omega arith;
-              paid = omega (arith, moves-paid whole keeps k place is);
+              bounded = omega (arith, moves-paid whole keeps k place is);
               cut = omega (arith, moves-cut whole keeps k place);
             }
         go (refused x) ten = (k, place, is, ten)

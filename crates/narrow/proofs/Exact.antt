@@ -26,22 +26,22 @@ use Rattle.narrow.proofs.MirrorSearches.{fixed-at-mirror, end-by-mirror
 -- Outcomes of a search.
 
 -- the minute, or row 10 with k where there is none
-abbrev pub Searched : (ℕ → Type 0) → Type 0 → ℕ → Outcome ℕ → Type 0
-Searched Is None k = Says Is (λ x. (x ≡ code 10 (k ∷ [])) × None)
+abbrev pub SearchSays : (ℕ → Type 0) → Type 0 → ℕ → Outcome ℕ → Type 0
+SearchSays Is None k = Says Is (λ x. (x ≡ code 10 (k ∷ [])) × None)
 
 -- if there is at most one such minute, the outcome says all about it
 module _ (Is : ℕ → Type 0) (None : Type 0) (k : ℕ) (one : (s t : ℕ) → Is s → Is t → s ≡ t) (some : (s : ℕ) → Is s → None → ⊥) where
-  answered-is : (o : Outcome ℕ) → Searched Is None k o → (s : ℕ) → (o ≡ answered s) ↔ Is s
+  answered-is : (o : Outcome ℕ) → SearchSays Is None k o → (s : ℕ) → (o ≡ answered s) ↔ Is s
   answered-is o says s = (λ e. rw e at says, back o says)
     where
-      back : (o : Outcome ℕ) → Searched Is None k o → Is s → o ≡ answered s
+      back : (o : Outcome ℕ) → SearchSays Is None k o → Is s → o ≡ answered s
       back (answered t) there here = ap answered (one t s there here)
       back (refused x) (_, none) here = absurd (some s here none)
 
-  refused-none : (o : Outcome ℕ) → Searched Is None k o → (o ≡ refused (code 10 (k ∷ []))) ↔ None
+  refused-none : (o : Outcome ℕ) → SearchSays Is None k o → (o ≡ refused (code 10 (k ∷ []))) ↔ None
   refused-none o says = (λ e. (rw e at says) .1, back o says)
     where
-      back : (o : Outcome ℕ) → Searched Is None k o → None → o ≡ refused (code 10 (k ∷ []))
+      back : (o : Outcome ℕ) → SearchSays Is None k o → None → o ≡ refused (code 10 (k ∷ []))
       back (answered t) there none = absurd (some t there none)
       back (refused x) (ten, _) none = ap refused ten
 
@@ -85,7 +85,7 @@ module _ {test : Test} (planner : Planner test) (w : Windows) (formed : Formed w
     accepted-plan e = fixed-exact .1 (accepted-answered _ e)
 
   -- what the search for a start answers
-  pub start-searched : Searched (IsLeastStart w k) (NoStart w k) k (leastStart test w k)
+  pub start-searched : SearchSays (IsLeastStart w k) (NoStart w k) k (leastStart test w k)
   unfolding failedStarts leastStart
   start-searched =
       by-row (IsLeastStart w k) _ (eqb j (trials w k)) _ (answered (w .r k + j))
@@ -155,13 +155,13 @@ module _ (w : Windows) (formed : Formed w) (k : ℕ) (place : k < w .n) where
 
 module _ {test : Test} (planner : Planner test) (w : Windows) (formed : Formed w) (k : ℕ) (place : k < w .n) where
   -- what the search for an end answers
-  pub end-searched : Searched (IsGreatestEnd w k) (NoEnd w k) k (greatestEnd test w k)
+  pub end-searched : SearchSays (IsGreatestEnd w k) (NoEnd w k) k (greatestEnd test w k)
   end-searched =
       rw (end-by-mirror planner w formed k place)
       (go (leastStart test (mirror w) k) (start-searched planner (mirror w) (formed-mirror w formed) k place))
     where
-      go : (o : Outcome ℕ) → Searched (IsLeastStart (mirror w) k) (NoStart (mirror w) k) k o
-          → Searched (IsGreatestEnd w k) (NoEnd w k) k (andThen o (λ s. answered (w .h - s)))
+      go : (o : Outcome ℕ) → SearchSays (IsLeastStart (mirror w) k) (NoStart (mirror w) k) k o
+          → SearchSays (IsGreatestEnd w k) (NoEnd w k) k (andThen o (λ s. answered (w .h - s)))
       go (answered s) start = greatest-end w formed k place s start
       go (refused x) (ten, none) = (ten, none-ends w formed k place none)
 
@@ -174,5 +174,5 @@ module _ {test : Test} (planner : Planner test) (w : Windows) (formed : Formed w
         no-end = refused-none (IsGreatestEnd w k) (NoEnd w k) k (one-end w k) (some-end w k) _ end-searched;
       }
     where
-      starts : Searched (IsLeastStart w k) (NoStart w k) k (leastStart test w k)
+      starts : SearchSays (IsLeastStart w k) (NoStart w k) k (leastStart test w k)
       starts = start-searched planner w formed k place

@@ -43,14 +43,14 @@ module _ {test : Test} (planner : Planner test) (whole : ℕ → Bool) where
 -- Rounds without moves.
 
 -- no move is no change
-moved-none : (a b : ℕ) → moved a b ≡ 0 → a ≡ b
-moved-none a b = place-cases (λ t. _≡_ {A = ℕ} (cond t 0 1) 0 → a ≡ b) a b (λ e _. e) (λ _ z. absurd (omega arith))
+unmoved-same : (a b : ℕ) → moved a b ≡ 0 → a ≡ b
+unmoved-same a b = place-cases (λ t. _≡_ {A = ℕ} (cond t 0 1) 0 → a ≡ b) a b (λ e _. e) (λ _ z. absurd (omega arith))
 
 -- so a window of k put without a move leaves the windows as they are
 window-still : (k : ℕ) (w : Windows) (s e : ℕ) → movesOf k w (withWindow w k s e) ≡ 0 → withWindow w k s e ≡ w
 window-still k w s e none =
-    let from : w .r k ≡ s = moved-none (w .r k) _ (omega arith) ∙ put-same k s (w .r) in
-    let to : w .d k ≡ e = moved-none (w .d k) _ (omega arith) ∙ put-same k e (w .d) in
+    let from : w .r k ≡ s = unmoved-same (w .r k) _ (omega arith) ∙ put-same k s (w .r) in
+    let to : w .d k ≡ e = unmoved-same (w .d k) _ (omega arith) ∙ put-same k e (w .d) in
     (λ j. withWindow w k (sym from j) (sym to j)) ∙ with-r w k (w .r k) ∙ (λ j. withWindows w (put-back k (w .r) j) (w .d))
 
 -- what holds of every answer

@@ -14,20 +14,20 @@ use Rattle.list.specs.declared.types.DayList.{DayList}
 use Rattle.list.proofs.Sound.{Sound, Every, sound-list, well-formed}
 use Rattle.jackson.specs.Windows.{Windows, windowsOf}
 use Rattle.jackson.proofs.Sums.{le-or-lt}
-use Rattle.narrow.specs.Calls.{isWhole, wholeIn, withTimes, entriesWith, listWith}
+use Rattle.narrow.specs.Calls.{isWhole, wholeIn, entryWith, entriesWith, listWith}
 use Rattle.narrow.proofs.Keeping.{Keeps, keeps-h, keeps-n, keeps-p}
 use Rattle.narrow.proofs.Alike.{with-length, listed-entries, listed-entry, listed-count}
 
 module _ (w : Windows) where
   -- one entry more
   with-one : (i : ℕ) (es : List Entry) (e : Entry) (j : ℕ) → j ≡ i + length es
-      → entriesWith w i (es ++ (e ∷ [])) ≡ entriesWith w i es ++ (withTimes e (w .r j) (w .d j) ∷ [])
+      → entriesWith w i (es ++ (e ∷ [])) ≡ entriesWith w i es ++ (entryWith e (w .r j) (w .d j) ∷ [])
   unfolding entriesWith
   with-one i [] e j z = let q : j ≡ i = omega arith in rw q
-  with-one i (x ∷ es) e j z = ap (λ (l : List Entry). withTimes x (w .r i) (w .d i) ∷ l) (with-one (i + 1) es e j (omega arith))
+  with-one i (x ∷ es) e j z = ap (λ (l : List Entry). entryWith x (w .r i) (w .d i) ∷ l) (with-one (i + 1) es e j (omega arith))
 
   -- what holds of each of them
-  with-every : (P : Entry → Type 0) (i : ℕ) (es : List Entry) → ((j k : ℕ) → k ≡ i + j → j < length es → P (withTimes (getD es j blank) (w .r k) (w .d k)))
+  with-every : (P : Entry → Type 0) (i : ℕ) (es : List Entry) → ((j k : ℕ) → k ≡ i + j → j < length es → P (entryWith (getD es j blank) (w .r k) (w .d k)))
       → Every P (entriesWith w i es)
   unfolding entriesWith
   with-every P i [] each = tt
@@ -48,7 +48,7 @@ module _ (l : DayList) (w : Windows) where
   filled-none entries room e = rw e (record { room = room; passed = omega arith; long = refl; done = refl; unused = refl })
 
   module _ (long : length (l .entries) ≡ 64) (entries : List Entry) (i : ℕ) (so : Filled l w entries i) where
-    pub filled-next : (e : Entry) → i < l .n → e ≡ withTimes (getD (l .entries) i blank) (w .r i) (w .d i) → Filled l w (set entries i e) (i + 1)
+    pub filled-next : (e : Entry) → i < l .n → e ≡ entryWith (getD (l .entries) i blank) (w .r i) (w .d i) → Filled l w (set entries i e) (i + 1)
     filled-next e h is =
         record {
           room = so .room;
@@ -145,7 +145,7 @@ module _ (l : DayList) (w : Windows) (keeps : Keeps (windowsOf l) w) where
         entries = rw (listed-entries l w) (with-every w (Sound (l .frame)) 0 (entriesOf l) sound);
       })
     where
-      sound : (j k : ℕ) → k ≡ 0 + j → j < length (entriesOf l) → Sound (l .frame) (withTimes (getD (entriesOf l) j blank) (w .r k) (w .d k))
+      sound : (j k : ℕ) → k ≡ 0 + j → j < length (entriesOf l) → Sound (l .frame) (entryWith (getD (entriesOf l) j blank) (w .r k) (w .d k))
       sound j k z h =
           let q : k ≡ j = omega arith in
           let place : j < w .n = omega (arith, keeps-n keeps) in

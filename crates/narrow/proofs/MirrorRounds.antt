@@ -1,4 +1,4 @@
--- Visits and rounds of the mirrored windows leave the mirrored windows with the same moves, or refuse the same entry.
+-- Visits and rounds of the mirrorOutcome windows leave the mirrorOutcome windows with the same moves, or refuse the same entry.
 -- Assumes nothing.
 use mathlib.Core.Path.{_≡_, refl, sym, ap, _∙_}
 use mathlib.Core.Bool.{Bool, true, false, cond}
@@ -24,23 +24,23 @@ use Rattle.narrow.proofs.VisitOrder.{counted, visit-order}
 
 -- One search in the mirror.
 
--- the windows mirrored, and the moves as they are
+-- the windows mirrorOutcome, and the moves as they are
 abbrev pub mirrorState : Narrowed → Narrowed
 mirrorState s = record { windows = mirror (s .windows); moves = s .moves }
 
--- what is answered is mirrored so; a refusal stays
-abbrev pub mirrored : Outcome Narrowed → Outcome Narrowed
-mirrored o = andThen o (λ v. answered (mirrorState v))
+-- what is answered is mirrorOutcome so; a refusal stays
+abbrev pub mirrorOutcome : Outcome Narrowed → Outcome Narrowed
+mirrorOutcome o = andThen o (λ v. answered (mirrorState v))
 
 module _ (whole : ℕ → Bool) (s : Narrowed) where
-  -- twice mirrored it is as it was
-  mirrored-back : (o : Outcome Narrowed) → CostsOr whole s o → mirrored (mirrored o) ≡ o
+  -- twice mirrorOutcome it is as it was
+  mirrored-back : (o : Outcome Narrowed) → CostsOr whole s o → mirrorOutcome (mirrorOutcome o) ≡ o
   mirrored-back (answered v) cost = λ j. answered (record { windows = mirror-back (v .windows) (cost .keeps .formed) j; moves = v .moves })
   mirrored-back (refused x) _ = refl
 
   -- one outcome, then the next
   mirrored-then : (o : Outcome Narrowed) (f g : Narrowed → Outcome Narrowed) → CostsOr whole s o
-      → ((v : Narrowed) → Costs whole s v → f (mirrorState v) ≡ mirrored (g v)) → andThen (mirrored o) f ≡ mirrored (andThen o g)
+      → ((v : Narrowed) → Costs whole s v → f (mirrorState v) ≡ mirrorOutcome (g v)) → andThen (mirrorOutcome o) f ≡ mirrorOutcome (andThen o g)
   mirrored-then (answered v) f g cost each = each v cost
   mirrored-then (refused x) f g _ each = refl
 
@@ -70,7 +70,7 @@ moves-mirror k {w} {v} formed place keeps =
 module _ {test : Test} (planner : Planner test) (k : ℕ) where
   -- a changed r is a changed d in the mirror
   pub side-mirror : (s : Narrowed) → Formed (s .windows) → k < s .windows .n
-      → narrowSide test latest k (mirrorState s) ≡ mirrored (narrowSide test earliest k s)
+      → narrowSide test latest k (mirrorState s) ≡ mirrorOutcome (narrowSide test earliest k s)
   unfolding narrowSide
   side-mirror s formed place = rw found (go (step test earliest k w) (step-says w formed k place test earliest))
     where
@@ -82,29 +82,29 @@ module _ {test : Test} (planner : Planner test) (k : ℕ) where
 
       go : (o : Outcome Windows) → Says (Keeps w) (RefusedAt k) o
           → andThen (andThen o (λ v. answered (mirror v))) (λ v. answered (counted k (mirrorState s) v))
-          ≡ mirrored (andThen o (λ v. answered (counted k s v)))
+          ≡ mirrorOutcome (andThen o (λ v. answered (counted k s v)))
       go (answered v) keeps = λ j. answered (record { windows = mirror v; moves = s .moves + moves-mirror k formed place keeps j })
       go (refused x) _ = refl
 
   -- so a changed d is a changed r
   pub other-side-mirror : (s : Narrowed) → Formed (s .windows) → k < s .windows .n
-      → narrowSide test earliest k (mirrorState s) ≡ mirrored (narrowSide test latest k s)
+      → narrowSide test earliest k (mirrorState s) ≡ mirrorOutcome (narrowSide test latest k s)
   other-side-mirror s formed place =
       let there = formed-mirror (s .windows) formed in
       sym (mirrored-back _ (mirrorState s) _ (side-says test (λ _. true) k earliest (mirrorState s) there place refl))
-      ∙ ap mirrored (sym (side-mirror (mirrorState s) there place))
-      ∙ (λ j. mirrored (narrowSide test latest k (record { windows = mirror-back (s .windows) formed j; moves = s .moves })))
+      ∙ ap mirrorOutcome (sym (side-mirror (mirrorState s) there place))
+      ∙ (λ j. mirrorOutcome (narrowSide test latest k (record { windows = mirror-back (s .windows) formed j; moves = s .moves })))
 
 -- Visits and rounds in the mirror.
 
 module _ {test : Test} (planner : Planner test) (whole : ℕ → Bool) where
   pub visit-mirror : (k : ℕ) (s : Narrowed) → Formed (s .windows) → k < s .windows .n
-      → visit test whole k (mirrorState s) ≡ mirrored (visit test whole k s)
+      → visit test whole k (mirrorState s) ≡ mirrorOutcome (visit test whole k s)
   unfolding visit
   visit-mirror k s formed place = go (whole k)
     where
       go : (t : Bool) → cond t (andThen (narrowSide test earliest k (mirrorState s)) (narrowSide test latest k)) (answered (mirrorState s))
-          ≡ mirrored (cond t (andThen (narrowSide test earliest k s) (narrowSide test latest k)) (answered s))
+          ≡ mirrorOutcome (cond t (andThen (narrowSide test earliest k s) (narrowSide test latest k)) (answered s))
       go true =
           rw (other-side-mirror planner k s formed place, visit-order planner k s formed place)
           (mirrored-then _ s (narrowSide test latest k s) (narrowSide test latest k) (narrowSide test earliest k)
@@ -113,7 +113,7 @@ module _ {test : Test} (planner : Planner test) (whole : ℕ → Bool) where
       go false = refl
 
   visits-mirror : (k : ℕ) (s : Narrowed) → Formed (s .windows) → k ≤ s .windows .n
-      → visits test whole k (mirrorState s) ≡ mirrored (visits test whole k s)
+      → visits test whole k (mirrorState s) ≡ mirrorOutcome (visits test whole k s)
   unfolding visits
   visits-mirror zero s formed below = refl
   visits-mirror (suc k) s formed below =
@@ -121,11 +121,11 @@ module _ {test : Test} (planner : Planner test) (whole : ℕ → Bool) where
       (mirrored-then whole s (visits test whole k s) (visit test whole k) (visit test whole k) (visits-says test whole s formed k (omega arith))
       (λ v c. visit-mirror k v (c .keeps .formed) (omega (arith, keeps-n (c .keeps)))))
 
-  pub round-mirror : (s : Narrowed) → Formed (s .windows) → round test whole (mirrorState s) ≡ mirrored (round test whole s)
+  pub round-mirror : (s : Narrowed) → Formed (s .windows) → round test whole (mirrorState s) ≡ mirrorOutcome (round test whole s)
   round-mirror s formed = visits-mirror (s .windows .n) s formed (omega arith)
 
   pub rounds-mirror : (fuel : ℕ) (s : Narrowed) → Formed (s .windows)
-      → rounds test whole fuel (mirrorState s) ≡ mirrored (rounds test whole fuel s)
+      → rounds test whole fuel (mirrorState s) ≡ mirrorOutcome (rounds test whole fuel s)
   unfolding rounds
   rounds-mirror zero s formed = refl
   rounds-mirror (suc fuel) s formed =
@@ -133,8 +133,8 @@ module _ {test : Test} (planner : Planner test) (whole : ℕ → Bool) where
       (mirrored-then whole s (round test whole s) _ _ (round-says test whole s formed)
       (λ v c. go v (eqb (v .moves) (s .moves)) (rounds-mirror fuel v (c .keeps .formed))))
     where
-      go : (v : Narrowed) (t : Bool) → rounds test whole fuel (mirrorState v) ≡ mirrored (rounds test whole fuel v)
-          → cond t (answered (mirrorState v)) (rounds test whole fuel (mirrorState v)) ≡ mirrored (cond t (answered v) (rounds test whole fuel v))
+      go : (v : Narrowed) (t : Bool) → rounds test whole fuel (mirrorState v) ≡ mirrorOutcome (rounds test whole fuel v)
+          → cond t (answered (mirrorState v)) (rounds test whole fuel (mirrorState v)) ≡ mirrorOutcome (cond t (answered v) (rounds test whole fuel v))
       go v true e = refl
       go v false e = e
 
@@ -146,9 +146,9 @@ slack-mirror whole w formed =
     rw (lt-ltb i (w .n) place)
     (ap (λ (x : ℕ). cond (whole i) x 0) (omega (arith, formed .in-day i place, formed .room i place))))
 
--- where a plan exists, narrowing the mirrored windows answers the mirrored windows with the same moves, or refuses the same entry
+-- where a plan exists, narrowing the mirrorOutcome windows answers the mirrorOutcome windows with the same moves, or refuses the same entry
 pub narrowing-mirror : {test : Test} → Planner test → (whole : ℕ → Bool) (w : Windows) → Formed w → Plannable w
-    → narrowing test whole (mirror w) ≡ mirrored (narrowing test whole w)
+    → narrowing test whole (mirror w) ≡ mirrorOutcome (narrowing test whole w)
 unfolding narrowing
 narrowing-mirror planner whole w formed plan =
     let there = formed-mirror w formed in

@@ -58,7 +58,7 @@ module _ {test : Test} (planner : Planner test) (whole : ℕ → Bool) where
         none = round-none (unmoved w) formed;
         ten = round-refused test whole (unmoved w) formed;
         moves-cut = λ v e. omega (arith, round-cost test whole (unmoved w) formed v e .cut);
-        moves-slack = λ v e. omega (arith, round-cost test whole (unmoved w) formed v e .paid);
+        moves-slack = λ v e. omega (arith, round-cost test whole (unmoved w) formed v e .bounded);
       }
 
 -- Narrowing.
@@ -103,7 +103,7 @@ module _ {test : Test} (planner : Planner test) (whole : ℕ → Bool) (w : Wind
     where
       go : Plannable w → (o : Outcome Narrowed) → CostsOr whole (unmoved w) o → Says (λ _. Unit {0}) (Reason whole w) o
       go planned (answered v) costs = tt
-      go planned (refused k) (i, place, is, ten) = inr (i, place, is, ten, planned)
+      go planned (refused k) (i, place, is, ten) = inr ((i, place, is, ten), planned)
 
   narrowing-cut : Says (λ v. v .moves ≤ minutesCut w (v .windows)) Anything (narrowing test whole w)
   narrowing-cut =
@@ -150,7 +150,7 @@ module _ {test : Test} (planner : Planner test) (whole : ℕ → Bool) (w : Wind
         go : (k : Code) → narrowing test whole w ≡ refused k → Reason whole w k
             → (i : ℕ) × (narrowing test whole w ≡ refused (code 10 (i ∷ [])))
         go k e (inl (_, none)) = absurd (none planned)
-        go k e (inr (i, _, _, ten, _)) = (i, e ∙ ap refused ten)
+        go k e (inr ((i, _, _, ten), _)) = (i, e ∙ ap refused ten)
 
     module _ (ss : List Step) (done : Completes test whole w ss) where
       narrows : Narrows whole w (stepsLeave test ss w)

@@ -38,7 +38,7 @@ module _ {test : Test} {whole : ℕ → Bool} {w : Windows} where
     where
       why : (k : Code) → o ≡ refused k → Reason whole w k → G
       why k e (inl (shows, none)) = g k e shows none
-      why k e (inr (_, _, _, _, planned)) = f planned
+      why k e (inr (_, planned)) = f planned
 
       go : (u : Outcome Narrowed) → o ≡ u → G
       go (answered v) e = f (answered-planned whole w v (law .widest v e))

@@ -36,7 +36,7 @@ module _ (test : Test) (whole : ℕ → Bool) where
           let c = round-cost test whole s formed v e in
           by-test (RoundsGive test whole s) (eqb (v .moves) (s .moves)) _ _
           (λ q. last e (eqb-true (v .moves) (s .moves) q))
-          (λ q. let ne = eqb-false (v .moves) (s .moves) q in next e ne (rest v c (omega (arith, c .more, c .paid))))
+          (λ q. let ne = eqb-false (v .moves) (s .moves) q in next e ne (rest v c (omega (arith, c .more, c .bounded))))
 
 -- and end in one way
 pub rounds-unique : {test : Test} {whole : ℕ → Bool} {s : Narrowed} {a b : Outcome Narrowed} → RoundsGive test whole s a → RoundsGive test whole s b → a ≡ b

@@ -23,7 +23,7 @@ use Rattle.narrow.proofs.Puts.{put-same, put-under, fixed-consecutive, 
 use Rattle.narrow.proofs.MirrorSearches.{plannable-mirror, formed-mirror, mirror-back, planner-in-mirror, step-mirror}
 use Rattle.narrow.proofs.Keeping.{Keeps, keeps-same, keeps-n, keeps-trans, keeps-mirror, keeps-r}
 use Rattle.narrow.proofs.MirrorSettled.{SidePlan, earliest-mirror, set-formed, set-mirror}
-use Rattle.narrow.proofs.Exact.{Searched, start-searched}
+use Rattle.narrow.proofs.Exact.{SearchSays, start-searched}
 
 -- windows have a plan if some inside them have one
 pub plannable-widen : (w : Windows) (r d : ℕ → ℕ) → Inside (withWindows w r d) w → Plannable (withWindows w r d) → Plannable w
@@ -102,7 +102,7 @@ module _ {test : Test} (planner : Planner test) (whole : ℕ → Bool) (w : Wind
             settled = set .settled;
           }
 
-      go : (o : Outcome ℕ) → Searched (IsLeastStart w k) (NoStart w k) k o
+      go : (o : Outcome ℕ) → SearchSays (IsLeastStart w k) (NoStart w k) k o
           → StepNarrowsOr whole earliest k w (andThen o (λ s. answered (withR w k s)))
       go (answered s) start =
           let keeps = keeps-r w formed k place s (start .from-r, start .room) in

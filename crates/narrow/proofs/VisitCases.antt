@@ -29,7 +29,7 @@ use Rattle.narrow.proofs.Keeping.{keeps-n}
 use Rattle.narrow.proofs.Costs.{Costs, side-cost, visits-cost, round-cost}
 use Rattle.narrow.proofs.RoundCases.{moved-one}
 
--- a search makes at most two moves
+-- a search adds at most two to the moves: one for each side, of which it changes one
 side-moves : (test : Test) (side : Side) (k : ℕ) (s : Narrowed) → Says (λ (v : Narrowed). v .moves ≤ s .moves + 2) (λ _. Unit {0}) (narrowSide test side k s)
 unfolding narrowSide
 side-moves test side k s = go (step test side k (s .windows))
@@ -105,7 +105,7 @@ module _ (l : DayList) (s : WindowSet) (moves : ℕ) (ready : Countable l s move
       next-ready = record { formed = cost .keeps .formed; place = omega (arith, keeps-n (cost .keeps), ready .count, h) }
 
       pub next-few : now .moves < 4294967290
-      next-few = omega (arith, cost .paid, ready .few)
+      next-few = omega (arith, cost .bounded, ready .few)
 
       module _ (long : length (l .entries) ≡ 64) (whole : Bool) (kind : whole ≡ isWhole (getD (l .entries) k blank .kind)) (a : VisitAnswer)
           (is : narrowedOf a ≡ visit overloadOf (λ _. whole) k (stateOf (now .windows) (now .moves))) where
@@ -123,7 +123,7 @@ module _ (l : DayList) (s : WindowSet) (moves : ℕ) (ready : Countable l s move
             let z : visits overloadOf (wholeIn l) (k + 1) (stateOf s moves) ≡ refused (codeOf x) = after ∙ rw e in
             rw e (sym (visits-stay overloadOf (wholeIn l) (stateOf s moves) (codeOf x) (k + 1) _ (omega (arith, ready .count, h)) z))
 
--- the rounds from now on are those of the whole; so much fuel is left
+-- the rounds from now on give what all rounds give; so many more may be made
 pub record Rounded (l : DayList) (given now : WindowSet) (moves : ℕ) : Type 0 where
   pub ready : Countable l now moves
   pub fuel : ℕ
@@ -141,10 +141,10 @@ module _ (l : DayList) (given : WindowSet) where
 
   module _ (now : WindowSet) (moves : ℕ) (so : Rounded l given now moves) (a : VisitAnswer)
       (is : narrowedOf a ≡ round overloadOf (wholeIn l) (stateOf now moves)) where
-    abbrev The : Outcome Narrowed
-    The = rounds overloadOf (wholeIn l) (suc (slack (wholeIn l) (windowsIn given))) (unmoved (windowsIn given))
+    abbrev all-rounds : Outcome Narrowed
+    all-rounds = rounds overloadOf (wholeIn l) (suc (slack (wholeIn l) (windowsIn given))) (unmoved (windowsIn given))
 
-    one-more : The ≡ andThen (narrowedOf a) (goes-on l moves (so .fuel - 1))
+    one-more : all-rounds ≡ andThen (narrowedOf a) (goes-on l moves (so .fuel - 1))
     unfolding rounds goes-on
     one-more =
         let z : so .fuel ≡ suc (so .fuel - 1) = omega (arith, so .enough) in
@@ -152,11 +152,11 @@ module _ (l : DayList) (given : WindowSet) where
         ∙ ap (λ (f : ℕ). rounds overloadOf (wholeIn l) f (stateOf now moves)) z
         ∙ ap (λ (o : Outcome Narrowed). andThen o (goes-on l moves (so .fuel - 1))) (sym is)
 
-    pub rounded-stopped : (x : Refusal) → a .verdict ≡ Refused x → narrowedOf a ≡ The
+    pub rounded-stopped : (x : Refusal) → a .verdict ≡ Refused x → narrowedOf a ≡ all-rounds
     rounded-stopped x e = rw e (sym (one-more ∙ rw e))
 
     module _ (e : a .verdict ≡ Accepted) where
-      pub rounded-last : a .moves ≡ moves → narrowedOf a ≡ The
+      pub rounded-last : a .moves ≡ moves → narrowedOf a ≡ all-rounds
       unfolding goes-on
       rounded-last q = rw e (sym (one-more ∙ rw (e, eq-eqb _ _ q)))
 
@@ -165,7 +165,7 @@ module _ (l : DayList) (given : WindowSet) where
 
       module _ (moved : a .moves ≡ moves → ⊥) where
         pub rounded-less : slack (wholeIn l) (windowsIn (a .windows)) < slack (wholeIn l) (windowsIn now)
-        rounded-less = omega (arith, cost-of .paid, cost-of .more, moved)
+        rounded-less = omega (arith, cost-of .bounded, cost-of .more, moved)
 
         pub rounded-next : Rounded l given (a .windows) (a .moves)
         unfolding goes-on
@@ -175,7 +175,7 @@ module _ (l : DayList) (given : WindowSet) where
                   record {
                     formed = cost-of .keeps .formed;
                     count = keeps-n (cost-of .keeps) ∙ so .ready .count;
-                    few = omega (arith, cost-of .paid, so .ready .few);
+                    few = omega (arith, cost-of .bounded, so .ready .few);
                   };
               fuel = so .fuel - 1;
               enough = omega (arith, rounded-less, so .enough);

@@ -14,7 +14,7 @@ use Rattle.narrow.proofs.Planners.{Planner}
 use Rattle.narrow.proofs.Puts.{put-same, fixed-up-to, window-after-r, window-after-d}
 use Rattle.narrow.proofs.Keeping.{Keeps, RefusedAt, keeps-r, step-says}
 use Rattle.narrow.proofs.Costs.{moved-same}
-use Rattle.narrow.proofs.Exact.{Searched, start-searched, end-searched, search-law}
+use Rattle.narrow.proofs.Exact.{SearchSays, start-searched, end-searched, search-law}
 
 module _ (w : Windows) (k s : ℕ) (start : IsLeastStart w k s) where
   -- where there is a start there is an end
@@ -70,7 +70,7 @@ module _ {test : Test} (planner : Planner test) (k : ℕ) (s : Narrowed) (formed
       w : Windows
       w = s .windows
 
-      go : (a b : Outcome ℕ) → Searched (IsLeastStart w k) (NoStart w k) k a → Searched (IsGreatestEnd w k) (NoEnd w k) k b
+      go : (a b : Outcome ℕ) → SearchSays (IsLeastStart w k) (NoStart w k) k a → SearchSays (IsGreatestEnd w k) (NoEnd w k) k b
           → Says (Keeps w) (RefusedAt k) (andThen b (λ e. answered (withD w k e)))
           → andThen (andThen (andThen a (λ x. answered (withR w k x))) (λ v. answered (counted k s v))) (narrowSide test latest k)
           ≡ andThen (andThen (andThen b (λ e. answered (withD w k e))) (λ v. answered (counted k s v))) (narrowSide test earliest k)

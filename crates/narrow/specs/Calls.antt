@@ -33,21 +33,20 @@ wholeIn l i = isWhole (getD (entriesOf l) i blank .kind)
 abbrev pub bare : Entry → Entry
 bare e = record { serial = 0; seal = Missing; r = e .r; d = e .d; p = e .p; kind = e .kind }
 
--- two lists with the same H and n, and of each entry the same r, d, p and kind: serials and seals count for nothing, each only "travels
--- inside its entry"
+-- two lists with the same H and n, and of each entry the same r, d, p and kind: serials and seals count for nothing
 pub record SameTimes (a b : DayList) : Type 0 where
   pub frame : a .frame ≡ b .frame
   pub n : a .n ≡ b .n
   pub entries : map bare (entriesOf a) ≡ map bare (entriesOf b)
 
 -- an entry with another window
-abbrev pub withTimes : Entry → ℕ → ℕ → Entry
-withTimes e r d = record { serial = e .serial; seal = e .seal; r = r; d = d; p = e .p; kind = e .kind }
+abbrev pub entryWith : Entry → ℕ → ℕ → Entry
+entryWith e r d = record { serial = e .serial; seal = e .seal; r = r; d = d; p = e .p; kind = e .kind }
 
 -- entries with the windows of w, the first at place i
 unfoldable pub entriesWith : Windows → ℕ → List Entry → List Entry
 entriesWith w i [] = []
-entriesWith w i (e ∷ es) = withTimes e (w .r i) (w .d i) ∷ entriesWith w (i + 1) es
+entriesWith w i (e ∷ es) = entryWith e (w .r i) (w .d i) ∷ entriesWith w (i + 1) es
 
 -- the list with the windows of w
 unfoldable pub listWith : DayList → Windows → DayList
@@ -73,7 +72,7 @@ narrowAnswerOf a = outcomeOf (a .verdict) (a .list, a .moves)
 abbrev pub narrowedIn : NarrowAnswer → Outcome Narrowed
 narrowedIn a = outcomeOf (a .verdict) (record { windows = windowsOf (a .list); moves = a .moves })
 
--- what stands in it: the list and the moves, or the empty list and 0 beside a refusal
+-- what stands beside the verdict: the list and the moves, or the empty list and 0 beside a refusal
 abbrev pub standing : Outcome (DayList × ℕ) → DayList × ℕ
 standing (answered a) = a
 standing (refused k) = (emptyList, 0)

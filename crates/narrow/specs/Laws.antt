@@ -14,20 +14,21 @@ use Rattle.narrow.specs.Settling.{SettledInside, NoneSettled, Widest, Un
 use Rattle.narrow.specs.Rounds.{Narrowed, unmoved, RoundsGive, slack}
 use Rattle.narrow.specs.StepLists.{Step, NamesWhole, stepsLeave, someRefused, Completes}
 
--- what the laws ask of windows, and those of a list that passes the value check have (it has at most 64 entries): at most 255 entries, as a
--- byte names no more, each of which needs a minute and has room in the day
+-- What the laws ask of windows: at most 255 entries, since a byte names no more, each of which needs a minute and has room in the day.
+-- The windows of a list that passes the value check have this.
 pub record Formed (w : Windows) : Type 0 where
   pub few : w .n ≤ 255
   pub minutes : (i : ℕ) → i < w .n → 1 ≤ w .p i
   pub in-day : (i : ℕ) → i < w .n → w .d i ≤ w .h
   pub room : (i : ℕ) → i < w .n → w .r i + w .p i ≤ w .d i
 
--- why narrowing w is turned back: by row 9 with the interval shown, where no plan exists, or by row 10 with a whole entry's place, where
--- one does
+-- row 10 with the place of a whole entry
+abbrev pub WholeRefused : (ℕ → Bool) → ℕ → Code → Type 0
+WholeRefused whole n k = (i : ℕ) × (i < n) × (whole i ≡ true) × (k ≡ code 10 (i ∷ []))
+
+-- why narrowing w is turned back: by row 9 with the interval shown, where no plan exists, or by row 10, where one does
 abbrev pub Reason : (ℕ → Bool) → Windows → Code → Type 0
-Reason whole w k =
-    (ShowsOverload w k × (Plannable w → ⊥))
-    ⊎ ((i : ℕ) × (i < w .n) × (whole i ≡ true) × (k ≡ code 10 (i ∷ [])) × Plannable w)
+Reason whole w k = (ShowsOverload w k × (Plannable w → ⊥)) ⊎ (WholeRefused whole (w .n) k × Plannable w)
 
 -- the outcome o of one round of the windows w
 pub record RoundLaw (whole : ℕ → Bool) (w : Windows) (o : Outcome Narrowed) : Type 0 where
@@ -36,7 +37,7 @@ pub record RoundLaw (whole : ℕ → Bool) (w : Windows) (o : Outcome Narrowed) 
   pub stays : (v : Narrowed) → o ≡ answered v → (r d : ℕ → ℕ) → SettledInside whole w r d → SettledInside whole (v .windows) r d
   pub none : (k : Code) → o ≡ refused k → NoneSettled whole w
   -- row 10 carries a whole entry's place
-  pub ten : (k : Code) → o ≡ refused k → (i : ℕ) × (i < w .n) × (whole i ≡ true) × (k ≡ code 10 (i ∷ []))
+  pub ten : (k : Code) → o ≡ refused k → WholeRefused whole (w .n) k
   -- each move cuts a minute, and one of those that could be cut
   pub moves-cut : (v : Narrowed) → o ≡ answered v → v .moves ≤ minutesCut w (v .windows)
   pub moves-slack : (v : Narrowed) → o ≡ answered v → v .moves + slack whole (v .windows) ≤ slack whole w
@@ -44,7 +45,8 @@ pub record RoundLaw (whole : ℕ → Bool) (w : Windows) (o : Outcome Narrowed) 
 -- the outcome o of narrowing the given windows w
 pub record NarrowLaw (test : Test) (whole : ℕ → Bool) (w : Windows) (o : Outcome Narrowed) : Type 0 where
   -- a search, in any windows with room inside those given, answers the minute of which document 01 speaks
-  pub searches : (r d : ℕ → ℕ) → Inside (withWindows w r d) w → ((i : ℕ) → i < w .n → r i + w .p i ≤ d i) → (k : ℕ) → k < w .n → SearchLaw test (withWindows w r d) k
+  pub searches : (r d : ℕ → ℕ) → Inside (withWindows w r d) w → ((i : ℕ) → i < w .n → r i + w .p i ≤ d i)
+      → (k : ℕ) → k < w .n → SearchLaw test (withWindows w r d) k
   -- the answer is that of the rounds as document 01 has them
   pub by-rounds : Plannable w → RoundsGive test whole (unmoved w) o
   -- it is the widest settled set of windows inside those given
@@ -52,10 +54,11 @@ pub record NarrowLaw (test : Test) (whole : ℕ → Bool) (w : Windows) (o : Out
   -- or a refusal, exactly when there is none
   pub refused-exactly : ((k : Code) × (o ≡ refused k)) ↔ NoneSettled whole w
   pub reason : (k : Code) → o ≡ refused k → Reason whole w k
-  -- lists of steps: if one is refused then the rounds give 10
+  -- lists of steps: if a step of one is refused, the rounds give 10
   pub steps-refused : Plannable w → (ss : List Step) → NamesWhole whole (w .n) ss → someRefused test ss w ≡ true → (i : ℕ) × (o ≡ refused (code 10 (i ∷ [])))
-  -- if none is and nothing is left to do, the rounds answer these windows
-  pub steps-settled : Plannable w → (ss : List Step) → Completes test whole w ss → (moves : ℕ) × (o ≡ answered (record { windows = stepsLeave test ss w; moves = moves }))
+  -- if nothing is left to do after one, the rounds answer the windows that it left
+  pub steps-settled : Plannable w → (ss : List Step) → Completes test whole w ss
+      → (moves : ℕ) × (o ≡ answered (record { windows = stepsLeave test ss w; moves = moves }))
   -- so two such lists leave the same windows, and if some list meets a refusal there is no such list
   pub order-free : Plannable w → (ss xs : List Step) → Completes test whole w ss → Completes test whole w xs → stepsLeave test ss w ≡ stepsLeave test xs w
   pub refused-once : Plannable w → (ss xs : List Step) → NamesWhole whole (w .n) ss → someRefused test ss w ≡ true → Completes test whole w xs → ⊥

@@ -35,7 +35,8 @@ pub record Searchable (s : WindowSet) (k : ℕ) : Type 0 where
   pub formed : Formed (windowsIn s)
   pub place : k < windowsIn s .n
 
--- windows of a list's entries, and moves so few that counting on does not pass 32 bits: with the minutes that can still be cut, at most 64 days of 1,440
+-- windows of a list's entries, and moves so few that counting on does not pass 32 bits: with the
+-- minutes that can still be cut they are at most 64 times 1,440
 pub record Countable (l : DayList) (s : WindowSet) (moves : ℕ) : Type 0 where
   pub formed : Formed (windowsIn s)
   pub count : windowsIn s .n ≡ l .n

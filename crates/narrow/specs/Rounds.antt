@@ -41,7 +41,7 @@ narrowSide test side k s =
     andThen (step test side k (s .windows))
     (λ v. answered (record { windows = v; moves = s .moves + movesOf k (s .windows) v }))
 
--- "pause entries are passed over. For a whole entry, its r becomes ..; Then its d becomes .."
+-- "pause entries are passed over. For a whole entry, its r becomes ..; Then its d becomes ..": `whole k` says whether entry k is whole
 unfoldable pub visit : Test → (ℕ → Bool) → ℕ → Narrowed → Outcome Narrowed
 visit test whole k s = cond (whole k) (andThen (narrowSide test earliest k s) (narrowSide test latest k)) (answered s)
 
@@ -57,10 +57,11 @@ round test whole s = visits test whole (s .windows .n) s
 -- "Then rounds follow. .. A round without moves is the last, and what it leaves are the windows answered": the rounds from s on end so
 pub data RoundsGive (test : Test) (whole : ℕ → Bool) : Narrowed → Outcome Narrowed → Type 0 where
   last : {s v : Narrowed} → round test whole s ≡ answered v → v .moves ≡ s .moves → RoundsGive test whole s (answered v)
-  next : {s v : Narrowed} {o : Outcome Narrowed} → round test whole s ≡ answered v → (v .moves ≡ s .moves → ⊥) → RoundsGive test whole v o → RoundsGive test whole s o
+  next : {s v : Narrowed} {o : Outcome Narrowed} → round test whole s ≡ answered v → (v .moves ≡ s .moves → ⊥)
+      → RoundsGive test whole v o → RoundsGive test whole s o
   stopped : {s : Narrowed} {k : Code} → round test whole s ≡ refused k → RoundsGive test whole s (refused k)
 
--- the same as a function: at most so many rounds
+-- the same as a function, if the bound on the rounds is large enough (`rounds-are`): after so many it stops with the windows that it has
 unfoldable pub rounds : Test → (ℕ → Bool) → ℕ → Narrowed → Outcome Narrowed
 rounds test whole zero s = answered s
 rounds test whole (suc fuel) s =

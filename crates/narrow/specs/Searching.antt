@@ -60,7 +60,7 @@ leastStart test w k =
     let j = failedStarts test w k in
     firstOf (row 10 (eqb j (trials w k)) k ∷ []) (answered (w .r k + j))
 
--- "Then its d becomes the greatest e"
+-- "Then its d becomes the greatest e"; where there is none, row 10, which only a list of steps meets
 unfoldable pub greatestEnd : Test → Windows → ℕ → Outcome ℕ
 greatestEnd test w k =
     let j = failedEnds test w k in

@@ -13,12 +13,12 @@ ghost use mathlib.Core.Path.{_≡_};
 ghost use Prim.Native.Nat.{_≤_};
 ghost use Rattle.list.specs.DayLists.{emptyList};
 ghost use Rattle.jackson.specs.Windows.{windowsIn};
-ghost use Rattle.narrow.specs.Calls.{withTimes, listWith, AnswersAs, Settles, MakesRound};
+ghost use Rattle.narrow.specs.Calls.{entryWith, listWith, AnswersAs, Settles, MakesRound};
 ghost use Rattle.narrow.specs.Parts.{narrowedOf};
 
 // An entry with another window.
-fn with_times(e: Entry, r: u16, d: u16) -> Entry
-    ensures { λ x. ⌜ x ≡ withTimes e r d ⌝ }
+fn entry_with(e: Entry, r: u16, d: u16) -> Entry
+    ensures { λ x. ⌜ x ≡ entryWith e r d ⌝ }
 {
     let mut next = e;
     next.r = r;
@@ -36,7 +36,7 @@ fn list_with(list: DayList, windows: WindowSet) -> DayList
     let count = list.n as usize;
     let mut i: usize = 0;
     while i < count {
-        entries[i] = with_times(list.entries[i], windows.r[i], windows.d[i]);
+        entries[i] = entry_with(list.entries[i], windows.r[i], windows.d[i]);
         i += 1;
     }
     DayList {

@@ -1,7 +1,8 @@
 // Narrowing (document 01, "Narrowing"): the windows of whole entries are narrowed, round after round, until they are settled.
 // Promises: `settle` narrows a list, `round` makes one round of it. Each is total: its contract states the answer by equality with
-// definitions of specs/, for every value, and beside it the law of specs/Laws.antt. Uses the crate list, and of the crate jackson the
-// overload test's promise, the law that a plan exists exactly without overload, and facts about plans alone; no schedule.
+// definitions of specs/, for every value, and beside it the law of specs/Laws.antt. Uses the crate list, and of the crate jackson its
+// windows, the overload test's promise and the interval that it shows, the law that a plan exists exactly without overload, facts about
+// plans alone, and general mathematics; no schedule.
 mod calls;
 mod mirror;
 mod rounds;

@@ -45,7 +45,7 @@ fn refused_at(windows: WindowSet, moves: u32, k: usize) -> VisitAnswer
     ensures { λ a. ⌜ narrowedOf a ≡ refused (code 10 (k ∷ [])) ⌝ }
 {
     VisitAnswer {
-        verdict: Verdict::Refused(Refusal::NoStart(k)),
+        verdict: Verdict::Refused(Refusal::NoPlace(k)),
         windows: windows,
         moves: moves,
     }
@@ -87,7 +87,7 @@ fn narrow_end(windows: WindowSet, moves: u32, k: usize) -> VisitAnswer
     }
 }
 
-// Visits entry k: a pause entry is passed over; of a whole one the r is searched for, then the d.
+// Visits entry k: a pause entry is passed over; of a whole one the r is searched for, then the d. The bound leaves room for their moves.
 fn visit(whole: bool, windows: WindowSet, moves: u32, k: usize) -> VisitAnswer
     requires { ⌜ Searchable windows k ⌝ }
     requires { ⌜ moves < 4294967290 ⌝ }
@@ -133,7 +133,7 @@ pub(crate) fn one_round(list: DayList, windows: WindowSet, moves: u32) -> VisitA
     now
 }
 
-// RoundsGive until one makes no move, or a refusal.
+// Rounds until one makes no move, or a refusal.
 pub(crate) fn all_rounds(list: DayList, windows: WindowSet) -> VisitAnswer
     requires { ⌜ Countable list windows 0 ⌝ }
     ensures { λ a. ⌜ narrowedOf a ≡ rounds overloadOf (wholeIn list) (suc (slack (wholeIn list) (windowsIn windows))) (unmoved (windowsIn windows)) ⌝ }

@@ -1,7 +1,8 @@
 -- `dock_round` meets its contract.
 -- Assumes nothing.
 use borrow.Author.Needs.{needs}
-use Rattle.abi.proofs.CallCases.{round-said}
+use Rattle.narrow.specs.Calls.{roundOf}
+use Rattle.abi.proofs.CallCases.{narrow-said}
 use Rattle.abi.proofs.dock_round.Statement.{statement}
 use Rattle.abi.proofs.dock_round.Tie as tie
 
@@ -15,7 +16,7 @@ give-narrowed-requires : tie.Need-give-narrowed-requires
 give-narrowed-requires c κs = search needs
 
 returns : tie.Need-returns
-returns c = round-said (c .before .before .before .before .args .fields .now) (c .before .before .before .before .args .narrowed .now) _ (c .before .before .before .list-in .result) (c .before .before .before .list-in .ensures) (c .before .before .round .result) (c .give-narrowed .result) (c .give-narrowed .ensures) (c .before .before .round .ensures)
+returns c = narrow-said roundOf (c .before .before .before .before .args .fields .now) (c .before .before .before .before .args .narrowed .now) _ (c .before .before .before .list-in .result) (c .before .before .before .list-in .ensures) (c .before .before .round .result) (c .give-narrowed .result) (c .give-narrowed .ensures) (c .before .before .round .ensures .answers)
 
 pub dock-round-spec : {M : Type 1} → statement M
 dock-round-spec =

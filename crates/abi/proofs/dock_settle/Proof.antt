@@ -1,7 +1,8 @@
 -- `dock_settle` meets its contract.
 -- Assumes nothing.
 use borrow.Author.Needs.{needs}
-use Rattle.abi.proofs.CallCases.{settle-said}
+use Rattle.narrow.specs.Calls.{settleOf}
+use Rattle.abi.proofs.CallCases.{narrow-said}
 use Rattle.abi.proofs.dock_settle.Statement.{statement}
 use Rattle.abi.proofs.dock_settle.Tie as tie
 
@@ -15,7 +16,7 @@ give-narrowed-requires : tie.Need-give-narrowed-requires
 give-narrowed-requires c κs = search needs
 
 returns : tie.Need-returns
-returns c = settle-said (c .before .before .before .before .args .fields .now) (c .before .before .before .before .args .narrowed .now) _ (c .before .before .before .list-in .result) (c .before .before .before .list-in .ensures) (c .before .before .settle .result) (c .give-narrowed .result) (c .give-narrowed .ensures) (c .before .before .settle .ensures)
+returns c = narrow-said settleOf (c .before .before .before .before .args .fields .now) (c .before .before .before .before .args .narrowed .now) _ (c .before .before .before .list-in .result) (c .before .before .before .list-in .ensures) (c .before .before .settle .result) (c .give-narrowed .result) (c .give-narrowed .ensures) (c .before .before .settle .ensures .answers)
 
 pub dock-settle-spec : {M : Type 1} → statement M
 dock-settle-spec =

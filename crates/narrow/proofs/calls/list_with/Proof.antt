@@ -26,26 +26,26 @@ cast-count c = search needs
 loop-holds : tie.Need-loop-holds Inv-loop μ-loop
 loop-holds c = filled-none _ _ _ (c .before .before .pre) (ap (λ (l : DayList). l .entries) (c .before .empty-list .ensures))
 
-mul-with-times : tie.Need-mul-with-times Inv-loop μ-loop
-mul-with-times c = search needs
+mul-entry-with : tie.Need-mul-entry-with Inv-loop μ-loop
+mul-entry-with c = search needs
 
-element-copy-out-with-times : tie.Need-element-copy-out-with-times Inv-loop μ-loop
-element-copy-out-with-times c = search needs
+element-copy-out-entry-with : tie.Need-element-copy-out-entry-with Inv-loop μ-loop
+element-copy-out-entry-with c = search needs
 
-mul-with-times-2 : tie.Need-mul-with-times-2 Inv-loop μ-loop
-mul-with-times-2 c = search needs
+mul-entry-with-2 : tie.Need-mul-entry-with-2 Inv-loop μ-loop
+mul-entry-with-2 c = search needs
 
-element-copy-out-with-times-2 : tie.Need-element-copy-out-with-times-2 Inv-loop μ-loop
-element-copy-out-with-times-2 c = search needs
+element-copy-out-entry-with-2 : tie.Need-element-copy-out-entry-with-2 Inv-loop μ-loop
+element-copy-out-entry-with-2 c = search needs
 
-mul-with-times-3 : tie.Need-mul-with-times-3 Inv-loop μ-loop
-mul-with-times-3 c = search needs
+mul-entry-with-3 : tie.Need-mul-entry-with-3 Inv-loop μ-loop
+mul-entry-with-3 c = search needs
 
-element-copy-out-with-times-3 : tie.Need-element-copy-out-with-times-3 Inv-loop μ-loop
-element-copy-out-with-times-3 c = search needs
+element-copy-out-entry-with-3 : tie.Need-element-copy-out-entry-with-3 Inv-loop μ-loop
+element-copy-out-entry-with-3 c = search needs
 
-with-times-requires : tie.Need-with-times-requires Inv-loop μ-loop
-with-times-requires c κs = search needs
+entry-with-requires : tie.Need-entry-with-requires Inv-loop μ-loop
+entry-with-requires c κs = search needs
 
 mul-entries : tie.Need-mul-entries Inv-loop μ-loop
 mul-entries c = search needs
@@ -60,7 +60,7 @@ loop-less : tie.Need-loop-less Inv-loop μ-loop
 loop-less c = search needs
 
 loop-again : tie.Need-loop-again Inv-loop μ-loop
-loop-again c = let long : length (c .before .before .before .before .before .before .before .before .args .t1 .entries) ≡ 64 = search (needs, length-mapped) in filled-next (c .before .before .before .before .before .before .before .before .args .t1) (windowsIn (c .before .before .before .before .before .before .before .before .args .t2)) long (c .before .before .before .before .before .loop .entries) (c .before .before .before .before .before .loop .i) (c .before .before .before .before .before .loop .inv) _ (c .before .before .before .before .loop-test .taken) (c .with-times .ensures)
+loop-again c = let long : length (c .before .before .before .before .before .before .before .before .args .t1 .entries) ≡ 64 = search (needs, length-mapped) in filled-next (c .before .before .before .before .before .before .before .before .args .t1) (windowsIn (c .before .before .before .before .before .before .before .before .args .t2)) long (c .before .before .before .before .before .loop .entries) (c .before .before .before .before .before .loop .i) (c .before .before .before .before .before .loop .inv) _ (c .before .before .before .before .loop-test .taken) (c .entry-with .ensures)
 
 returns : tie.Need-returns Inv-loop μ-loop
 returns c = let long : length (c .before .before .before .before .before .args .t1 .entries) ≡ 64 = search (needs, length-mapped) in filled-all (c .before .before .before .before .before .args .t1) (windowsIn (c .before .before .before .before .before .args .t2)) long (c .before .before .loop .entries) (c .before .before .loop .i) (c .before .before .loop .inv) (c .before .loop-test .left)
@@ -74,13 +74,13 @@ list-with-spec =
     empty-list-requires
     cast-count
     loop-holds
-    mul-with-times
-    element-copy-out-with-times
-    mul-with-times-2
-    element-copy-out-with-times-2
-    mul-with-times-3
-    element-copy-out-with-times-3
-    with-times-requires
+    mul-entry-with
+    element-copy-out-entry-with
+    mul-entry-with-2
+    element-copy-out-entry-with-2
+    mul-entry-with-3
+    element-copy-out-entry-with-3
+    entry-with-requires
     mul-entries
     array-set-from-entries
     add-i
