@@ -1,5 +1,5 @@
 //! The second narrowing: searches, steps, visits and rounds from document 01's section "Narrowing". Whether a
-//! plan exists is asked of Jackson's schedule and not of the intervals.
+//! start has a plan is asked of Jackson's schedule and not of the intervals.
 
 use crate::day::{Day, Refusal};
 use crate::flat::Value;

@@ -118,8 +118,8 @@ pub fn planned_day(random: &mut Random, h: u16, n: usize, idle: usize, grids: &[
 
 /// A list of `n` entries, at least 1 and at most as many as there are minutes, that has a plan in which none
 /// of them is broken, so that narrowing does not refuse it. One is made up, with idle minutes or without, and
-/// each window reaches up to `slack` minutes further at either side.
-pub fn unbroken_day(random: &mut Random, h: u16, n: usize, idle: bool, slack: u16) -> Day {
+/// each window reaches up to `wider` minutes further at either side.
+pub fn unbroken_day(random: &mut Random, h: u16, n: usize, idle: bool, wider: u16) -> Day {
     let mut ends: Vec<u16> = (1..h).collect();
     shuffle(random, &mut ends);
     ends.truncate(n - 1);
@@ -130,8 +130,8 @@ pub fn unbroken_day(random: &mut Random, h: u16, n: usize, idle: bool, slack: u1
     for end in ends {
         let p = if idle { random.within(1, end - free) } else { end - free };
         let start = random.within(free, end - p);
-        let r = start.saturating_sub(random.within(0, slack));
-        let d = (start + p + random.within(0, slack)).min(h);
+        let r = start.saturating_sub(random.within(0, wider));
+        let d = (start + p + random.within(0, wider)).min(h);
         entries.push(Entry { r, d, p, ..entry(random, 1) });
         free = end;
     }

@@ -6,8 +6,7 @@ use dock_tests::narrow::{self, Narrowed};
 use dock_tests::settled::{self, Plans, Windows};
 use dock_tests::{abi, brute, check, check_narrow, flat, jackson, small};
 
-/// How many of the days are settled, refused with 9 and refused with 10, counted once by another program,
-/// outside these tests.
+/// How many of the days are settled, refused with 9 and refused with 10.
 const SETTLED: usize = 16_766;
 const OVERLOADED: usize = 57_448;
 const NO_PLACE: usize = 448;

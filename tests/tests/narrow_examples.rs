@@ -12,8 +12,6 @@ use dock_tests::{abi, flat};
 fn overloaded(day: &Day, a: u16, b: u16, work: u64) {
     let shown = Refusal::Overloaded(Interval { a, b, work });
     assert_eq!(settle(&flat::of_day(day)), Err(shown), "settling {day:?}");
-    let (answer, _) = abi::settle(&flat::of_day(day));
-    assert_eq!((answer.number, answer.values), (9, [u64::from(a), u64::from(b), work]));
 }
 
 /// "(a) both whole, H 4, [0,3) p 2 and [0,4) p 2: settled [0,2) and [2,4)", with 2 moves in all.

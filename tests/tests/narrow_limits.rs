@@ -77,7 +77,7 @@ fn one_minute_is_left_of_the_longest_day() {
     assert_eq!(settled(&day), (boxes(1440, "p[0,700)700 w[700,702)2 p[701,1440)738"), 2));
 }
 
-/// Starts above 255 and 256 and ends above 1,024 are minutes like any others.
+/// Starts and ends around 256, 512 and 1,024 are minutes like any others.
 #[test]
 fn minutes_are_not_reckoned_in_bytes() {
     for start in [254, 255, 256, 257, 511, 512, 1023, 1024, 1437] {
@@ -160,7 +160,7 @@ fn sixty_five_rounds() {
 /// The same around minutes that the innermost entry cannot have: with 64 entries 61 rounds come before the
 /// refusal.
 #[test]
-fn ten_in_round_sixty_two() {
+fn ten_after_many_rounds() {
     for n in [4, 5, 6, 20, MOST_ENTRIES] {
         let fields = flat::of_day(&chains::refused_in_the_end(n));
         not_settled(&fields, 10, 2);

@@ -33,8 +33,8 @@ fn whole_alone(mut day: Day, place: usize) -> Day {
     day
 }
 
-/// There is but one plan with whole entries in one piece: 2 2 1 0 0. Place 0 is moved in both rounds, as
-/// round one visits it before place 2 gives its minutes free.
+/// There is but one plan with whole entries in one piece: 2 2 1 0 0. Place 0 is moved in rounds one and two,
+/// as round one visits it before place 2 is narrowed to [0, 2).
 #[test]
 fn four_moves_in_the_order_of_the_list() {
     let day = boxes(5, "w[1,5)2 w[1,3)1 w[0,5)2");
@@ -141,9 +141,10 @@ fn ten_carries_no_moves() {
     assert_eq!((answer.number, answer.values), (10, [1, 0, 0]));
 }
 
-/// A step for d alone may be refused. Inside a round it never is: the r just found is a place.
+/// A step for d may be refused. Inside a round it never is: the r just found is a place. The library has no
+/// call for a step, so both programs of the tests are asked.
 #[test]
-fn a_step_for_d_may_be_refused_before_one_for_r() {
+fn a_step_for_d_may_be_refused() {
     let day = boxes(3, "w[0,3)2 w[1,2)1");
     let refused = Err(Refusal::NoPlace { place: 0 });
     for side in [Side::Earliest, Side::Latest] {

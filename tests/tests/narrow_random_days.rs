@@ -1,5 +1,5 @@
 //! Random days of both kinds, fixed by their seeds: small ones against trying everything, longer ones against
-//! the second narrowing, and all of them against their mirror.
+//! the second narrowing, and others against their mirror.
 
 use dock_tests::check_narrow::{by_trying_everything, round, settle, settled_by_rounds};
 use dock_tests::day::{Day, Entry, Refusal};

@@ -75,7 +75,7 @@ module _ (w : Windows) where
       → getD (entriesWith w i es) j blank ≡ entryWith (getD es j blank) (w .r k) (w .d k)
   unfolding entriesWith
   with-at i [] j k z h = absurd (omega arith)
-  with-at i (e ∷ es) zero k z h = let q : k ≡ i = omega arith in rw q
+  with-at i (e ∷ es) zero k z h = let q : k ≡ i = omega arith in rw q refl
   with-at i (e ∷ es) (suc j) k z h = with-at (i + 1) es j k (omega arith) (omega arith)
 
 module _ (l : DayList) (w : Windows) where
