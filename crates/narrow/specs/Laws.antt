@@ -55,13 +55,16 @@ pub record NarrowLaw (test : Test) (whole : ℕ → Bool) (w : Windows) (o : Out
   pub refused-exactly : ((k : Code) × (o ≡ refused k)) ↔ NoneSettled whole w
   pub reason : (k : Code) → o ≡ refused k → Reason whole w k
   -- lists of steps: if a step of one is refused, the rounds give 10
-  pub steps-refused : Plannable w → (ss : List Step) → NamesWhole whole (w .n) ss → someRefused test ss w ≡ true → (i : ℕ) × (o ≡ refused (code 10 (i ∷ [])))
+  pub steps-refused : Plannable w → (ss : List Step) → NamesWhole whole (w .n) ss → someRefused test ss w ≡ true
+      → (i : ℕ) × (o ≡ refused (code 10 (i ∷ [])))
   -- if nothing is left to do after one, the rounds answer the windows that it left
   pub steps-settled : Plannable w → (ss : List Step) → Completes test whole w ss
       → (moves : ℕ) × (o ≡ answered (record { windows = stepsLeave test ss w; moves = moves }))
   -- so two such lists leave the same windows, and if some list meets a refusal there is no such list
-  pub order-free : Plannable w → (ss xs : List Step) → Completes test whole w ss → Completes test whole w xs → stepsLeave test ss w ≡ stepsLeave test xs w
-  pub refused-once : Plannable w → (ss xs : List Step) → NamesWhole whole (w .n) ss → someRefused test ss w ≡ true → Completes test whole w xs → ⊥
+  pub order-free : Plannable w → (ss xs : List Step) → Completes test whole w ss → Completes test whole w xs
+      → stepsLeave test ss w ≡ stepsLeave test xs w
+  pub refused-once : Plannable w → (ss xs : List Step) → NamesWhole whole (w .n) ss → someRefused test ss w ≡ true
+      → Completes test whole w xs → ⊥
   -- plans that keep all whole entries in one piece are kept, and under a refusal there is none
   pub unbroken-kept : (v : Narrowed) → o ≡ answered v → (m : ℕ → ℕ) → Plan w m → Unbroken whole w m → Plan (v .windows) m
   pub unbroken-none : (k : Code) → o ≡ refused k → (m : ℕ → ℕ) → Plan w m → Unbroken whole w m → ⊥
