@@ -1,7 +1,8 @@
 // The planner's calls for programs in other languages: byte slices and numbers only.
 // Promises: each call answers 0 or a refusal's number of document 01, with its values, and leaves in its buffers what
 // specs/Calls.antt says, whatever the bytes and numbers are. What it cannot check are the pointers themselves: a caller lends
-// `bytes`, `out` and `plan` with their lengths, and `fields` and `narrowed`, which must not overlap, with 450 numbers each. Uses the crates list, jackson, narrow and codes.
+// `bytes`, `out` and `plan` with their lengths, and `fields` and `narrowed`, which must not overlap, with 450 numbers each. Uses the crates
+// list, jackson, narrow and codes.
 mod flat;
 
 use flat::flat_of;

@@ -15,7 +15,7 @@ use Rattle.jackson.specs.Windows.{Windows, plain, SameWindows}
 use Rattle.jackson.specs.Intervals.{overloadOf}
 use Rattle.jackson.proofs.Alike.{alike-windows, alike-checked}
 use Rattle.narrow.specs.Rounds.{Narrowed, unmoved, round, narrowing}
-use Rattle.narrow.specs.Calls.{isWhole, wholeIn, bare, SameTimes, entryWith, entriesWith, listWith, settleOf, roundOf, listed, standing}
+use Rattle.narrow.specs.Calls.{isWhole, wholeIn, bare, SameTimes, entryWith, entriesWith, listWith, settleOf, roundOf, listed}
 
 -- lists that are equal have the same numbers and kinds
 pub same-times : {a b : DayList} → SameList a b → SameTimes a b

@@ -2,12 +2,11 @@
 -- Assumes nothing.
 use mathlib.Core.Path.{_≡_, refl}
 use mathlib.Core.Bool.{Bool, true, false, cond}
-use mathlib.Core.List.{[], _∷_}
 use Prim.Native.Nat.{ℕ, zero, suc, _+_, _-_, _<_, _≤_}
 use native.Mathlib.Omega.{arith}
 use borrow.Author.Tests.{eq-eqb}
 use lib.Dec.{eqb}
-use Rattle.list.specs.Outcomes.{Code, code, Outcome, answered, refused, andThen}
+use Rattle.list.specs.Outcomes.{Code, Outcome, answered, refused, andThen}
 use Rattle.list.proofs.Inversion.{Says, by-step}
 use Rattle.jackson.specs.Windows.{Windows}
 use Rattle.jackson.proofs.Sums.{sum-le, sum-add, term-le}

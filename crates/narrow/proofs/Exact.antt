@@ -46,18 +46,15 @@ module _ (Is : ℕ → Type 0) (None : Type 0) (k : ℕ) (one : (s t : ℕ) → 
       back (refused x) (ten, _) none = ap refused ten
 
 module _ (w : Windows) (k : ℕ) where
-  -- there is at most one least start and one greatest end; the second by the mirror would be longer
+  -- there is at most one least start and one greatest end: neither of two comes before the other
+  one : (s t : ℕ) → (t < s → ⊥) → (s < t → ⊥) → s ≡ t
+  one s t a b = le-or-lt s t (λ l. le-or-lt t s (λ m. omega arith) (λ m. absurd (b m))) (λ l. absurd (a l))
+
   one-start : (s t : ℕ) → IsLeastStart w k s → IsLeastStart w k t → s ≡ t
-  one-start s t a b =
-      let up : s ≤ t = le-or-lt s t (λ l. l) (λ l. absurd (a .least t (b .from-r) l (b .plan))) in
-      let down : t ≤ s = le-or-lt t s (λ l. l) (λ l. absurd (b .least s (a .from-r) l (a .plan))) in
-      omega arith
+  one-start s t a b = one s t (λ l. a .least t (b .from-r) l (b .plan)) (λ l. b .least s (a .from-r) l (a .plan))
 
   one-end : (s t : ℕ) → IsGreatestEnd w k s → IsGreatestEnd w k t → s ≡ t
-  one-end s t a b =
-      let up : s ≤ t = le-or-lt s t (λ l. l) (λ l. absurd (b .greatest s l (a .to-d) (a .plan))) in
-      let down : t ≤ s = le-or-lt t s (λ l. l) (λ l. absurd (a .greatest t l (b .to-d) (b .plan))) in
-      omega arith
+  one-end s t a b = one s t (λ l. b .greatest s l (a .to-d) (a .plan)) (λ l. a .greatest t l (b .to-d) (b .plan))
 
   -- and where there is one it is not so that there is none
   some-start : (s : ℕ) → IsLeastStart w k s → NoStart w k → ⊥

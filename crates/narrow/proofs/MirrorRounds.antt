@@ -1,4 +1,4 @@
--- Visits and rounds of the mirrorOutcome windows leave the mirrorOutcome windows with the same moves, or refuse the same entry.
+-- Visits and rounds of the mirrored windows leave the mirrored windows with the same moves, or refuse the same entry.
 -- Assumes nothing.
 use mathlib.Core.Path.{_≡_, refl, sym, ap, _∙_}
 use mathlib.Core.Bool.{Bool, true, false, cond}
@@ -24,16 +24,16 @@ use Rattle.narrow.proofs.VisitOrder.{counted, visit-order}
 
 -- One search in the mirror.
 
--- the windows mirrorOutcome, and the moves as they are
+-- the windows mirrored, and the moves as they are
 abbrev pub mirrorState : Narrowed → Narrowed
 mirrorState s = record { windows = mirror (s .windows); moves = s .moves }
 
--- what is answered is mirrorOutcome so; a refusal stays
+-- what is answered is mirrored so; a refusal stays
 abbrev pub mirrorOutcome : Outcome Narrowed → Outcome Narrowed
 mirrorOutcome o = andThen o (λ v. answered (mirrorState v))
 
 module _ (whole : ℕ → Bool) (s : Narrowed) where
-  -- twice mirrorOutcome it is as it was
+  -- twice mirrored it is as it was
   mirrored-back : (o : Outcome Narrowed) → CostsOr whole s o → mirrorOutcome (mirrorOutcome o) ≡ o
   mirrored-back (answered v) cost = λ j. answered (record { windows = mirror-back (v .windows) (cost .keeps .formed) j; moves = v .moves })
   mirrored-back (refused x) _ = refl
@@ -146,7 +146,7 @@ slack-mirror whole w formed =
     rw (lt-ltb i (w .n) place)
     (ap (λ (x : ℕ). cond (whole i) x 0) (omega (arith, formed .in-day i place, formed .room i place))))
 
--- where a plan exists, narrowing the mirrorOutcome windows answers the mirrorOutcome windows with the same moves, or refuses the same entry
+-- where a plan exists, narrowing the mirrored windows answers the mirrored windows with the same moves, or refuses the same entry
 pub narrowing-mirror : {test : Test} → Planner test → (whole : ℕ → Bool) (w : Windows) → Formed w → Plannable w
     → narrowing test whole (mirror w) ≡ mirrorOutcome (narrowing test whole w)
 unfolding narrowing

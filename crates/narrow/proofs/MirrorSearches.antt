@@ -126,7 +126,7 @@ planner-in-mirror {test} planner =
     }
 
 module _ {f g : Test} (same : InMirror f g) (w : Windows) (formed : Formed w) (k : ℕ) (place : k < w .n) where
-  -- as many ends are skipped as starts in the mirror
+  -- as many ends fail as starts in the mirror
   ends-mirror : failedEnds g w k ≡ failedStarts f (mirror w) k
   unfolding failedStarts failedEnds
   ends-mirror = rw (trials-mirror w formed k place) (first-cong (trials w k) _ _ each)

@@ -10,13 +10,13 @@ use Rattle.list.specs.Outcomes.{Code, code, Outcome, answered, refused, andThen
 use Rattle.list.proofs.Inversion.{Says, Anything}
 use Rattle.jackson.specs.Windows.{Windows, withWindows}
 use Rattle.jackson.specs.Existence.{Plannable}
-use Rattle.narrow.specs.Searching.{Test}
+use Rattle.narrow.specs.Searching.{Test, SearchLaw}
 use Rattle.narrow.specs.Settling.{SettledInside, NoneSettled, Widest, minutesCut}
 use Rattle.narrow.specs.Rounds.{Side, step, Narrowed, unmoved, visit, round, RoundsGive, rounds, slack, narrowing}
 use Rattle.narrow.specs.StepLists.{Step, NamesWhole, stepsLeave, someRefused, Completes}
-use Rattle.narrow.specs.Laws.{Formed, Reason, RoundLaw, NarrowLaw}
+use Rattle.narrow.specs.Laws.{Formed, RoomInside, Reason, RoundLaw, NarrowLaw}
 use Rattle.narrow.proofs.Planners.{Planner}
-use Rattle.narrow.proofs.Keeping.{Keeps, formed-inside}
+use Rattle.narrow.proofs.Keeping.{Keeps, formed-inside, keeps-n, keeps-p}
 use Rattle.narrow.proofs.Costs.{CostsOr, round-cost, round-refused, rounds-says}
 use Rattle.narrow.proofs.RoundsEnd.{rounds-are}
 use Rattle.narrow.proofs.Exact.{search-law}
@@ -137,6 +137,21 @@ module _ {test : Test} (planner : Planner test) (whole : ℕ → Bool) (w : Wind
   refused-if-none : NoneSettled whole w → (k : Code) × (narrowing test whole w ≡ refused k)
   refused-if-none none = decided (λ v e. absurd (none _ _ (widest-set whole w (v .windows) (widest v e)))) (λ k e. (k, e))
 
+  -- windows with room inside can be searched, and what a list of steps leaves are such windows
+  searches : (v : Windows) → RoomInside w v → (k : ℕ) → k < w .n → SearchLaw test v k
+  searches v has k place =
+      rw (has .entries)
+      (search-law planner (withWindows w (v .r) (v .d)) (formed-inside w formed (v .r) (v .d) (record { r = has .inside .r; d = has .inside .d }) (has .room)) k place)
+
+  steps-room : (ss : List Step) → NamesWhole whole (w .n) ss → RoomInside w (stepsLeave test ss w)
+  steps-room ss names =
+      let keeps = steps-narrow planner whole ss w formed names .keeps in
+      record {
+        entries = keeps .entries;
+        inside = keeps .inside;
+        room = λ i place. omega (arith, keeps .formed .room i (omega (arith, keeps-n keeps)), keeps-p keeps i);
+      }
+
   -- Lists of steps, where a plan exists.
 
   module _ (planned : Plannable w) where
@@ -183,7 +198,8 @@ module _ {test : Test} (planner : Planner test) (whole : ℕ → Bool) (w : Wind
   pub narrow-law : NarrowLaw test whole w (narrowing test whole w)
   narrow-law =
       record {
-        searches = λ r d inside room k place. search-law planner (withWindows w r d) (formed-inside w formed r d inside room) k place;
+        searches = searches;
+        steps-room = steps-room;
         by-rounds = by-rounds;
         widest = widest;
         refused-exactly = (λ z. none-settled (z .0) (z .1), refused-if-none);

@@ -1,4 +1,4 @@
--- A round from windows with moves made before it is the round without them, its moves added. So rounds may be made one by one.
+-- A round with moves made before it is the round without them, those moves added. So rounds may be made one by one.
 -- Assumes nothing.
 use mathlib.Core.Path.{_≡_, refl, ap, _∙_}
 use mathlib.Core.Bool.{Bool, true, false, cond}

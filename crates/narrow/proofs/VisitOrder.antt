@@ -1,6 +1,6 @@
 -- The two searches of a visit may change places: r becomes the least and d - p the greatest of one set of starts.
 -- Assumes nothing.
-use mathlib.Core.Path.{_≡_, sym, ap, _∙_}
+use mathlib.Core.Path.{_≡_, refl, sym, ap, _∙_}
 use Prim.Native.Nat.{ℕ, _+_, _-_, _<_, _≤_}
 use native.Mathlib.Omega.{arith}
 use Rattle.list.specs.Outcomes.{Outcome, answered, refused, andThen}
@@ -14,6 +14,7 @@ use Rattle.narrow.proofs.Planners.{Planner}
 use Rattle.narrow.proofs.Puts.{put-same, fixed-up-to, window-after-r, window-after-d}
 use Rattle.narrow.proofs.Keeping.{Keeps, RefusedAt, keeps-r, step-says}
 use Rattle.narrow.proofs.Costs.{moved-same}
+use Rattle.narrow.proofs.RoundsEnd.{answered-same, answered-refused}
 use Rattle.narrow.proofs.Exact.{SearchSays, start-searched, end-searched, search-law}
 
 module _ (w : Windows) (k s : ℕ) (start : IsLeastStart w k s) where
@@ -60,6 +61,23 @@ abbrev pub counted : ℕ → Narrowed → Windows → Narrowed
 counted k s v = record { windows = v; moves = s .moves + movesOf k (s .windows) v }
 
 module _ {test : Test} (planner : Planner test) (k : ℕ) (s : Narrowed) (formed : Formed (s .windows)) (place : k < s .windows .n) where
+  -- in a visit the search for d is not refused: the r just found is a place
+  pub end-not-refused : (v : Narrowed) → narrowSide test earliest k s ≡ answered v → (u : Narrowed) × (narrowSide test latest k v ≡ answered u)
+  unfolding narrowSide
+  end-not-refused v = go (leastStart test w k) (greatestEnd test w k) (start-searched planner w formed k place) (end-searched planner w formed k place)
+    where
+      w : Windows
+      w = s .windows
+
+      go : (a b : Outcome ℕ) → SearchSays (IsLeastStart w k) (NoStart w k) k a → SearchSays (IsGreatestEnd w k) (NoEnd w k) k b
+          → andThen (andThen a (λ x. answered (withR w k x))) (λ v. answered (counted k s v)) ≡ answered v
+          → (u : Narrowed) × (narrowSide test latest k v ≡ answered u)
+      go (answered x) (answered e) start end q =
+          let law = search-law planner (withR w k x) (keeps-r w formed k place x (start .from-r, start .room) .formed) k place in
+          (counted k (counted k s (withR w k x)) (withD (withR w k x) k e), rw (answered-same q refl, law .end-is e .1 (end-after w k x start e end)) refl)
+      go (answered x) (refused _) start (_, none) q = absurd (start-ends w k x start none)
+      go (refused y) b start end q = absurd (answered-refused q refl)
+
   -- r and then d, or d and then r: the same windows and moves, or the same refusal
   pub visit-order : andThen (narrowSide test earliest k s) (narrowSide test latest k) ≡ andThen (narrowSide test latest k s) (narrowSide test earliest k)
   unfolding narrowSide

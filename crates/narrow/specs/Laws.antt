@@ -22,6 +22,12 @@ pub record Formed (w : Windows) : Type 0 where
   pub in-day : (i : ℕ) → i < w .n → w .d i ≤ w .h
   pub room : (i : ℕ) → i < w .n → w .r i + w .p i ≤ w .d i
 
+-- windows v of the entries of w, inside w and with room
+pub record RoomInside (w v : Windows) : Type 0 where
+  pub entries : v ≡ withWindows w (v .r) (v .d)
+  pub inside : Inside v w
+  pub room : (i : ℕ) → i < w .n → v .r i + w .p i ≤ v .d i
+
 -- row 10 with the place of a whole entry
 abbrev pub WholeRefused : (ℕ → Bool) → ℕ → Code → Type 0
 WholeRefused whole n k = (i : ℕ) × (i < n) × (whole i ≡ true) × (k ≡ code 10 (i ∷ []))
@@ -45,8 +51,9 @@ pub record RoundLaw (whole : ℕ → Bool) (w : Windows) (o : Outcome Narrowed) 
 -- the outcome o of narrowing the given windows w
 pub record NarrowLaw (test : Test) (whole : ℕ → Bool) (w : Windows) (o : Outcome Narrowed) : Type 0 where
   -- a search, in any windows with room inside those given, answers the minute of which document 01 speaks
-  pub searches : (r d : ℕ → ℕ) → Inside (withWindows w r d) w → ((i : ℕ) → i < w .n → r i + w .p i ≤ d i)
-      → (k : ℕ) → k < w .n → SearchLaw test (withWindows w r d) k
+  pub searches : (v : Windows) → RoomInside w v → (k : ℕ) → k < w .n → SearchLaw test v k
+  -- and the windows that a list of steps leaves are such windows
+  pub steps-room : (ss : List Step) → NamesWhole whole (w .n) ss → RoomInside w (stepsLeave test ss w)
   -- the answer is that of the rounds as document 01 has them
   pub by-rounds : Plannable w → RoundsGive test whole (unmoved w) o
   -- it is the widest settled set of windows inside those given

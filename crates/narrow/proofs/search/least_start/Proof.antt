@@ -37,13 +37,13 @@ loop-holds : tie.Need-loop-holds Inv-loop μ-loop
 loop-holds c = tried-none _ _ _ (c .before .before .before .pre .formed .room _ (c .before .before .before .pre .place))
 
 cast-if1 : tie.Need-cast-if1 Inv-loop μ-loop
-cast-if1 c = search (needs, c .before .before .before .before .pre .formed .in-day _ (c .before .before .before .before .pre .place))
+cast-if1 c = search needs
 
 cast-if1-2 : tie.Need-cast-if1-2 Inv-loop μ-loop
 cast-if1-2 c = search (needs, c .before .before .before .before .pre .formed .in-day _ (c .before .before .before .before .pre .place))
 
 cast-if1-3 : tie.Need-cast-if1-3 Inv-loop μ-loop
-cast-if1-3 c = search (needs, c .before .before .before .before .pre .formed .in-day _ (c .before .before .before .before .pre .place))
+cast-if1-3 c = search needs
 
 add-if1 : tie.Need-add-if1 Inv-loop μ-loop
 add-if1 c = search (needs, c .before .before .before .before .pre .formed .in-day _ (c .before .before .before .before .pre .place), c .before .before .before .before .pre .formed .room _ (c .before .before .before .before .pre .place))
