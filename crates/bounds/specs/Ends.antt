@@ -1,0 +1,35 @@
+-- Least ends and greatest starts.
+use Prim.Native.Nat.{ℕ, _+_, _-_}
+use mathlib.Core.Path.{_≡_}
+use mathlib.Core.Bool.{Bool, true, cond}
+use Rattle.jackson.specs.Counting.{firstBelow}
+use Rattle.jackson.specs.Windows.{Windows}
+use Rattle.jackson.specs.Plans.{Plan}
+use Rattle.narrow.specs.Searching.{Test, accepts, withR, withD}
+use Rattle.narrow.specs.Settling.{Consecutive}
+
+-- the minutes of its window that entry k does not need
+abbrev pub spare : Windows → ℕ → ℕ
+spare w k = w .d k - (w .r k + w .p k)
+
+-- how many ends, from r + p up and below d, have no plan when entry k's d is that end; d itself needs no test, since the windows have a plan
+unfoldable pub failedLimits : Test → Windows → ℕ → ℕ
+failedLimits test w k = firstBelow (spare w k) (λ j. accepts (test (withD w k (w .r k + w .p k + j))))
+
+-- how many starts, from d - p down and above r, have no plan when entry k's r is that start
+unfoldable pub failedReleases : Test → Windows → ℕ → ℕ
+failedReleases test w k = firstBelow (spare w k) (λ j. accepts (test (withR w k (w .d k - w .p k - j))))
+
+-- "a pause entry has its least end .. over all plans. A whole entry has r + p": that it is over all plans is `end-bound` and `early-is` of
+-- Demand3.antt
+unfoldable pub leastEnd : Test → (ℕ → Bool) → Windows → ℕ → ℕ
+leastEnd test whole w k = cond (whole k) (w .r k + w .p k) (w .r k + w .p k + failedLimits test w k)
+
+-- "a pause entry has its .. greatest start over all plans. A whole entry has .. d - p": `start-bound` and `late-is`
+unfoldable pub greatestStart : Test → (ℕ → Bool) → Windows → ℕ → ℕ
+greatestStart test whole w k = cond (whole k) (w .d k - w .p k) (w .d k - w .p k - failedReleases test w k)
+
+-- a plan in the windows w that keeps entry k itself in one piece if it is whole
+pub record Keeping (whole : ℕ → Bool) (w : Windows) (k : ℕ) (m : ℕ → ℕ) : Type 0 where
+  pub plan : Plan w m
+  pub unbroken : whole k ≡ true → (s : ℕ) × Consecutive (w .h) m k s (s + w .p k)

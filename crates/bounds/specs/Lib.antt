@@ -1,0 +1,5 @@
+pub mod Ends
+pub mod ShownPlans
+pub mod BrokenEntries
+pub mod Demand3
+pub mod Calls

@@ -1,0 +1,33 @@
+-- The plans that a caller may have shown for a place.
+use Prim.Native.Nat.{ℕ}
+use mathlib.Core.Path.{_≡_}
+use mathlib.Core.Bool.{Bool}
+use mathlib.Core.List.{List}
+use Rattle.jackson.specs.Windows.{Windows}
+use Rattle.jackson.specs.Plans.{IsEnd, IsStart, placesIn, PlanBytes}
+use Rattle.jackson.specs.Mirrors.{mirror, mirrorBytes}
+use Rattle.jackson.specs.Minutes.{schedule}
+use Rattle.narrow.specs.Searching.{withR, withD}
+use Rattle.bounds.specs.Ends.{Keeping}
+
+-- "Early: Jackson's schedule with k's d set to its least end": e
+abbrev pub earlyPlan : Windows → ℕ → ℕ → List ℕ
+earlyPlan w k e = schedule (withD w k e)
+
+-- "Late: the mirror .. of Jackson's schedule of the mirrored list, k's r set first to its greatest start": s
+abbrev pub latePlan : Windows → ℕ → ℕ → List ℕ
+latePlan w k s = mirrorBytes (w .h) (schedule (mirror (withR w k s)))
+
+-- the early plan of entry k: document 01's, a plan in the windows w that keeps entry k in one piece if it is whole, with the end e
+pub record IsEarly (whole : ℕ → Bool) (w : Windows) (k e : ℕ) (bytes : List ℕ) : Type 0 where
+  pub rule : bytes ≡ earlyPlan w k e
+  pub plan : PlanBytes w bytes
+  pub keeping : Keeping whole w k (placesIn bytes)
+  pub end : IsEnd (w .h) (placesIn bytes) k e
+
+-- the late plan likewise, with the start s
+pub record IsLate (whole : ℕ → Bool) (w : Windows) (k s : ℕ) (bytes : List ℕ) : Type 0 where
+  pub rule : bytes ≡ latePlan w k s
+  pub plan : PlanBytes w bytes
+  pub keeping : Keeping whole w k (placesIn bytes)
+  pub start : IsStart (w .h) (placesIn bytes) k s
