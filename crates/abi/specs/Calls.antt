@@ -7,6 +7,7 @@ use Rattle.list.specs.Outcomes.{Outcome, answered, refused}
 use Rattle.list.specs.Reading.{readOf}
 use Rattle.list.specs.Writing.{writeOf, bufferAfter}
 use Rattle.list.specs.declared.types.DayList.{DayList}
+use Rattle.jackson.specs.Windows.{windowsOf}
 use Rattle.jackson.specs.Testing.{testOf}
 use Rattle.jackson.specs.Planning.{fillOf, planAfter}
 use Rattle.narrow.specs.Calls.{settleOf, roundOf, listed}
@@ -41,7 +42,7 @@ OverloadCall xs a = a ≡ answerWith (λ _. []) (testOf (valueOf xs))
 -- what `dock_schedule` answers of the list value that xs say, and leaves in a plan buffer that held old
 pub record ScheduleCall (xs old : List ℕ) (a : Answer) (plan : List ℕ) : Type 0 where
   pub answer : a ≡ answerWith (λ _. []) (fillOf (valueOf xs) (length old))
-  pub buffer : plan ≡ planAfter (fillOf (valueOf xs) (length old)) (valueOf xs) old
+  pub buffer : plan ≡ planAfter (fillOf (valueOf xs) (length old)) (windowsOf (valueOf xs)) old
 
 -- the flat list after narrowing: the list answered, or what was there
 abbrev pub narrowedAfter : Outcome (DayList × ℕ) → List ℕ → List ℕ

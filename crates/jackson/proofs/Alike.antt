@@ -3,20 +3,19 @@
 use mathlib.Core.Path.{_≡_, refl, sym, ap, _∙_}
 use mathlib.Core.List.{List, [], _∷_, _++_, map}
 use Prim.Native.Nat.{ℕ, _+_}
-use lib.Dec.{ltb}
 use lib.ListN.{length, getD, drop, length-map, List·getD-map}
-use Rattle.list.specs.Outcomes.{Outcome, answered, refused, row, firstOf, andThen}
+use Rattle.list.specs.Outcomes.{Outcome, answered, refused, firstOf, andThen}
 use Rattle.list.specs.Entries.{entryFault}
 use Rattle.list.specs.Checks.{headerFault, entriesFault, checkOf}
 use Rattle.list.specs.DayLists.{entriesOf, blank, SameList}
 use Rattle.list.specs.declared.types.Entry.{Entry}
 use Rattle.list.specs.declared.types.Frame.{Frame}
 use Rattle.list.specs.declared.types.DayList.{DayList}
-use Rattle.jackson.specs.Windows.{windowsOf, plain, SameWindows}
+use Rattle.jackson.specs.Windows.{Windows, windowsOf, plain, SameWindows}
 use Rattle.jackson.specs.Minutes.{dayStart, schedule}
 use Rattle.jackson.specs.Intervals.{overloadOf}
 use Rattle.jackson.specs.Testing.{testOf}
-use Rattle.jackson.specs.Planning.{listBeside, fillOf, planAfter}
+use Rattle.jackson.specs.Planning.{listBeside, bufferRow, fillOf, planAfter}
 
 -- the value check reads H, n, r, d and p only
 plain-checked : (f : Frame) (i : ℕ) (es : List Entry) → entriesFault f i es ≡ entriesFault f i (map plain es)
@@ -71,13 +70,13 @@ module _ {a b : DayList} (s : SameWindows a b) where
   alike-filled room =
       λ j.
       andThen (alike-checked j)
-      (λ _. firstOf (row 11 (ltb room (s .frame j .h)) (s .frame j .h) ∷ []) (overloadOf (alike-windows j)))
+      (λ _. firstOf (bufferRow (s .frame j .h) room ∷ []) (overloadOf (alike-windows j)))
 
-  pub alike-plan : (room : ℕ) (old : List ℕ) → planAfter (fillOf a room) a old ≡ planAfter (fillOf b room) b old
+  pub alike-plan : (room : ℕ) (old : List ℕ) → planAfter (fillOf a room) (windowsOf a) old ≡ planAfter (fillOf b room) (windowsOf b) old
   alike-plan room old = rw (alike-filled room) (go (fillOf b room))
     where
-      go : (o : Outcome (Unit {0})) → planAfter o a old ≡ planAfter o b old
-      go (answered t) = λ j. schedule (alike-windows j) ++ drop (s .frame j .h) old
+      go : (o : Outcome (Unit {0})) → planAfter o (windowsOf a) old ≡ planAfter o (windowsOf b) old
+      go (answered t) = ap (λ (w : Windows). schedule w ++ drop (w .h) old) alike-windows
       go (refused k) = refl
 
   -- and they start the same day

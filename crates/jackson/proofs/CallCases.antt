@@ -18,12 +18,12 @@ use Rattle.list.specs.declared.types.Verdict.{Verdict}
 use Rattle.list.specs.declared.types.Verdict.the-variants.{Accepted, Refused}
 use Rattle.list.specs.declared.types.DayList.{DayList}
 use Rattle.jackson.specs.Counting.{listOf}
-use Rattle.jackson.specs.Windows.{windowsOf, windowsIn}
+use Rattle.jackson.specs.Windows.{Windows, windowsOf, windowsIn}
 use Rattle.jackson.specs.Minutes.{State, stateOf, dayStart, chosen, minuteOf, later, placeAt, schedule}
 use Rattle.jackson.specs.Intervals.{overloadOf}
 use Rattle.jackson.specs.Plans.{PlanBytes}
 use Rattle.jackson.specs.Testing.{Holds, Tests, testOf}
-use Rattle.jackson.specs.Planning.{Advances, Starts, Fills, listBeside, fillOf, planAfter}
+use Rattle.jackson.specs.Planning.{Advances, Starts, Fills, FillsWindows, listBeside, fillOf, planAfter}
 use Rattle.jackson.specs.Steps.{IsAfter}
 use Rattle.jackson.specs.declared.types.WindowSet.{WindowSet}
 use Rattle.jackson.specs.declared.types.Day.{Day}
@@ -126,7 +126,7 @@ module _ (s : State) (h : ℕ) (old : List ℕ) where
 
 -- what a call fills, from its outcome and the buffer
 fills-of : (l : DayList) (old : List ℕ) (v : Verdict) (new : List ℕ) → verdictOf v ≡ fillOf l (length old)
-    → new ≡ planAfter (fillOf l (length old)) l old → Fills l old v new
+    → new ≡ planAfter (fillOf l (length old)) (windowsOf l) old → Fills l old v new
 unfolding schedule
 fills-of l old v new e b =
     record { outcome = e; buffer = b; decides = rw e (fill-decides l (length old)); plan = λ done. bytes (sym e ∙ done) }
@@ -179,3 +179,12 @@ module _ (l : DayList) (old : List ℕ) (a : DayAnswer) (starts : Starts l a) wh
           let z = le-ltb (length old) (l .frame .h) h in
           let fine : overloadOf (windowsOf l) ≡ answered tt = sym tests ∙ sym test ∙ ap verdictOf r in
           fills-of l old _ _ (rw (well-formed, z) (sym fine)) (rw (well-formed, z, fine) (rw (← begins) bytes))
+
+-- filling it with the schedule of windows that are not tested
+module _ (w : Windows) (old : List ℕ) where
+  pub no-room : length old < w .h → FillsWindows w old (Refused (PlanBufferShort (w .h))) old
+  no-room h = let z = lt-ltb (length old) (w .h) h in record { outcome = rw z refl; buffer = rw z refl }
+
+  pub has-room : (new : List ℕ) → w .h ≤ length old → new ≡ listOf (w .h) (placeAt (dayStart w)) ++ drop (w .h) old → FillsWindows w old Accepted new
+  unfolding schedule
+  has-room new h bytes = let z = le-ltb (length old) (w .h) h in record { outcome = rw z refl; buffer = rw z bytes }

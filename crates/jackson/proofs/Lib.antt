@@ -19,9 +19,11 @@ pub mod Law
 pub mod ListLaws
 -- Lists that are planned alike.
 pub mod Alike
--- What the code's proofs cite, case by case.
+-- What the code's proofs cite, case by case; of crates above HeldWindows.
+pub mod HeldWindows
 mod ScanSteps
 mod MinuteCases
 mod IntervalCases
 mod WindowSetCases
+mod MirrorCases
 mod CallCases

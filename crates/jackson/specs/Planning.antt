@@ -4,13 +4,13 @@ use mathlib.Core.Path.{_≡_}
 use mathlib.Core.List.{List, [], _∷_, _++_}
 use lib.ListN.{length, take, drop}
 use lib.Dec.{ltb}
-use Rattle.list.specs.Outcomes.{Outcome, answered, refused, row, firstOf, andThen}
+use Rattle.list.specs.Outcomes.{Outcome, answered, refused, Row, row, firstOf, andThen}
 use Rattle.list.specs.Refusals.{verdictOf}
 use Rattle.list.specs.Checks.{checkOf}
 use Rattle.list.specs.DayLists.{emptyList}
 use Rattle.list.specs.declared.types.DayList.{DayList}
 use Rattle.list.specs.declared.types.Verdict.{Verdict}
-use Rattle.jackson.specs.Windows.{windowsOf}
+use Rattle.jackson.specs.Windows.{Windows, windowsOf}
 use Rattle.jackson.specs.Plans.{PlanBytes}
 use Rattle.jackson.specs.Intervals.{overloadOf}
 use Rattle.jackson.specs.Minutes.{stateOf, dayStart, schedule, minuteOf}
@@ -36,18 +36,30 @@ pub record Starts (l : DayList) (a : DayAnswer) : Type 0 where
   pub beside : stateOf (a .day) ≡ dayStart (windowsOf (listBeside (checkOf l) l))
   pub n : a .day .windows .n ≡ listBeside (checkOf l) l .n
 
+-- "plan buffer under H bytes": row 11, which carries H
+abbrev pub bufferRow : ℕ → ℕ → Row
+bufferRow h room = row 11 (ltb room h) h
+
 -- filling a plan buffer of the length given: the value check, then rows 11 and 9
 unfoldable pub fillOf : DayList → ℕ → Outcome (Unit {0})
-fillOf l room = andThen (checkOf l) (λ _. firstOf (row 11 (ltb room (l .frame .h)) (l .frame .h) ∷ []) (overloadOf (windowsOf l)))
+fillOf l room = andThen (checkOf l) (λ _. firstOf (bufferRow (l .frame .h) room ∷ []) (overloadOf (windowsOf l)))
 
 -- "In a longer buffer the bytes after H keep their values." "A refusal writes nothing to any lent buffer."
-abbrev pub planAfter : Outcome (Unit {0}) → DayList → List ℕ → List ℕ
-planAfter (answered _) l old = schedule (windowsOf l) ++ drop (l .frame .h) old
-planAfter (refused _) l old = old
+abbrev pub planAfter : Outcome (Unit {0}) → Windows → List ℕ → List ℕ
+planAfter (answered _) w old = schedule w ++ drop (w .h) old
+planAfter (refused _) w old = old
 
 -- what filling a plan buffer that held old answers, and what the buffer holds then
 pub record Fills (l : DayList) (old : List ℕ) (v : Verdict) (new : List ℕ) : Type 0 where
   pub outcome : verdictOf v ≡ fillOf l (length old)
-  pub buffer : new ≡ planAfter (fillOf l (length old)) l old
+  pub buffer : new ≡ planAfter (fillOf l (length old)) (windowsOf l) old
   pub decides : Decides l (verdictOf v)
   pub plan : verdictOf v ≡ answered tt → PlanBytes (windowsOf l) (take (l .frame .h) new)
+
+-- filling it with the schedule of windows that are not tested: row 11 alone
+abbrev pub roomOf : Windows → ℕ → Outcome (Unit {0})
+roomOf w room = firstOf (bufferRow (w .h) room ∷ []) (answered tt)
+
+pub record FillsWindows (w : Windows) (old : List ℕ) (v : Verdict) (new : List ℕ) : Type 0 where
+  pub outcome : verdictOf v ≡ roomOf w (length old)
+  pub buffer : new ≡ planAfter (roomOf w (length old)) w old

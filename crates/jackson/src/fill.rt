@@ -13,9 +13,10 @@ ghost use mathlib.Core.List.{_++_};
 ghost use Prim.Native.Nat.{_≤_};
 ghost use lib.ListN.{length, drop};
 ghost use Rattle.jackson.specs.Counting.{listOf};
+ghost use Rattle.jackson.specs.Windows.{windowsIn};
 ghost use Rattle.jackson.specs.Plans.{idle};
 ghost use Rattle.jackson.specs.Minutes.{stateOf, placeAt};
-ghost use Rattle.jackson.specs.Planning.{Starts, Fills};
+ghost use Rattle.jackson.specs.Planning.{Starts, Fills, FillsWindows};
 
 // A day's first state.
 fn day_start(windows: WindowSet) -> Day
@@ -79,5 +80,17 @@ pub fn schedule(list: DayList, plan: &mut [u8]) -> Verdict
         return test;
     };
     store_places(day, h, plan);
+    Verdict::Accepted
+}
+
+// Fills a plan buffer with Jackson's schedule of windows, whatever they are: of the rows only 11 is tested.
+pub fn untested_schedule(windows: WindowSet, plan: &mut [u8]) -> Verdict
+    ensures { λ v. ⌜ FillsWindows (windowsIn windows) (now (plan .entry)) v (now (plan .exit)) ⌝ }
+{
+    let h = windows.h as usize;
+    if plan.len() < h {
+        return Verdict::Refused(Refusal::PlanBufferShort(h));
+    }
+    store_places(day_start(windows), h, plan);
     Verdict::Accepted
 }

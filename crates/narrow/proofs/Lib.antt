@@ -20,11 +20,11 @@ mod VisitOrder
 pub mod MirrorRounds
 pub mod SingleRounds
 pub mod Alike
--- What the code's proofs cite, case by case.
-mod ArrayCases
+-- What the code's proofs cite, case by case; those of the crates above too ArrayCases and CallCases.
+pub mod ArrayCases
 mod SearchCases
 mod EndCases
 mod RoundCases
 mod VisitCases
 mod ListCases
-mod CallCases
+pub mod CallCases

@@ -1,10 +1,7 @@
 -- What the code's own functions answer, as the outcomes of the rules. Nothing that another crate must believe.
-use Prim.Native.Nat.{ℕ, _+_, _-_, _<_, _≤_}
+use Prim.Native.Nat.{ℕ, _+_, _<_, _≤_}
 use mathlib.Core.Path.{_≡_}
-use mathlib.Core.Bool.{cond}
-use mathlib.Core.List.{List, [], _∷_}
-use lib.Dec.{ltb}
-use lib.ListN.{getD}
+use mathlib.Core.List.{[], _∷_}
 use Rattle.list.specs.Outcomes.{code, Outcome, answered, refused}
 use Rattle.list.specs.Refusals.{outcomeOf}
 use Rattle.list.specs.declared.types.DayList.{DayList}
@@ -41,7 +38,3 @@ pub record Countable (l : DayList) (s : WindowSet) (moves : ℕ) : Type 0 where
   pub formed : Formed (windowsIn s)
   pub count : windowsIn s .n ≡ l .n
   pub few : moves + slack (wholeIn l) (windowsIn s) ≤ 92160
-
--- one side of the mirrored windows: of the first count entries h minus the other side, of the rest the side as it is
-abbrev pub MirroredSide : ℕ → ℕ → List ℕ → List ℕ → List ℕ → Type 0
-MirroredSide h count side other xs = (i : ℕ) → getD xs i 0 ≡ cond (ltb i count) (h - getD other i 0) (getD side i 0)

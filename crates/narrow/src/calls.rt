@@ -47,7 +47,7 @@ fn list_with(list: DayList, windows: WindowSet) -> DayList
 }
 
 // A refusal, with what stands beside it.
-fn refused_with(verdict: Verdict) -> NarrowAnswer
+pub fn refused_with(verdict: Verdict) -> NarrowAnswer
     ensures { λ a. ⌜ a ≡ record { verdict = verdict; list = emptyList; moves = 0 } ⌝ }
 {
     NarrowAnswer {

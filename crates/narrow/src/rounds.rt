@@ -24,7 +24,8 @@ pub(crate) struct VisitAnswer {
     pub moves: u32,
 }
 
-fn is_whole(kind: Kind) -> bool
+// Whether an entry of this kind is whole.
+pub fn is_whole(kind: Kind) -> bool
     ensures { λ b. ⌜ b ≡ isWhole kind ⌝ }
 {
     match kind {

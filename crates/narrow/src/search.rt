@@ -1,5 +1,5 @@
 // A visit's two searches.
-use crate::mirror::mirrored;
+use jackson::mirrored;
 use jackson::types::WindowSet;
 use jackson::untested_overload;
 use list::types::Verdict;
@@ -18,7 +18,8 @@ pub(crate) enum Found {
     NoMinute,
 }
 
-fn is_accepted(verdict: Verdict) -> bool
+// Whether a verdict is no refusal.
+pub fn is_accepted(verdict: Verdict) -> bool
     ensures { λ b. ⌜ b ≡ accepts (verdictOf verdict) ⌝ }
 {
     match verdict {

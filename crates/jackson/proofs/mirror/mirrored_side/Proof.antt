@@ -2,9 +2,9 @@
 -- Assumes nothing.
 use borrow.Author.Needs.{needs}
 use Prim.Native.Nat.{_-_}
-use Rattle.narrow.proofs.ArrayCases.{MirroredSoFar, side-start, side-next, side-done}
-use Rattle.narrow.proofs.mirror.mirrored_side.Statement.{statement}
-use Rattle.narrow.proofs.mirror.mirrored_side.Tie as tie
+use Rattle.jackson.proofs.MirrorCases.{MirroredSoFar, side-start, side-next, side-done}
+use Rattle.jackson.proofs.mirror.mirrored_side.Statement.{statement}
+use Rattle.jackson.proofs.mirror.mirrored_side.Tie as tie
 
 abbrev Inv-loop : tie.InvT-loop
 Inv-loop h count other xs₀ i₀ xs i = MirroredSoFar h count xs₀ other xs i

@@ -1,11 +1,10 @@
 // The mirror of windows.
-use jackson::places_held;
-use jackson::types::WindowSet;
+use crate::types::WindowSet;
+use crate::window_set::places_held;
 ghost use mathlib.Core.Path.{_≡_};
 ghost use Prim.Native.Nat.{_-_, _≤_};
-ghost use Rattle.jackson.specs.Windows.{windowsIn};
-ghost use Rattle.jackson.specs.Mirrors.{mirror};
-ghost use Rattle.narrow.specs.Parts.{MirroredSide};
+ghost use Rattle.jackson.specs.Mirrors.{MirrorOf};
+ghost use Rattle.jackson.specs.Steps.{MirroredSide};
 
 // The minutes from x to the day's end.
 fn minutes_after(h: u16, x: u16) -> u16
@@ -29,8 +28,8 @@ fn mirrored_side(h: u16, count: usize, side: [u16; 64], other: &[u16; 64]) -> [u
 }
 
 // "[r, d) becomes [H-d, H-r), places kept"
-pub(crate) fn mirrored(windows: WindowSet) -> WindowSet
-    ensures { λ w. ⌜ windowsIn w ≡ mirror (windowsIn windows) ⌝ }
+pub fn mirrored(windows: WindowSet) -> WindowSet
+    ensures { λ w. ⌜ MirrorOf windows w ⌝ }
 {
     let h = windows.h;
     let n = windows.n;

@@ -1,0 +1,30 @@
+-- Row 11, then the schedule from the day's first state.
+-- Assumes nothing.
+use borrow.Author.Needs.{needs}
+use Rattle.jackson.specs.Windows.{windowsIn}
+use Rattle.jackson.proofs.CallCases.{no-room, has-room}
+use Rattle.jackson.proofs.fill.untested_schedule.Statement.{statement}
+use Rattle.jackson.proofs.fill.untested_schedule.Tie as tie
+
+cast-h : tie.Need-cast-h
+cast-h c = search needs
+
+returns : tie.Need-returns
+returns c = no-room (windowsIn (c .before .before .before .args .windows)) (c .before .before .before .args .plan .now) (c .if1 .taken)
+
+day-start-requires : tie.Need-day-start-requires
+day-start-requires c κs = search needs
+
+store-places-requires : tie.Need-store-places-requires
+store-places-requires c κs = search needs
+
+same-length : tie.Need-same-length
+same-length c = search needs
+
+returns-2 : tie.Need-returns-2
+returns-2 c = has-room (windowsIn (c .before .before .before .before .before .before .before .before .args .windows)) (c .before .before .before .before .before .before .before .before .args .plan .now) _ (c .before .before .before .before .before .if1 .left) (rw (c .before .before .before .before .day-start .ensures) at (c .before .before .store-places .ensures))
+
+pub untested-schedule-spec : {M : Type 1} → statement M
+untested-schedule-spec =
+    tie.close
+    (tie.spec cast-h returns day-start-requires store-places-requires same-length returns-2)
