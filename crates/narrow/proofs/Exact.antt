@@ -65,7 +65,7 @@ module _ (w : Windows) (k : ℕ) where
 
 -- Starts.
 
-accepted-answered : (o : Outcome (Unit {0})) → accepts o ≡ true → o ≡ answered tt
+pub accepted-answered : (o : Outcome (Unit {0})) → accepts o ≡ true → o ≡ answered tt
 accepted-answered (answered _) e = refl
 accepted-answered (refused x) e = absurd (false≢true e)
 
