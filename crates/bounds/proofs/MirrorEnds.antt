@@ -10,18 +10,16 @@ use Rattle.jackson.specs.Minutes.{schedule}
 use Rattle.narrow.specs.Searching.{Test, accepts, withR, withD}
 use Rattle.narrow.specs.Laws.{Formed}
 use Rattle.narrow.proofs.Planners.{Planner}
-use Rattle.narrow.proofs.MirrorSearches.{first-cong, mirror-r, mirror-d, with-r-mirror, planner-in-mirror}
+use Rattle.narrow.proofs.MirrorSearches.{first-cong, with-r-mirror, planner-in-mirror}
 use Rattle.narrow.proofs.Keeping.{keeps-r}
+use Rattle.narrow.proofs.Exact.{in-mirror}
 use Rattle.bounds.specs.Ends.{spare, failedLimits, failedReleases, leastEnd, greatestStart}
 use Rattle.bounds.specs.ShownPlans.{earlyPlan, latePlan}
 
 module _ {test : Test} (planner : Planner test) (w : Windows) (formed : Formed w) (k : ℕ) (place : k < w .n) where
-  -- the mirrored window, and its place in the day
-  in-mirror : (mirror w .r k ≡ w .h - w .d k) × (mirror w .d k ≡ w .h - w .r k) × (w .d k ≤ w .h) × (w .r k + w .p k ≤ w .d k)
-  in-mirror = (mirror-r w k place, mirror-d w k place, formed .in-day k place, formed .room k place)
-
+  -- the mirrored entry has as many minutes that it does not need
   spare-mirror : spare (mirror w) k ≡ spare w k
-  spare-mirror = omega (arith, in-mirror)
+  spare-mirror = omega (arith, in-mirror w formed k place)
 
   -- a start is accepted exactly when the mirrored end is
   release-mirror : (j : ℕ) → j < spare w k
@@ -30,7 +28,7 @@ module _ {test : Test} (planner : Planner test) (w : Windows) (formed : Formed w
       let s = w .d k - w .p k - j in
       let from : w .r k ≤ s = omega arith in
       let room : s + w .p k ≤ w .d k = omega arith in
-      let e : mirror w .r k + w .p k + j ≡ w .h - s = omega (arith, in-mirror) in
+      let e : mirror w .r k + w .p k + j ≡ w .h - s = omega (arith, in-mirror w formed k place) in
       rw (e, with-r-mirror w k place s)
       (sym (planner-in-mirror planner .accepted (withR w k s) (keeps-r w formed k place s (from, room) .formed)))
 
@@ -44,8 +42,8 @@ module _ {test : Test} (planner : Planner test) (w : Windows) (formed : Formed w
     where
       go : (t : Bool) (j : ℕ) → cond t (w .d k - w .p k) (w .d k - w .p k - j)
           ≡ w .h - cond t (mirror w .r k + w .p k) (mirror w .r k + w .p k + j)
-      go true j = omega (arith, in-mirror)
-      go false j = omega (arith, in-mirror)
+      go true j = omega (arith, in-mirror w formed k place)
+      go false j = omega (arith, in-mirror w formed k place)
 
 pub late-by-mirror : (w : Windows) (k : ℕ) → k < w .n → (e : ℕ) → e ≤ w .h → latePlan w k (w .h - e) ≡ mirrorBytes (w .h) (earlyPlan (mirror w) k e)
 late-by-mirror w k place e in-day =
