@@ -1,0 +1,5 @@
+-- What the search for a least end finds, and the search for a greatest start as one in the mirror.
+pub mod EndSearches
+pub mod MirrorEnds
+-- In settled windows these are bounds over all plans, and the plans shown have them.
+pub mod EndBounds

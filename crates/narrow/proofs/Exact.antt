@@ -65,7 +65,7 @@ module _ (w : Windows) (k : ℕ) where
 
 -- Starts.
 
-accepted-answered : (o : Outcome (Unit {0})) → accepts o ≡ true → o ≡ answered tt
+pub accepted-answered : (o : Outcome (Unit {0})) → accepts o ≡ true → o ≡ answered tt
 accepted-answered (answered _) e = refl
 accepted-answered (refused x) e = absurd (false≢true e)
 
@@ -125,7 +125,7 @@ module _ (w : Windows) (formed : Formed w) (k : ℕ) (place : k < w .n) where
         mirror-plannable (fixedUpTo w k e) (up-to-formed w formed k e place (omega arith) due) (rw end-fixed at plan)
 
   -- the mirrored window, and its place in the day
-  in-mirror : (mirror w .r k ≡ w .h - w .d k) × (mirror w .d k ≡ w .h - w .r k) × (w .d k ≤ w .h) × (w .r k + w .p k ≤ w .d k)
+  pub in-mirror : (mirror w .r k ≡ w .h - w .d k) × (mirror w .d k ≡ w .h - w .r k) × (w .d k ≤ w .h) × (w .r k + w .p k ≤ w .d k)
   in-mirror = (mirror-r w k place, mirror-d w k place, formed .in-day k place, formed .room k place)
 
   -- the least start of the mirror is the greatest end

@@ -2,13 +2,13 @@
 pub mod Planners
 pub mod OverloadPlanner
 -- Windows with one value changed, the mirror, what steps keep, what moves cost, and that rounds end.
-mod Puts
+pub mod Puts
 pub mod MirrorSearches
 pub mod Keeping
 pub mod Costs
 mod RoundsEnd
 -- Searches are exact, settled sets are settled in the mirror and stay inside, and the law of narrowing. The crates above are to cite NarrowLaws.
-mod Exact
+pub mod Exact
 pub mod MirrorSettled
 mod SettledSteps
 mod Fixpoints

@@ -20,7 +20,7 @@ use Rattle.narrow.proofs.Planners.{Planner}
 use Rattle.narrow.proofs.Puts.{place-cases, with-r, with-d, up-to-formed}
 
 -- a search for the first looks at the tests below n alone
-first-cong : (n : ℕ) (f g : ℕ → Bool) → ((i : ℕ) → i < n → f i ≡ g i) → firstBelow n f ≡ firstBelow n g
+pub first-cong : (n : ℕ) (f g : ℕ → Bool) → ((i : ℕ) → i < n → f i ≡ g i) → firstBelow n f ≡ firstBelow n g
 unfolding firstBelow
 first-cong zero f g h = refl
 first-cong (suc n) f g h = rw (h 0 (omega arith), first-cong n _ _ (λ i l. h (suc i) (omega arith)))
@@ -85,7 +85,7 @@ module _ (w : Windows) (k : ℕ) (place : k < w .n) where
   fixed-at-mirror e long in-day = put-mirror (e - w .p k) e _ _ refl (omega arith)
 
   -- another r of k, in the mirror another d
-  with-r-mirror : (s : ℕ) → withD (mirror w) k (w .h - s) ≡ mirror (withR w k s)
+  pub with-r-mirror : (s : ℕ) → withD (mirror w) k (w .h - s) ≡ mirror (withR w k s)
   with-r-mirror s =
       sym (with-d (mirror w) k (w .h - s)) ∙ put-mirror s (w .d k) _ _ mirror-r refl ∙ ap mirror (with-r w k s)
 

@@ -20,7 +20,7 @@ SidePlan earliest w k = (m : ℕ → ℕ) × Plan w m × Consecutive (w .h) m k 
 SidePlan latest w k = (m : ℕ → ℕ) × Plan w m × Consecutive (w .h) m k (w .d k - w .p k) (w .d k)
 
 -- consecutive minutes are consecutive in the mirrored plan
-consecutive-mirror : (h : ℕ) (m : ℕ → ℕ) (k s e : ℕ) → Consecutive h m k s e → Consecutive h (mirrorPlan h m) k (h - e) (h - s)
+pub consecutive-mirror : (h : ℕ) (m : ℕ → ℕ) (k s e : ℕ) → Consecutive h m k s e → Consecutive h (mirrorPlan h m) k (h - e) (h - s)
 consecutive-mirror h m k s e run =
     record {
       each = λ t below l u. run .each (h - suc t) (omega arith) (omega arith) (omega arith);

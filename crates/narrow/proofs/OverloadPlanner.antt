@@ -6,7 +6,7 @@ use Rattle.jackson.proofs.Law.{plan-law}
 use Rattle.narrow.specs.Laws.{Formed}
 use Rattle.narrow.proofs.Planners.{Planner}
 
-formed-roomy : (w : Windows) → Formed w → Roomy w
+pub formed-roomy : (w : Windows) → Formed w → Roomy w
 formed-roomy w formed = record { in-day = λ i h _. formed .in-day i h; room = λ i h _. formed .room i h }
 
 pub overload-planner : Planner overloadOf

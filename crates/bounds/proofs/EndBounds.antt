@@ -1,0 +1,121 @@
+-- In settled windows no plan has an end before the least end, and the early plan has that.
+-- Assumes nothing.
+use mathlib.Core.Path.{_≡_, refl, sym, _∙_}
+use mathlib.Core.Bool.{Bool, true, false, cond, true≢false}
+use Prim.Native.Nat.{ℕ, _+_, _-_, _<_, _≤_}
+use native.Mathlib.Omega.{arith}
+use Rattle.jackson.specs.Windows.{Windows}
+use Rattle.jackson.specs.Plans.{Plan, IsEnd, endOf, placesIn, PlanBytes}
+use Rattle.jackson.specs.Existence.{Plannable}
+use Rattle.jackson.proofs.Sums.{le-or-lt}
+use Rattle.jackson.proofs.PlanFacts.{minutes-within, other-windows, plan-end, end-due}
+use Rattle.jackson.proofs.Law.{schedule-law}
+use Rattle.narrow.specs.Searching.{Test, withD, fixedAt}
+use Rattle.narrow.specs.Settling.{Consecutive, Settled}
+use Rattle.narrow.specs.Laws.{Formed}
+use Rattle.narrow.proofs.Planners.{Planner}
+use Rattle.narrow.proofs.OverloadPlanner.{formed-roomy}
+use Rattle.narrow.proofs.Puts.{place-cases, put-same, with-d, consecutive-fixed, fixed-consecutive}
+use Rattle.bounds.specs.Ends.{leastEnd, Keeping}
+use Rattle.bounds.specs.ShownPlans.{earlyPlan, IsEarly}
+use Rattle.bounds.proofs.EndSearches.{own-limit, limit-widen, limit-formed, limit-exact, least-end-whole, least-end-first, least-end-range}
+
+-- Plans.
+
+module _ (w : Windows) (m : ℕ → ℕ) (plan : Plan w m) (k : ℕ) (place : k < w .n) (e : ℕ) (end : IsEnd (w .h) m k e) where
+  -- all minutes of an entry come before its end
+  before-end : (t : ℕ) → t < w .h → m t ≡ k → (w .r k ≤ t) × (t < e)
+  before-end t below q =
+      (plan .inside k t place below q .0, le-or-lt e t (λ l. absurd (end .none-after t l below q)) (λ l. l))
+
+  -- so it comes no sooner than r + p
+  end-room : 1 ≤ w .p k → w .r k + w .p k ≤ e
+  end-room some = omega (arith, plan .exact k place, minutes-within (w .h) m k (w .r k) e before-end)
+
+  -- and by d
+  end-limit : e ≤ w .d k
+  end-limit =
+      let one = end .after-one in
+      omega (arith, plan .inside k (e - 1) place (omega (arith, end .within)) (end .minute) .1)
+
+  -- and the plan is one with the end as k's d
+  ends-plan : Plan (withD w k e) m
+  ends-plan =
+      other-windows w _ _ m plan
+      (λ i t here below q.
+      let z = plan .inside i t here below q in
+      (z .0, place-cases (λ c. t < cond c e (w .d i)) i k (λ s. before-end t below (q ∙ s) .1) (λ _. z .1)))
+
+module _ {test : Test} (planner : Planner test) (whole : ℕ → Bool) (w : Windows) (formed : Formed w) (k : ℕ) (place : k < w .n) where
+  abbrev least : ℕ
+  least = leastEnd test whole w k
+
+  -- no plan has an end before the least one
+  pub end-least : (m : ℕ → ℕ) → Plan w m → (e : ℕ) → IsEnd (w .h) m k e → least ≤ e
+  end-least m plan e end = go (whole k) refl
+    where
+      room : w .r k + w .p k ≤ e
+      room = end-room w m plan k place e end (formed .minutes k place)
+
+      go : (t : Bool) → whole k ≡ t → least ≤ e
+      go true is = omega (arith, room, least-end-whole test whole w k is)
+      go false is =
+          le-or-lt least e (λ l. l)
+          (λ l.
+          let found = limit-exact w formed k place planner e room (end-limit w m plan k place e end) .1 (m, ends-plan w m plan k place e end) in
+          absurd (true≢false (sym found ∙ least-end-first test whole w formed k place is .none-before e room l)))
+
+  pub end-bound : (m : ℕ → ℕ) → Keeping whole w k m → (e : ℕ) → IsEnd (w .h) m k e → least ≤ e
+  end-bound m keeping = end-least m (keeping .plan)
+
+  -- the window of a whole entry up to its least end
+  whole-fixed : whole k ≡ true → fixedAt w k (w .r k) ≡ withD w k least
+  whole-fixed is = rw (least-end-whole test whole w k is) (with-d w k (w .r k + w .p k))
+
+  module _ (settled : Settled whole w) where
+    -- a plan exists with the least end as k's d
+    least-plan : Plannable (withD w k least)
+    least-plan = go (whole k) refl
+      where
+        go : (t : Bool) → whole k ≡ t → Plannable (withD w k least)
+        go true is =
+            let z = settled .from-r k place is in
+            (z .0, rw (whole-fixed is) at (consecutive-fixed w (z .0) k (w .r k) (z .1) (z .2)))
+        go false is =
+            let first = least-end-first test whole w formed k place is in
+            le-or-lt (w .d k) least
+            (λ l. let e : least ≡ w .d k = omega (arith, first .due) in rw (e, own-limit w k) (settled .plan))
+            (λ l. limit-exact w formed k place planner least (first .room) (first .due) .0 (first .passes l))
+
+    -- so the early plan is a plan with that d
+    limit-bytes : PlanBytes (withD w k least) (earlyPlan w k least)
+    limit-bytes =
+        let range = least-end-range test whole w formed k place in
+        let there = limit-formed w formed k place least (range .0) (range .1) in
+        schedule-law (withD w k least) (formed-roomy _ there) (there .few) .plan .0 least-plan
+
+    pub early-is : IsEarly whole w k least (earlyPlan w k least)
+    early-is = record { rule = refl; plan = bytes; keeping = record { plan = bytes .plan; unbroken = unbroken }; end = end }
+      where
+        m : ℕ → ℕ
+        m = placesIn (earlyPlan w k least)
+
+        bytes : PlanBytes w (earlyPlan w k least)
+        bytes =
+            record {
+              long = limit-bytes .long;
+              places = limit-bytes .places;
+              plan = rw (own-limit w k) at (limit-widen w k least (w .d k) (least-end-range test whole w formed k place .1) m (limit-bytes .plan));
+            }
+
+        unbroken : whole k ≡ true → (s : ℕ) × Consecutive (w .h) m k s (s + w .p k)
+        unbroken is =
+            (w .r k, fixed-consecutive w formed k (w .r k) place (formed .room k place) m (rw (whole-fixed is) (limit-bytes .plan)))
+
+        end : IsEnd (w .h) m k least
+        end =
+            let some = formed .minutes k place in
+            let there = plan-end w m (bytes .plan) k place some in
+            let due = end-due (withD w k least) m (limit-bytes .plan) k place some in
+            let e : endOf (w .h) m k ≡ least = omega (arith, put-same k least (w .d), end-least m (bytes .plan) _ there) in
+            rw e at there

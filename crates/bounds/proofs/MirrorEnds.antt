@@ -1,0 +1,51 @@
+-- Greatest starts and late plans are the least ends and early plans of the mirrored windows, mirrored.
+-- Assumes nothing.
+use mathlib.Core.Path.{_≡_, refl, sym, ap, _∙_}
+use mathlib.Core.Bool.{Bool, true, false, cond}
+use Prim.Native.Nat.{ℕ, _+_, _-_, _<_, _≤_}
+use native.Mathlib.Omega.{arith}
+use Rattle.jackson.specs.Windows.{Windows}
+use Rattle.jackson.specs.Mirrors.{mirror, mirrorBytes}
+use Rattle.jackson.specs.Minutes.{schedule}
+use Rattle.narrow.specs.Searching.{Test, accepts, withR, withD}
+use Rattle.narrow.specs.Laws.{Formed}
+use Rattle.narrow.proofs.Planners.{Planner}
+use Rattle.narrow.proofs.MirrorSearches.{first-cong, with-r-mirror, planner-in-mirror}
+use Rattle.narrow.proofs.Keeping.{keeps-r}
+use Rattle.narrow.proofs.Exact.{in-mirror}
+use Rattle.bounds.specs.Ends.{spare, failedLimits, failedReleases, leastEnd, greatestStart}
+use Rattle.bounds.specs.ShownPlans.{earlyPlan, latePlan}
+
+module _ {test : Test} (planner : Planner test) (w : Windows) (formed : Formed w) (k : ℕ) (place : k < w .n) where
+  -- the mirrored entry has as many minutes that it does not need
+  spare-mirror : spare (mirror w) k ≡ spare w k
+  spare-mirror = omega (arith, in-mirror w formed k place)
+
+  -- a start is accepted exactly when the mirrored end is
+  release-mirror : (j : ℕ) → j < spare w k
+      → accepts (test (withR w k (w .d k - w .p k - j))) ≡ accepts (test (withD (mirror w) k (mirror w .r k + w .p k + j)))
+  release-mirror j below =
+      let s = w .d k - w .p k - j in
+      let from : w .r k ≤ s = omega arith in
+      let room : s + w .p k ≤ w .d k = omega arith in
+      let e : mirror w .r k + w .p k + j ≡ w .h - s = omega (arith, in-mirror w formed k place) in
+      rw (e, with-r-mirror w k place s)
+      (sym (planner-in-mirror planner .accepted (withR w k s) (keeps-r w formed k place s (from, room) .formed)))
+
+  releases-mirror : failedReleases test w k ≡ failedLimits test (mirror w) k
+  unfolding failedReleases failedLimits
+  releases-mirror = rw spare-mirror (first-cong (spare w k) _ _ release-mirror)
+
+  pub start-by-mirror : (whole : ℕ → Bool) → greatestStart test whole w k ≡ w .h - leastEnd test whole (mirror w) k
+  unfolding greatestStart leastEnd
+  start-by-mirror whole = rw releases-mirror (go (whole k) (failedLimits test (mirror w) k))
+    where
+      go : (t : Bool) (j : ℕ) → cond t (w .d k - w .p k) (w .d k - w .p k - j)
+          ≡ w .h - cond t (mirror w .r k + w .p k) (mirror w .r k + w .p k + j)
+      go true j = omega (arith, in-mirror w formed k place)
+      go false j = omega (arith, in-mirror w formed k place)
+
+pub late-by-mirror : (w : Windows) (k : ℕ) → k < w .n → (e : ℕ) → e ≤ w .h → latePlan w k (w .h - e) ≡ mirrorBytes (w .h) (earlyPlan (mirror w) k e)
+late-by-mirror w k place e in-day =
+    let back : w .h - (w .h - e) ≡ e = omega arith in
+    ap (λ v. mirrorBytes (w .h) (schedule v)) (sym (with-r-mirror w k place (w .h - e)) ∙ ap (withD (mirror w) k) back)
