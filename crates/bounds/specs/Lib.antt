@@ -3,3 +3,4 @@ pub mod ShownPlans
 pub mod BrokenEntries
 pub mod Demand3
 pub mod Calls
+pub mod Parts

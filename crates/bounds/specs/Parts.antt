@@ -1,0 +1,36 @@
+-- What private functions ask of each other. No public promise cites these.
+use Prim.Native.Nat.{ℕ, _<_, _≤_}
+use mathlib.Core.Path.{_≡_}
+use mathlib.Core.List.{List}
+use lib.ListN.{length}
+use Rattle.list.specs.Outcomes.{Outcome}
+use Rattle.list.specs.declared.types.DayList.{DayList}
+use Rattle.jackson.specs.Windows.{windowsOf, windowsIn}
+use Rattle.jackson.specs.Plans.{Plan, placesIn}
+use Rattle.jackson.specs.declared.types.WindowSet.{WindowSet}
+use Rattle.narrow.specs.Laws.{Formed}
+use Rattle.narrow.specs.Calls.{AnswersAs, HoldsAnswer}
+use Rattle.narrow.specs.declared.types.NarrowAnswer.{NarrowAnswer}
+use Rattle.bounds.specs.Calls.{narrowAfter}
+
+-- arrays with windows that have room, and an entry
+pub record Bounded (s : WindowSet) (k : ℕ) : Type 0 where
+  pub formed : Formed (windowsIn s)
+  pub place : k < windowsIn s .n
+
+-- arrays with windows that have room, one for each entry of the list
+pub record HoldsBounded (l : DayList) (s : WindowSet) : Type 0 where
+  pub formed : Formed (windowsIn s)
+  pub count : windowsIn s .n ≡ l .n
+
+-- the first h bytes are a plan of the list
+pub record HoldsPlan (l : DayList) (h : ℕ) (bytes : List ℕ) : Type 0 where
+  pub day : h ≡ l .frame .h
+  pub few : l .n ≤ 64
+  pub room : h ≤ length bytes
+  pub plan : Plan (windowsOf l) (placesIn bytes)
+
+-- an answer of narrowing after checks with this outcome
+pub record NarrowsAfter (checks : Outcome (Unit {0})) (l : DayList) (a : NarrowAnswer) : Type 0 where
+  pub answers : AnswersAs l (narrowAfter checks l) a
+  pub holds : HoldsAnswer l (narrowAfter checks l) a

@@ -1,0 +1,76 @@
+// Broken entries of a plan.
+use list::types::DayList;
+use narrow::is_whole;
+ghost use mathlib.Core.Path.{_≡_};
+ghost use mathlib.Core.Bool.{cond};
+ghost use Prim.Native.Nat.{_<_, _≤_};
+ghost use lib.ListN.{length, getD};
+ghost use Rattle.jackson.specs.Windows.{windowsOf};
+ghost use Rattle.jackson.specs.Plans.{placesIn, startOf, endOf};
+ghost use Rattle.narrow.specs.Calls.{wholeIn};
+ghost use Rattle.bounds.specs.BrokenEntries.{isBroken, brokenIn};
+ghost use Rattle.bounds.specs.Parts.{HoldsPlan};
+
+// The first of h minutes that place k has, h for none.
+fn start_in(plan: &[u8], h: usize, k: u8) -> usize
+    requires { ⌜ h ≤ length (now plan) ⌝ }
+    ensures { λ t. ⌜ t ≡ startOf h (placesIn (now (plan .entry))) k ⌝ }
+{
+    let mut t: usize = 0;
+    while t < h {
+        if plan[t] == k {
+            break;
+        }
+        t += 1;
+    }
+    t
+}
+
+// The minute after the last of h minutes that place k has, 0 for none.
+fn end_in(plan: &[u8], h: usize, k: u8) -> usize
+    requires { ⌜ h ≤ length (now plan) ⌝ }
+    ensures { λ t. ⌜ t ≡ endOf h (placesIn (now (plan .entry))) k ⌝ }
+{
+    let mut t = h;
+    while 0 < t {
+        if plan[t - 1] == k {
+            break;
+        }
+        t -= 1;
+    }
+    t
+}
+
+// 1 for a broken entry, 0 for another: a whole entry that has fewer minutes than lie from its start to its end.
+fn one_broken(list: DayList, h: usize, plan: &[u8], k: usize) -> u8
+    requires { ⌜ HoldsPlan list h (now plan) ⌝ }
+    requires { ⌜ k < list .n ⌝ }
+    ensures { λ x. ⌜ x ≡ cond (isBroken (wholeIn list) h (placesIn (now (plan .entry))) k) 1 0 ⌝ }
+{
+    let entry = list.entries[k];
+    let kind = entry.kind;
+    if !is_whole(kind) {
+        return 0;
+    }
+    let place = k as u8;
+    if start_in(plan, h, place) + entry.p as usize == end_in(plan, h, place) {
+        0
+    } else {
+        1
+    }
+}
+
+// How many entries are broken in the plan of h minutes.
+pub(crate) fn broken_in(list: DayList, h: usize, plan: &[u8]) -> u8
+    requires { ⌜ HoldsPlan list h (now plan) ⌝ }
+    ensures { λ x. ⌜ x ≡ brokenIn (wholeIn list) (windowsOf list) (placesIn (now (plan .entry))) ⌝ }
+{
+    let count = list.n as usize;
+    let mut sum: u8 = 0;
+    let mut i: usize = 0;
+    while i < count {
+        sum += one_broken(list, h, plan, i);
+        i += 1;
+    }
+    sum
+}

@@ -1,0 +1,144 @@
+// The calls that narrow.
+use crate::broken::broken_in;
+use crate::ends::greatest_starts;
+use crate::ends::least_end;
+use crate::ends::least_ends;
+use crate::shown::mirror_plan;
+use crate::shown::store_early;
+use crate::types::PlanAnswer;
+use crate::types::ShownAnswer;
+use jackson::mirrored;
+use jackson::untested_schedule;
+use jackson::untested_windows;
+use list::types::DayList;
+use list::types::Refusal;
+use list::types::Verdict;
+use narrow::is_whole;
+use narrow::refused_with;
+use narrow::types::NarrowAnswer;
+ghost use mathlib.Core.Path.{_≡_};
+ghost use lib.ListN.{replicate};
+ghost use Rattle.list.specs.Outcomes.{answered};
+ghost use Rattle.list.specs.Refusals.{verdictOf};
+ghost use Rattle.list.specs.Checks.{WellFormed};
+ghost use Rattle.bounds.specs.Calls.{planChecks, shownChecks, PlansDay, ShowsEarly, ShowsLate};
+ghost use Rattle.bounds.specs.Parts.{NarrowsAfter};
+
+// The value check, then row 11.
+fn plan_checks(list: DayList, room: usize) -> Verdict
+    ensures { λ v. ⌜ verdictOf v ≡ planChecks list room ⌝ }
+{
+    let verdict = list::check(list);
+    let Verdict::Accepted = verdict else {
+        return verdict;
+    };
+    let h = list.frame.h as usize;
+    if room < h {
+        return Verdict::Refused(Refusal::PlanBufferShort(h));
+    }
+    Verdict::Accepted
+}
+
+// The value check, then rows 13 and 11.
+fn shown_checks(list: DayList, k: usize, room: usize) -> Verdict
+    ensures { λ v. ⌜ verdictOf v ≡ shownChecks list k room ⌝ }
+{
+    let verdict = list::check(list);
+    let Verdict::Accepted = verdict else {
+        return verdict;
+    };
+    if list.n as usize <= k {
+        return Verdict::Refused(Refusal::UnknownPlace(k));
+    }
+    plan_checks(list, room)
+}
+
+// Narrows a list that passed the checks before 9; their refusal is handed on.
+fn settled_after(checks: Verdict, list: DayList) -> NarrowAnswer
+    requires { ⌜ (verdictOf checks ≡ answered tt → WellFormed list) ⌝ }
+    ensures { λ a. ⌜ NarrowsAfter (verdictOf checks) list a ⌝ }
+{
+    let Verdict::Accepted = checks else {
+        return refused_with(checks);
+    };
+    narrow::settle(list)
+}
+
+fn zeros() -> [u16; 64]
+    ensures { λ xs. ⌜ xs ≡ replicate 64 0 ⌝ }
+{
+    [0; 64]
+}
+
+// Plans a list: the value check, row 11, row 9 for the windows as given, then rounds and row 10, and Jackson's schedule of what they leave.
+pub fn plan_day(list: DayList, plan: &mut [u8]) -> PlanAnswer
+    ensures { λ a. ⌜ PlansDay list (now (plan .entry)) a (now (plan .exit)) ⌝ }
+{
+    let narrowed = settled_after(plan_checks(list, plan.len()), list);
+    let verdict = narrowed.verdict;
+    let Verdict::Accepted = verdict else {
+        return PlanAnswer {
+            narrowed: narrowed,
+            broken: 0,
+            ends: zeros(),
+            starts: zeros(),
+        };
+    };
+    let settled = narrowed.list;
+    let windows = untested_windows(settled);
+    let _filled = untested_schedule(windows, plan);
+    PlanAnswer {
+        narrowed: narrowed,
+        broken: broken_in(settled, windows.h as usize, plan),
+        ends: least_ends(settled, windows),
+        starts: greatest_starts(settled, windows),
+    }
+}
+
+// Shows the early plan of place k: the value check, rows 13 and 11, narrowing as for a plan, and Jackson's schedule with k's d set to its
+// least end.
+pub fn show_early(list: DayList, k: usize, plan: &mut [u8]) -> ShownAnswer
+    ensures { λ a. ⌜ ShowsEarly list k (now (plan .entry)) a (now (plan .exit)) ⌝ }
+{
+    let narrowed = settled_after(shown_checks(list, k, plan.len()), list);
+    let verdict = narrowed.verdict;
+    let Verdict::Accepted = verdict else {
+        return ShownAnswer {
+            narrowed: narrowed,
+            bound: 0,
+        };
+    };
+    let settled = narrowed.list;
+    let windows = untested_windows(settled);
+    let kind = settled.entries[k].kind;
+    let end = least_end(windows, k, is_whole(kind));
+    store_early(windows, k, end, plan);
+    ShownAnswer {
+        narrowed: narrowed,
+        bound: end,
+    }
+}
+
+// Shows the late plan of place k: as the early one, but in the mirror, and the plan is turned back.
+pub fn show_late(list: DayList, k: usize, plan: &mut [u8]) -> ShownAnswer
+    ensures { λ a. ⌜ ShowsLate list k (now (plan .entry)) a (now (plan .exit)) ⌝ }
+{
+    let narrowed = settled_after(shown_checks(list, k, plan.len()), list);
+    let verdict = narrowed.verdict;
+    let Verdict::Accepted = verdict else {
+        return ShownAnswer {
+            narrowed: narrowed,
+            bound: 0,
+        };
+    };
+    let settled = narrowed.list;
+    let windows = mirrored(untested_windows(settled));
+    let kind = settled.entries[k].kind;
+    let end = least_end(windows, k, is_whole(kind));
+    store_early(windows, k, end, plan);
+    mirror_plan(windows.h as usize, plan);
+    ShownAnswer {
+        narrowed: narrowed,
+        bound: windows.h - end,
+    }
+}

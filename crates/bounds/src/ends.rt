@@ -1,0 +1,88 @@
+// Least ends and greatest starts.
+use jackson::mirrored;
+use jackson::places_held;
+use jackson::types::WindowSet;
+use jackson::untested_overload;
+use list::types::DayList;
+use narrow::is_accepted;
+use narrow::is_whole;
+ghost use mathlib.Core.Path.{_≡_};
+ghost use Prim.Native.Nat.{_-_, _<_, _≤_};
+ghost use lib.ListN.{replicate};
+ghost use Rattle.jackson.specs.Windows.{windowsIn};
+ghost use Rattle.jackson.specs.Intervals.{overloadOf};
+ghost use Rattle.narrow.specs.Searching.{accepts, withD};
+ghost use Rattle.narrow.specs.Calls.{wholeIn};
+ghost use Rattle.bounds.specs.Ends.{leastEnd, greatestStart};
+ghost use Rattle.bounds.specs.Calls.{byPlace};
+ghost use Rattle.bounds.specs.Parts.{Bounded, HoldsBounded};
+
+// Whether a plan exists when entry k's d is e.
+fn has_plan_by(windows: WindowSet, k: usize, e: u16) -> bool
+    requires { ⌜ k < 64 ⌝ }
+    ensures { λ b. ⌜ b ≡ accepts (overloadOf (withD (windowsIn windows) k e)) ⌝ }
+{
+    let mut trial = windows;
+    trial.d[k] = e;
+    is_accepted(untested_overload(trial))
+}
+
+// The least end of entry k. That of a pause entry is found by halving, since a wider window keeps its plans: all ends below low have no
+// plan, and high is its d or has one.
+pub(crate) fn least_end(windows: WindowSet, k: usize, whole: bool) -> u16
+    requires { ⌜ Bounded windows k ⌝ }
+    ensures { λ e. ⌜ e ≡ leastEnd overloadOf (λ _. whole) (windowsIn windows) k ⌝ }
+{
+    let mut low = windows.r[k] + windows.p[k];
+    if whole {
+        return low;
+    }
+    let mut high = windows.d[k];
+    while low < high {
+        let middle = low + (high - low) / 2;
+        if has_plan_by(windows, k, middle) {
+            high = middle;
+        } else {
+            low = middle + 1;
+        }
+    }
+    low
+}
+
+fn zeros() -> [u16; 64]
+    ensures { λ xs. ⌜ xs ≡ replicate 64 0 ⌝ }
+{
+    [0; 64]
+}
+
+// The least ends of the list's entries in these windows. Places from n on are 0.
+pub(crate) fn least_ends(list: DayList, windows: WindowSet) -> [u16; 64]
+    requires { ⌜ HoldsBounded list windows ⌝ }
+    ensures { λ xs. ⌜ xs ≡ byPlace (list .n) (leastEnd overloadOf (wholeIn list) (windowsIn windows)) ⌝ }
+{
+    let mut ends = zeros();
+    let count = list.n as usize;
+    let mut i: usize = 0;
+    while i < count {
+        let kind = list.entries[i].kind;
+        ends[i] = least_end(windows, i, is_whole(kind));
+        i += 1;
+    }
+    ends
+}
+
+// The greatest starts: the mirrors of the least ends in the mirror.
+pub(crate) fn greatest_starts(list: DayList, windows: WindowSet) -> [u16; 64]
+    requires { ⌜ HoldsBounded list windows ⌝ }
+    ensures { λ xs. ⌜ xs ≡ byPlace (list .n) (greatestStart overloadOf (wholeIn list) (windowsIn windows)) ⌝ }
+{
+    let h = windows.h;
+    let mut starts = least_ends(list, mirrored(windows));
+    let count = list.n as usize;
+    let mut i: usize = 0;
+    while i < count {
+        starts[i] = h - starts[i];
+        i += 1;
+    }
+    starts
+}

@@ -1,0 +1,37 @@
+// Plans that are shown for a place.
+use jackson::types::WindowSet;
+use jackson::untested_schedule;
+ghost use mathlib.Core.Path.{_≡_};
+ghost use mathlib.Core.List.{_++_};
+ghost use Prim.Native.Nat.{_<_, _≤_};
+ghost use lib.ListN.{length, drop};
+ghost use Rattle.jackson.specs.Windows.{windowsIn};
+ghost use Rattle.jackson.specs.Mirrors.{mirrorBytes};
+ghost use Rattle.bounds.specs.ShownPlans.{earlyPlan};
+
+// Stores Jackson's schedule with entry k's d set to e.
+pub(crate) fn store_early(windows: WindowSet, k: usize, e: u16, plan: &mut [u8])
+    requires { ⌜ k < 64 ⌝ }
+    requires { ⌜ windows .h ≤ length (now plan) ⌝ }
+    ensures { λ _. ⌜ now (plan .exit) ≡ earlyPlan (windowsIn windows) k e ++ drop (windows .h) (now (plan .entry)) ⌝ }
+{
+    let mut shown = windows;
+    shown.d[k] = e;
+    let _filled = untested_schedule(shown, plan);
+}
+
+// Turns the plan of h minutes round: "minute t becomes H-1-t".
+pub(crate) fn mirror_plan(h: usize, plan: &mut [u8])
+    requires { ⌜ h ≤ length (now plan) ⌝ }
+    ensures { λ _. ⌜ now (plan .exit) ≡ mirrorBytes h (now (plan .entry)) ++ drop h (now (plan .entry)) ⌝ }
+{
+    let mut first: usize = 0;
+    let mut end = h;
+    while first < end {
+        end -= 1;
+        let place = plan[first];
+        plan[first] = plan[end];
+        plan[end] = place;
+        first += 1;
+    }
+}
