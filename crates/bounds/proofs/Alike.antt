@@ -59,12 +59,12 @@ module _ {a b : DayList} (s : SameTimes a b) where
   -- what showing the early and the late plan of place k answers beside them, and leaves in a plan buffer
   pub times-least-end : (k room : ℕ)
       → settledOr 0 (λ w. leastEnd overloadOf (wholeIn a) w k) (shownOf a k room)
-        ≡ settledOr 0 (λ w. leastEnd overloadOf (wholeIn b) w k) (shownOf b k room)
+      ≡ settledOr 0 (λ w. leastEnd overloadOf (wholeIn b) w k) (shownOf b k room)
   times-least-end k room = λ j. settledOr 0 (λ w. leastEnd overloadOf (times-whole s j) w k) (times-shown k room j)
 
   pub times-greatest-start : (k room : ℕ)
       → settledOr 0 (λ w. greatestStart overloadOf (wholeIn a) w k) (shownOf a k room)
-        ≡ settledOr 0 (λ w. greatestStart overloadOf (wholeIn b) w k) (shownOf b k room)
+      ≡ settledOr 0 (λ w. greatestStart overloadOf (wholeIn b) w k) (shownOf b k room)
   times-greatest-start k room = λ j. settledOr 0 (λ w. greatestStart overloadOf (times-whole s j) w k) (times-shown k room j)
 
   pub times-early : (k : ℕ) (old : List ℕ)
