@@ -15,7 +15,7 @@ use Rattle.narrow.specs.Rounds.{narrowing}
 use Rattle.narrow.specs.Calls.{wholeIn, SameTimes, listed}
 use Rattle.narrow.proofs.Alike.{same-times, times-windows, times-whole, same-listed}
 use Rattle.bounds.specs.Ends.{leastEnd, greatestStart}
-use Rattle.bounds.specs.Calls.{beforeNine, bufferRow, placeRow, planChecks, shownChecks, narrowAfter, settledOr, planned}
+use Rattle.bounds.specs.Calls.{beforeNine, planChecks, shownChecks, narrowAfter, settledOr, planned}
 use Rattle.bounds.specs.Calls.{planOf, leastEnds, greatestStarts, brokenOf, shownOf, earlyOf, lateOf}
 
 -- windows, moves, refusals, bounds, broken entries and plans do not depend on serials and seals, nor on what stands from n on

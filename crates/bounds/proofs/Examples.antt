@@ -100,6 +100,7 @@ bytesH = 1 ∷ 0 ∷ 0 ∷ []
 abbrev pub listH : DayList
 listH = day 1 []
 
+-- the examples
 pub record Examples : Type 0 where
   -- "serials all differ"
   pub serials : serialsOf listA ++ serialsOf listB ++ serialsOf listC ++ serialsOf listC1 ++ serialsOf listD
@@ -135,7 +136,7 @@ pub record Examples : Type 0 where
   pub h-accepted : Gives listH (answered (listH, 0))
   pub h-plan : bytesOf listH ≡ 255 ∷ []
 
--- A plan for (b) gives all four minutes away, and minute 3 is not place 0's.
+-- (b) over all plans: the four minutes are all given to an entry, and minute 3 cannot be place 0's.
 
 module _ (m : ℕ → ℕ) (plan : Plan (windowsOf listB) m) where
   -- no minute is both places'
@@ -205,6 +206,17 @@ plan-is = record { exact = exact; inside = inside }
     inside (suc zero) t place below e = (omega arith, omega arith)
     inside (suc (suc i)) t place below e = absurd (omega arith)
 
+ends-at-4 : IsEnd 4 planB 1 4
+ends-at-4 = record { after-one = omega arith; within = omega arith; minute = refl; none-after = λ t l b e. omega arith }
+
+starts-at-2 : IsStart 4 planB 1 2
+starts-at-2 = record { below = omega arith; minute = refl; none-before = none }
+  where
+    none : (t : ℕ) → t < 2 → planB t ≡ 1 → ⊥
+    none zero l e = absurd (omega (arith, e))
+    none (suc zero) l e = absurd (omega (arith, e))
+    none (suc (suc t)) l e = absurd (omega arith)
+
 -- Outcomes and bytes are computed.
 pub examples : Examples
 unfolding readOf bodyOf entriesFrom checkOf headerFault entriesFault entryFault
@@ -219,16 +231,8 @@ examples =
       a-round-three = refl;
       a-settled = record { narrowed = refl; planned = refl };
       b-no-move = record { narrowed = refl; planned = refl };
-      b-least-end =
-          record {
-            bound = end-at-least;
-            reached = (planB, plan-is, record { after-one = omega arith; within = omega arith; minute = refl; none-after = λ t l b e. omega arith });
-          };
-      b-greatest-start =
-          record {
-            bound = start-at-most;
-            reached = (planB, plan-is, record { below = omega arith; minute = refl; none-before = none });
-          };
+      b-least-end = record { bound = end-at-least; reached = (planB, plan-is, ends-at-4) };
+      b-greatest-start = record { bound = start-at-most; reached = (planB, plan-is, starts-at-2) };
       b-end-answered = refl;
       b-start-answered = refl;
       c-refused = record { narrowed = refl; planned = refl };
@@ -243,8 +247,3 @@ examples =
       h-accepted = record { narrowed = refl; planned = refl };
       h-plan = refl;
     }
-  where
-    none : (t : ℕ) → t < 2 → planB t ≡ 1 → ⊥
-    none zero l e = absurd (omega (arith, e))
-    none (suc zero) l e = absurd (omega (arith, e))
-    none (suc (suc t)) l e = absurd (omega arith)
