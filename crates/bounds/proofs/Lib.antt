@@ -3,3 +3,6 @@ pub mod EndSearches
 pub mod MirrorEnds
 -- In settled windows these are bounds over all plans, and the plans shown have them.
 pub mod EndBounds
+-- Lists that are planned alike, and document 01's examples.
+pub mod Alike
+pub mod Examples

@@ -55,7 +55,7 @@ module _ {a b : DayList} (s : SameList a b) where
   unfolding listWith
   same-with w = λ j. dayList (s .frame j) (entriesWith w 0 (s .entries j))
 
-  same-listed : {o u : Outcome Narrowed} → o ≡ u → listed a o ≡ listed b u
+  pub same-listed : {o u : Outcome Narrowed} → o ≡ u → listed a o ≡ listed b u
   same-listed e = λ j. andThen (e j) (λ v. answered (same-with (v .windows) j, v .moves))
 
   pub same-settled : listed a (settleOf a) ≡ listed b (settleOf b)

@@ -1,0 +1,84 @@
+-- Lists that are planned alike: those that differ in serials and seals alone, and so those equal by document 01's rule.
+-- Assumes nothing.
+use Prim.Native.Nat.{ℕ}
+use mathlib.Core.Path.{_≡_}
+use mathlib.Core.List.{List, [], _∷_}
+use lib.ListN.{length}
+use lib.Dec.{leb, ltb}
+use Rattle.list.specs.Outcomes.{Row, row, Outcome, answered, firstOf, andThen}
+use Rattle.list.specs.DayLists.{SameList}
+use Rattle.list.specs.declared.types.DayList.{DayList}
+use Rattle.jackson.specs.Intervals.{overloadOf}
+use Rattle.jackson.specs.Minutes.{schedule}
+use Rattle.jackson.proofs.Alike.{alike-windows, alike-checked}
+use Rattle.narrow.specs.Rounds.{narrowing}
+use Rattle.narrow.specs.Calls.{wholeIn, SameTimes, listed}
+use Rattle.narrow.proofs.Alike.{same-times, times-windows, times-whole, same-listed}
+use Rattle.bounds.specs.Ends.{leastEnd, greatestStart}
+use Rattle.bounds.specs.Calls.{beforeNine, planChecks, shownChecks, narrowAfter, settledOr, planned}
+use Rattle.bounds.specs.Calls.{planOf, leastEnds, greatestStarts, brokenOf, shownOf, earlyOf, lateOf}
+
+-- windows, moves, refusals, bounds, broken entries and plans do not depend on serials and seals, nor on what stands from n on
+module _ {a b : DayList} (s : SameTimes a b) where
+  -- the checks before 9
+  times-before : {x y : List Row} → x ≡ y → beforeNine a x ≡ beforeNine b y
+  times-before e = λ j. andThen (alike-checked (times-windows s) j) (λ _. firstOf (e j) (answered tt))
+
+  pub times-plan-checked : (room : ℕ) → planChecks a room ≡ planChecks b room
+  unfolding planChecks
+  times-plan-checked room = times-before (λ j. row 11 (ltb room (s .frame j .h)) (s .frame j .h) ∷ [])
+
+  pub times-shown-checked : (k room : ℕ) → shownChecks a k room ≡ shownChecks b k room
+  unfolding shownChecks
+  times-shown-checked k room =
+      times-before (λ j. row 13 (leb (s .n j) k) k ∷ row 11 (ltb room (s .frame j .h)) (s .frame j .h) ∷ [])
+
+  -- the settled windows and the moves, or the refusal
+  times-after : {x y : Outcome (Unit {0})} → x ≡ y → narrowAfter x a ≡ narrowAfter y b
+  times-after e = λ j. andThen (e j) (λ _. narrowing overloadOf (times-whole s j) (alike-windows (times-windows s) j))
+
+  pub times-planned : (room : ℕ) → planOf a room ≡ planOf b room
+  times-planned room = times-after (times-plan-checked room)
+
+  pub times-shown : (k room : ℕ) → shownOf a k room ≡ shownOf b k room
+  times-shown k room = times-after (times-shown-checked k room)
+
+  -- what planning answers beside them, and leaves in a plan buffer
+  pub times-ends : (room : ℕ) → leastEnds (wholeIn a) (planOf a room) ≡ leastEnds (wholeIn b) (planOf b room)
+  times-ends room = λ j. leastEnds (times-whole s j) (times-planned room j)
+
+  pub times-starts : (room : ℕ) → greatestStarts (wholeIn a) (planOf a room) ≡ greatestStarts (wholeIn b) (planOf b room)
+  times-starts room = λ j. greatestStarts (times-whole s j) (times-planned room j)
+
+  pub times-broken : (room : ℕ) → brokenOf (wholeIn a) (planOf a room) ≡ brokenOf (wholeIn b) (planOf b room)
+  times-broken room = λ j. brokenOf (times-whole s j) (times-planned room j)
+
+  pub times-plan : (old : List ℕ) → planned schedule old (planOf a (length old)) ≡ planned schedule old (planOf b (length old))
+  times-plan old = λ j. planned schedule old (times-planned (length old) j)
+
+  -- what showing the early and the late plan of place k answers beside them, and leaves in a plan buffer
+  pub times-least-end : (k room : ℕ)
+      → settledOr 0 (λ w. leastEnd overloadOf (wholeIn a) w k) (shownOf a k room)
+      ≡ settledOr 0 (λ w. leastEnd overloadOf (wholeIn b) w k) (shownOf b k room)
+  times-least-end k room = λ j. settledOr 0 (λ w. leastEnd overloadOf (times-whole s j) w k) (times-shown k room j)
+
+  pub times-greatest-start : (k room : ℕ)
+      → settledOr 0 (λ w. greatestStart overloadOf (wholeIn a) w k) (shownOf a k room)
+      ≡ settledOr 0 (λ w. greatestStart overloadOf (wholeIn b) w k) (shownOf b k room)
+  times-greatest-start k room = λ j. settledOr 0 (λ w. greatestStart overloadOf (times-whole s j) w k) (times-shown k room j)
+
+  pub times-early : (k : ℕ) (old : List ℕ)
+      → planned (earlyOf (wholeIn a) k) old (shownOf a k (length old)) ≡ planned (earlyOf (wholeIn b) k) old (shownOf b k (length old))
+  times-early k old = λ j. planned (earlyOf (times-whole s j) k) old (times-shown k (length old) j)
+
+  pub times-late : (k : ℕ) (old : List ℕ)
+      → planned (lateOf (wholeIn a) k) old (shownOf a k (length old)) ≡ planned (lateOf (wholeIn b) k) old (shownOf b k (length old))
+  times-late k old = λ j. planned (lateOf (times-whole s j) k) old (times-shown k (length old) j)
+
+-- lists that are equal get equal answers: beside those above, which hold of them by `same-times`, the list answered
+module _ {a b : DayList} (s : SameList a b) where
+  pub same-planned : (room : ℕ) → listed a (planOf a room) ≡ listed b (planOf b room)
+  same-planned room = same-listed s (times-planned (same-times s) room)
+
+  pub same-shown : (k room : ℕ) → listed a (shownOf a k room) ≡ listed b (shownOf b k room)
+  same-shown k room = same-listed s (times-shown (same-times s) k room)
