@@ -1,17 +1,20 @@
 -- What private functions ask of each other. No public promise cites these.
 use Prim.Native.Nat.{ℕ, _<_, _≤_}
 use mathlib.Core.Path.{_≡_}
-use mathlib.Core.List.{List}
-use lib.ListN.{length}
+use mathlib.Core.Bool.{Bool}
+use mathlib.Core.List.{List, _++_}
+use lib.ListN.{length, drop}
 use Rattle.list.specs.Outcomes.{Outcome}
 use Rattle.list.specs.declared.types.DayList.{DayList}
-use Rattle.jackson.specs.Windows.{windowsOf, windowsIn}
+use Rattle.jackson.specs.Windows.{Windows, windowsOf, windowsIn}
 use Rattle.jackson.specs.Plans.{Plan, placesIn}
+use Rattle.jackson.specs.Intervals.{overloadOf}
 use Rattle.jackson.specs.declared.types.WindowSet.{WindowSet}
 use Rattle.narrow.specs.Laws.{Formed}
 use Rattle.narrow.specs.Calls.{AnswersAs, HoldsAnswer}
 use Rattle.narrow.specs.declared.types.NarrowAnswer.{NarrowAnswer}
-use Rattle.bounds.specs.Calls.{narrowAfter}
+use Rattle.bounds.specs.Ends.{leastEnd}
+use Rattle.bounds.specs.Calls.{narrowAfter, earlyOf}
 
 -- arrays with windows that have room, and an entry
 pub record Bounded (s : WindowSet) (k : ℕ) : Type 0 where
@@ -22,6 +25,11 @@ pub record Bounded (s : WindowSet) (k : ℕ) : Type 0 where
 pub record HoldsBounded (l : DayList) (s : WindowSet) : Type 0 where
   pub formed : Formed (windowsIn s)
   pub count : windowsIn s .n ≡ l .n
+
+-- the least end of entry k is answered, and the early plan stands in a plan buffer that held old
+pub record StoresEarly (whole : ℕ → Bool) (w : Windows) (k : ℕ) (old : List ℕ) (e : ℕ) (new : List ℕ) : Type 0 where
+  pub bound : e ≡ leastEnd overloadOf whole w k
+  pub buffer : new ≡ earlyOf whole k w ++ drop (w .h) old
 
 -- the first h bytes are a plan of the list
 pub record HoldsPlan (l : DayList) (h : ℕ) (bytes : List ℕ) : Type 0 where

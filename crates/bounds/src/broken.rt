@@ -1,6 +1,6 @@
 // Broken entries of a plan.
+use crate::ends::whole_at;
 use list::types::DayList;
-use narrow::is_whole;
 ghost use mathlib.Core.Path.{_≡_};
 ghost use mathlib.Core.Bool.{cond};
 ghost use Prim.Native.Nat.{_<_, _≤_};
@@ -47,13 +47,12 @@ fn one_broken(list: DayList, h: usize, plan: &[u8], k: usize) -> u8
     requires { ⌜ k < list .n ⌝ }
     ensures { λ x. ⌜ x ≡ cond (isBroken (wholeIn list) h (placesIn (now (plan .entry))) k) 1 0 ⌝ }
 {
-    let entry = list.entries[k];
-    let kind = entry.kind;
-    if !is_whole(kind) {
+    if !whole_at(list, k) {
         return 0;
     }
     let place = k as u8;
-    if start_in(plan, h, place) + entry.p as usize == end_in(plan, h, place) {
+    let p = list.entries[k].p;
+    if start_in(plan, h, place) + p as usize == end_in(plan, h, place) {
         0
     } else {
         1

@@ -1,8 +1,9 @@
 // The calls that narrow.
 use crate::broken::broken_in;
 use crate::ends::greatest_starts;
-use crate::ends::least_end;
 use crate::ends::least_ends;
+use crate::ends::whole_at;
+use crate::ends::zeros;
 use crate::shown::mirror_plan;
 use crate::shown::store_early;
 use crate::types::PlanAnswer;
@@ -13,11 +14,9 @@ use jackson::untested_windows;
 use list::types::DayList;
 use list::types::Refusal;
 use list::types::Verdict;
-use narrow::is_whole;
 use narrow::refused_with;
 use narrow::types::NarrowAnswer;
 ghost use mathlib.Core.Path.{_≡_};
-ghost use lib.ListN.{replicate};
 ghost use Rattle.list.specs.Outcomes.{answered};
 ghost use Rattle.list.specs.Refusals.{verdictOf};
 ghost use Rattle.list.specs.Checks.{WellFormed};
@@ -64,12 +63,6 @@ fn settled_after(checks: Verdict, list: DayList) -> NarrowAnswer
     narrow::settle(list)
 }
 
-fn zeros() -> [u16; 64]
-    ensures { λ xs. ⌜ xs ≡ replicate 64 0 ⌝ }
-{
-    [0; 64]
-}
-
 // Plans a list: the value check, row 11, row 9 for the windows as given, then rounds and row 10, and Jackson's schedule of what they leave.
 pub fn plan_day(list: DayList, plan: &mut [u8]) -> PlanAnswer
     ensures { λ a. ⌜ PlansDay list (now (plan .entry)) a (now (plan .exit)) ⌝ }
@@ -109,13 +102,9 @@ pub fn show_early(list: DayList, k: usize, plan: &mut [u8]) -> ShownAnswer
         };
     };
     let settled = narrowed.list;
-    let windows = untested_windows(settled);
-    let kind = settled.entries[k].kind;
-    let end = least_end(windows, k, is_whole(kind));
-    store_early(windows, k, end, plan);
     ShownAnswer {
         narrowed: narrowed,
-        bound: end,
+        bound: store_early(untested_windows(settled), k, whole_at(settled, k), plan),
     }
 }
 
@@ -133,9 +122,7 @@ pub fn show_late(list: DayList, k: usize, plan: &mut [u8]) -> ShownAnswer
     };
     let settled = narrowed.list;
     let windows = mirrored(untested_windows(settled));
-    let kind = settled.entries[k].kind;
-    let end = least_end(windows, k, is_whole(kind));
-    store_early(windows, k, end, plan);
+    let end = store_early(windows, k, whole_at(settled, k), plan);
     mirror_plan(windows.h as usize, plan);
     ShownAnswer {
         narrowed: narrowed,

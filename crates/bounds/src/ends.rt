@@ -17,6 +17,17 @@ ghost use Rattle.bounds.specs.Ends.{leastEnd, greatestStart};
 ghost use Rattle.bounds.specs.Calls.{byPlace};
 ghost use Rattle.bounds.specs.Parts.{Bounded, HoldsBounded};
 
+// Whether the entry at place k is whole.
+pub(crate) fn whole_at(list: DayList, k: usize) -> bool
+    requires { ⌜ k < list .n ⌝ }
+    requires { ⌜ list .n ≤ 64 ⌝ }
+    ensures { λ b. ⌜ b ≡ wholeIn list k ⌝ }
+{
+    let entry = list.entries[k];
+    let kind = entry.kind;
+    is_whole(kind)
+}
+
 // Whether a plan exists when entry k's d is e.
 fn has_plan_by(windows: WindowSet, k: usize, e: u16) -> bool
     requires { ⌜ k < 64 ⌝ }
@@ -49,7 +60,8 @@ pub(crate) fn least_end(windows: WindowSet, k: usize, whole: bool) -> u16
     low
 }
 
-fn zeros() -> [u16; 64]
+// A 0 for each place.
+pub(crate) fn zeros() -> [u16; 64]
     ensures { λ xs. ⌜ xs ≡ replicate 64 0 ⌝ }
 {
     [0; 64]
@@ -64,8 +76,7 @@ pub(crate) fn least_ends(list: DayList, windows: WindowSet) -> [u16; 64]
     let count = list.n as usize;
     let mut i: usize = 0;
     while i < count {
-        let kind = list.entries[i].kind;
-        ends[i] = least_end(windows, i, is_whole(kind));
+        ends[i] = least_end(windows, i, whole_at(list, i));
         i += 1;
     }
     ends

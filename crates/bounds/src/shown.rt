@@ -1,23 +1,26 @@
 // Plans that are shown for a place.
+use crate::ends::least_end;
 use jackson::types::WindowSet;
 use jackson::untested_schedule;
 ghost use mathlib.Core.Path.{_≡_};
 ghost use mathlib.Core.List.{_++_};
-ghost use Prim.Native.Nat.{_<_, _≤_};
+ghost use Prim.Native.Nat.{_≤_};
 ghost use lib.ListN.{length, drop};
 ghost use Rattle.jackson.specs.Windows.{windowsIn};
 ghost use Rattle.jackson.specs.Mirrors.{mirrorBytes};
-ghost use Rattle.bounds.specs.ShownPlans.{earlyPlan};
+ghost use Rattle.bounds.specs.Parts.{Bounded, StoresEarly};
 
-// Stores Jackson's schedule with entry k's d set to e.
-pub(crate) fn store_early(windows: WindowSet, k: usize, e: u16, plan: &mut [u8])
-    requires { ⌜ k < 64 ⌝ }
+// Stores Jackson's schedule with entry k's d set to its least end, and answers that end.
+pub(crate) fn store_early(windows: WindowSet, k: usize, whole: bool, plan: &mut [u8]) -> u16
+    requires { ⌜ Bounded windows k ⌝ }
     requires { ⌜ windows .h ≤ length (now plan) ⌝ }
-    ensures { λ _. ⌜ now (plan .exit) ≡ earlyPlan (windowsIn windows) k e ++ drop (windows .h) (now (plan .entry)) ⌝ }
+    ensures { λ e. ⌜ StoresEarly (λ _. whole) (windowsIn windows) k (now (plan .entry)) e (now (plan .exit)) ⌝ }
 {
+    let end = least_end(windows, k, whole);
     let mut shown = windows;
-    shown.d[k] = e;
+    shown.d[k] = end;
     let _filled = untested_schedule(shown, plan);
+    end
 }
 
 // Turns the plan of h minutes round: "minute t becomes H-1-t".
