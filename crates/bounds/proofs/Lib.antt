@@ -3,3 +3,4 @@ pub mod EndSearches
 pub mod MirrorEnds
 -- In settled windows these are bounds over all plans, and the plans shown have them.
 pub mod EndBounds
+pub mod StartBounds
