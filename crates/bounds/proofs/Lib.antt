@@ -4,3 +4,5 @@ pub mod MirrorEnds
 -- In settled windows these are bounds over all plans, and the plans shown have them.
 pub mod EndBounds
 pub mod StartBounds
+-- Entries counted as broken are those whose minutes are not consecutive.
+pub mod BrokenFacts
