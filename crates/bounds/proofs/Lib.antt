@@ -6,3 +6,5 @@ pub mod EndBounds
 pub mod StartBounds
 -- Entries counted as broken are those whose minutes are not consecutive.
 pub mod BrokenFacts
+-- Demand 3 of what is told by these definitions, and demand 2 of Jackson's schedule. The crates above are to cite this.
+pub mod Demands
