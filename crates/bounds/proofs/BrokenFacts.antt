@@ -34,6 +34,7 @@ module _ (h : ℕ) (m : ℕ → ℕ) (i : ℕ) (some : 1 ≤ minutesOf h m i) wh
   abbrev end : ℕ
   end = endOf h m i
 
+  -- it has a start and an end, and all its minutes lie between
   begins : IsStart h m i start
   begins = start-is h m i some
 
@@ -55,8 +56,8 @@ module _ (h : ℕ) (m : ℕ → ℕ) (i : ℕ) (some : 1 ≤ minutesOf h m i) wh
       let in-day = ends .within in
       let first = run .only start (begins .below) (begins .minute) in
       let last = run .only (end - 1) (omega arith) (ends .minute) in
-      omega (arith, minutes-within h m i start end within,
-      minutes-from h m i start end (λ t below l u. run .each t below (omega arith) (omega arith)))
+      let many = minutes-from h m i start end (λ t below l u. run .each t below (omega arith) (omega arith)) in
+      omega (arith, minutes-within h m i start end within)
 
   pub broken-exactly : (whole : ℕ → Bool) → (isBroken whole h m i ≡ true) ↔ Broken whole h m i
   broken-exactly whole = (there (whole i) refl, back)

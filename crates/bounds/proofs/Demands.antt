@@ -6,12 +6,12 @@ use Prim.Native.Nat.{ℕ, _<_}
 use native.Mathlib.Omega.{arith}
 use Rattle.list.specs.Outcomes.{answered}
 use Rattle.jackson.specs.Windows.{Windows}
-use Rattle.jackson.specs.Plans.{IsStart, IsEnd, placesIn, PlanBytes}
+use Rattle.jackson.specs.Plans.{placesIn, PlanBytes}
 use Rattle.jackson.specs.Existence.{Plannable}
 use Rattle.jackson.specs.Intervals.{overloadOf}
 use Rattle.jackson.specs.Minutes.{schedule}
 use Rattle.jackson.proofs.Law.{schedule-law}
-use Rattle.narrow.specs.Settling.{Settled, Widest}
+use Rattle.narrow.specs.Settling.{Widest}
 use Rattle.narrow.specs.Rounds.{Narrowed, narrowing}
 use Rattle.narrow.specs.Laws.{Formed, NarrowLaw}
 use Rattle.narrow.proofs.OverloadPlanner.{formed-roomy, overload-planner}
@@ -19,7 +19,6 @@ use Rattle.narrow.proofs.MirrorSettled.{set-formed}
 use Rattle.narrow.proofs.Fixpoints.{widest-set}
 use Rattle.narrow.proofs.NarrowLaws.{narrow-law}
 use Rattle.bounds.specs.Ends.{leastEnd, greatestStart}
-use Rattle.bounds.specs.ShownPlans.{IsEarly, IsLate}
 use Rattle.bounds.specs.BrokenEntries.{brokenIn}
 use Rattle.bounds.specs.Demand3.{Told, Demand3}
 use Rattle.bounds.specs.Calls.{PlansWindows, earlyOf, lateOf}

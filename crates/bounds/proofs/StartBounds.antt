@@ -1,7 +1,7 @@
 -- In settled windows no plan has a start after the greatest start, and the late plan has that: the mirror of EndBounds.antt.
 -- Assumes nothing.
 use mathlib.Core.Path.{_≡_, sym, ap, _∙_}
-use mathlib.Core.Bool.{Bool, true}
+use mathlib.Core.Bool.{Bool}
 use mathlib.Core.List.{List}
 use Prim.Native.Nat.{ℕ, suc, _+_, _-_, _<_, _≤_, min}
 use native.Mathlib.Omega.{arith}
@@ -61,16 +61,16 @@ module _ (whole : ℕ → Bool) (w : Windows) (formed : Formed w) (k : ℕ) (pla
       -- p minutes from s on are in the day
       in-day : (s : ℕ) → Consecutive (w .h) (placesIn bs) k s (s + w .p k) → s + w .p k ≤ w .h
       in-day s run =
-          omega (arith, formed .minutes k place, bytes .plan .exact k place,
-          minutes-within (w .h) (placesIn bs) k s (min (s + w .p k) (w .h))
-          (λ t below q. let z = run .only t below q in (z .0, omega (arith, z .1))))
+          let b = min (s + w .p k) (w .h) in
+          let most = minutes-within (w .h) (placesIn bs) k s b (λ t below q. let z = run .only t below q in (z .0, omega (arith, z .1))) in
+          omega (arith, formed .minutes k place, bytes .plan .exact k place)
 
       turned : (s : ℕ) → Consecutive (w .h) (placesIn bs) k s (s + w .p k)
           → (s : ℕ) × Consecutive (w .h) (placesIn (mirrorBytes (w .h) bs)) k s (s + w .p k)
       turned s run =
           let e : w .h - (s + w .p k) + w .p k ≡ w .h - s = omega (arith, in-day s run) in
-          (w .h - (s + w .p k),
-          rw e (consecutive-same (w .h) _ _ k _ _ (mirror-at (w .h) bs) (consecutive-mirror (w .h) (placesIn bs) k s (s + w .p k) run)))
+          let back = consecutive-mirror (w .h) (placesIn bs) k s (s + w .p k) run in
+          (w .h - (s + w .p k), rw e (consecutive-same (w .h) _ _ k _ _ (mirror-at (w .h) bs) back))
 
 module _ {test : Test} (planner : Planner test) (whole : ℕ → Bool) (w : Windows) (formed : Formed w) (k : ℕ) (place : k < w .n) where
   -- the least end of the mirror
@@ -79,8 +79,9 @@ module _ {test : Test} (planner : Planner test) (whole : ℕ → Bool) (w : Wind
 
   pub start-bound : (m : ℕ → ℕ) → Keeping whole w k m → (s : ℕ) → IsStart (w .h) m k s → s ≤ greatestStart test whole w k
   start-bound m keeping s start =
-      omega (arith, start .below, start-by-mirror planner w formed k place whole,
-      end-least planner whole (mirror w) (formed-mirror w formed) k place _ (mirror-plan w m (keeping .plan)) _ (start-mirror (w .h) m k s start))
+      let there = formed-mirror w formed in
+      let bound = end-least planner whole (mirror w) there k place _ (mirror-plan w m (keeping .plan)) _ (start-mirror (w .h) m k s start) in
+      omega (arith, start .below, start-by-mirror planner w formed k place whole)
 
   pub late-is : Settled whole w → IsLate whole w k (greatestStart test whole w k) (latePlan w k (greatestStart test whole w k))
   late-is settled =
