@@ -4,7 +4,7 @@
 use dock_tests::abi::Call;
 use dock_tests::check_bounds::{ask, ask_all, asked, calls, refused};
 use dock_tests::day::{Day, IDLE, LONGEST_DAY, MOST_ENTRIES};
-use dock_tests::samples::{boxes, plan, whole, windows};
+use dock_tests::samples::{self, boxes, plan, whole, windows};
 use dock_tests::{chains, flat};
 
 /// The same list with all its entries whole.
@@ -170,16 +170,7 @@ fn a_pause_entry_around_one_that_leaves_two_minutes() {
 /// More moves than a byte counts, and all of them carried.
 #[test]
 fn more_than_255_moves() {
-    let part = boxes(
-        100,
-        "w[16,96)5 w[8,97)9 w[13,88)9 w[11,94)5 w[10,95)5 w[16,97)6 w[10,100)5 w[17,98)10
-         w[5,97)5 w[8,94)7 w[83,97)5 w[2,98)3 w[3,22)7 w[4,15)8 w[89,98)3 w[93,97)3",
-    );
-    let mut entries = vec![];
-    for entry in &part.entries {
-        entries.extend((0..4).map(|part| (entry.r + 360 * part, entry.d + 360 * part, entry.p)));
-    }
-    let day = all_whole(windows(LONGEST_DAY, &entries));
+    let day = samples::four_of(&samples::many_moves());
     for call in [Call::Plan, Call::Early(63), Call::Late(0)] {
         assert_eq!(asked(call, &day).0.values[0], 272, "{call:?}");
     }
