@@ -33,7 +33,7 @@ fn some_shown(fields: &Fields, first: usize) {
 #[test]
 fn full_loose_days() {
     let mut random = Random::new(161);
-    for turn in 0..9 {
+    for turn in 0..5 {
         let wider = random.pick(&[15, 30, 60]);
         let day = random::full_day(&mut random, true, wider, [0, 2, 4][turn % 3]);
         let (values, lent) = planned(&day);
@@ -51,7 +51,7 @@ fn full_loose_days() {
 fn full_tight_days() {
     let mut random = Random::new(162);
     let mut moves = 0;
-    for (wider, pause) in [(10, 0), (20, 2), (30, 4), (60, 2)] {
+    for (wider, pause) in [(10, 0), (20, 2), (40, 4)] {
         let day = random::full_day(&mut random, false, wider, pause);
         moves += planned(&day).0[0];
     }
@@ -80,7 +80,7 @@ fn full_days_of_pause_entries() {
 fn full_days_with_broken_entries() {
     let mut random = Random::new(164);
     let (mut planned_days, mut broken) = (0, 0);
-    for _ in 0..12 {
+    for _ in 0..8 {
         let mut day = random::planned_day(&mut random, LONGEST_DAY, MOST_ENTRIES, 3, &[1, 5, 15, 60]);
         day.entries.iter_mut().for_each(|entry| entry.whole = random.once_in(4));
         let (answer, lent) = ask(Call::Plan, &flat::of_day(&day), LONGEST);

@@ -47,8 +47,13 @@ fn values_at_the_limits_are_planned() {
     values::accepted(|fields| {
         let (answer, lent) = ask(Call::Plan, fields, 2000);
         assert_eq!((answer.number, answer.values), (0, [0, 0, 0]));
-        for call in calls(fields[1] as usize) {
+        let places = [0, u64::from(fields[1]).saturating_sub(1)];
+        for call in places.into_iter().flat_map(|place| [Call::Early(place), Call::Late(place)]) {
             let (answer, shown) = ask(call, fields, 2000);
+            if fields[1] == 0 {
+                assert_eq!(answer.number, 13, "{call:?}");
+                continue;
+            }
             assert_eq!((answer.number, answer.values[0]), (0, 0), "{call:?}");
             assert!(shown.narrowed == lent.narrowed, "{call:?}");
         }
