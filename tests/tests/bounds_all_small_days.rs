@@ -3,8 +3,10 @@
 
 use dock_tests::abi::Call;
 use dock_tests::check_bounds::{ask, ask_all, by_trying_everything, calls, refused};
+use dock_tests::narrow::Narrowed;
+use dock_tests::settled::Plans;
 use dock_tests::small::{days_of_both_kinds, days_up_to};
-use dock_tests::{brute, flat, settled::Plans};
+use dock_tests::{bounds, brute, flat};
 
 /// How many of the days are planned, refused with 9 and refused with 10.
 const PLANNED: usize = 16_766;
@@ -59,18 +61,38 @@ fn every_place_and_buffers_of_every_length() {
     }
 }
 
-/// The bounds found from all plans are themselves held against the definitions, plan by plan: some plan has
-/// this end or start and none goes further, where a whole entry is kept in one piece.
+/// The bounds found from all plans are themselves held against the definition, minute by minute: "Its end is
+/// its last minute plus 1, its start its first minute."
 #[test]
-fn the_bounds_are_those_of_some_plan_and_no_plan_goes_further() {
+fn bounds_over_all_plans_are_those_of_their_minutes() {
     for day in days_up_to(4, 2).filter(brute::has_plan) {
         let plans = brute::plans(&day);
         for place in (0..day.entries.len()).filter(|&place| !day.entries[place].whole) {
-            let ends = plans.iter().map(|plan| plan.iter().rposition(|&byte| byte == place as u8));
-            let starts = plans.iter().map(|plan| plan.iter().position(|&byte| byte == place as u8));
-            let wanted = (ends.min().flatten(), starts.max().flatten());
+            let last = plans.iter().map(|plan| plan.iter().rposition(|&byte| byte == place as u8));
+            let first = plans.iter().map(|plan| plan.iter().position(|&byte| byte == place as u8));
+            let wanted = (last.min().flatten(), first.max().flatten());
             let (end, start) = Plans::of(&day).bounds(place);
             assert_eq!((Some(usize::from(end) - 1), Some(usize::from(start))), wanted, "{place} of {day:?}");
+        }
+    }
+}
+
+/// The second planner and trying everything agree with each other, whatever the library does.
+#[test]
+fn the_second_planner_agrees_with_trying_everything() {
+    for day in days_up_to(4, 2) {
+        let value = flat::value(&flat::of_day(&day));
+        let Ok(Narrowed { day: settled, .. }) = bounds::settle(Call::Plan, &value, day.h.into()) else {
+            continue;
+        };
+        let plans = Plans::of(&settled);
+        for place in 0..day.entries.len() {
+            let (end, start) = (bounds::least_end(&settled, place), bounds::greatest_start(&settled, place));
+            assert_eq!((end, start), plans.bounds(place), "{place} of {settled:?}");
+            for plan in [bounds::early_plan(&settled, place, end), bounds::late_plan(&settled, place, start)]
+            {
+                assert!(brute::is_plan(&settled, &plan), "{plan:?} of {settled:?}");
+            }
         }
     }
 }

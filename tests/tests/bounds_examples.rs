@@ -209,6 +209,13 @@ fn an_interrupted_entry_does_not_go_on() {
     assert_eq!(asked(Call::Plan, &day).1.plan, plan("1 2 0 0 1 -"));
 }
 
+/// The same rule in an early plan: an equal d does not interrupt, and one that was interrupted does not go on.
+#[test]
+fn the_tie_rule_of_an_early_plan() {
+    assert_eq!(asked(Call::Early(2), &boxes(4, "p[2,4)1 p[0,4)2 p[0,1)1")).1.plan, plan("2 1 1 0"));
+    assert_eq!(asked(Call::Early(1), &boxes(4, "p[1,4)1 p[1,2)1 p[0,4)2")).1.plan, plan("2 1 0 2"));
+}
+
 /// In a late plan the rule is that of the mirrored day: the entry that has the minute after goes on, and the
 /// lowest place among equals is taken from the evening back.
 #[test]
@@ -217,6 +224,8 @@ fn the_tie_rule_of_a_late_plan_is_that_of_the_mirror() {
     assert_eq!(asked(Call::Late(2), &day).1.plan, plan("2 1 0 0"));
     let day = boxes(6, "p[0,5)2 p[0,6)3 p[0,1)1");
     assert_eq!(asked(Call::Late(2), &day).1.plan, plan("2 0 0 1 1 1"), "an equal d does not interrupt");
+    let day = boxes(4, "p[0,2)1 p[0,4)2 p[0,3)1");
+    assert_eq!(asked(Call::Late(2), &day).1.plan, plan("1 0 2 1"), "place 1 was interrupted");
 }
 
 /// "A plan may break a whole entry", though another plan would not.
@@ -246,6 +255,17 @@ fn an_early_plan_may_break_another_whole_entry() {
     let says = Says { windows, moves: 0, broken: 0, ends: &[2, 2], starts: &[3, 1], plan: "1 1 0 -" };
     planned(&day, says);
     assert_eq!(asked(Call::Early(0), &day).1.plan, plan("1 0 1 -"));
+}
+
+/// "a pause entry has its least end and greatest start over all plans", those too that break a whole entry:
+/// if place 1 is in one piece, place 0 cannot end before 3.
+#[test]
+fn bounds_of_a_pause_entry_are_over_all_plans() {
+    let day = boxes(4, "p[1,4)1 w[0,3)2");
+    let windows = "p[1,4)1 w[0,3)2";
+    let says = Says { windows, moves: 0, broken: 0, ends: &[2, 2], starts: &[3, 1], plan: "1 1 0 -" };
+    planned(&day, says);
+    shown(&day, 0, "1 0 1 -", "- 1 1 0");
 }
 
 /// Settled windows without a plan that breaks none: "Finding a plan that keeps every unpausable box in one

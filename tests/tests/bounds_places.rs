@@ -12,29 +12,9 @@ fn shown(place: u64) -> [Call; 2] {
     [Call::Early(place), Call::Late(place)]
 }
 
-/// Places that are near a limit of n, of a byte, of 16, 32 and 64 bits, or 0 but for the lowest of these.
-const PLACES: [u64; 20] = [
-    0,
-    1,
-    2,
-    3,
-    62,
-    63,
-    64,
-    65,
-    127,
-    128,
-    254,
-    255,
-    256,
-    257,
-    65_535,
-    65_536,
-    u32::MAX as u64,
-    1 << 32,
-    1 << 63,
-    u64::MAX,
-];
+/// Places near the limits of n, of a byte and of 16, 32 and 64 bits; some have 0 in their lower bits.
+const PLACES: [u64; 19] =
+    [0, 1, 2, 3, 62, 63, 64, 65, 127, 128, 254, 255, 256, 257, 65_535, 65_536, 1 << 32, 1 << 63, u64::MAX];
 
 /// Days of n entries that are planned.
 fn planned_days() -> Vec<Day> {
