@@ -25,17 +25,21 @@ pub fn settle(call: Call, value: &Value, room: usize) -> Result<Narrowed, Refusa
 /// by e exactly if it is one when the entry's d is e.
 pub fn least_end(settled: &Day, place: usize) -> u16 {
     let entry = &settled.entries[place];
+    if entry.whole {
+        return entry.r + entry.p;
+    }
     let mut ends = entry.r + entry.p..=entry.d;
-    let found = ends.find(|&e| entry.whole || jackson::is_plan(&with_end(settled, place, e)));
-    found.expect("settled windows have a plan")
+    ends.find(|&e| jackson::is_plan(&with_end(settled, place, e))).expect("settled windows have a plan")
 }
 
 /// "and greatest start over all plans. A whole entry has .. d - p."
 pub fn greatest_start(settled: &Day, place: usize) -> u16 {
     let entry = &settled.entries[place];
+    if entry.whole {
+        return entry.d - entry.p;
+    }
     let mut starts = (entry.r..=entry.d - entry.p).rev();
-    let found = starts.find(|&s| entry.whole || jackson::is_plan(&with_start(settled, place, s)));
-    found.expect("settled windows have a plan")
+    starts.find(|&s| jackson::is_plan(&with_start(settled, place, s))).expect("settled windows have a plan")
 }
 
 /// "Early: Jackson's schedule with k's d set to its least end."

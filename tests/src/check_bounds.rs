@@ -99,8 +99,8 @@ pub fn ask_all(day: &Day) -> (Answer, Lent) {
 }
 
 /// Plans a small day, and has both plans of every place shown, with the library, and holds the answers
-/// against all plans. The second planner and the second narrowing are not asked, but for Jackson's schedule.
-/// Gives the number answered.
+/// against all plans. Windows, moves, refusals and bounds are found by trying everything; the second planner
+/// is asked for its schedules with these, and counts what is broken in a plan. Gives the number answered.
 #[track_caller]
 pub fn by_trying_everything(day: &Day) -> u64 {
     let expected = settled_by_trying(day);
