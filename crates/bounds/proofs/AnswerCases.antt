@@ -287,13 +287,13 @@ module _ (l : DayList) (k : ℕ) (old : List ℕ) (checks : Verdict) (are : verd
         mirror-room = omega (arith, mirror-h, shown-room)
 
         module _ (x : ℕ) (one : List ℕ) (stores : StoresEarly (λ _. b) (windowsIn t) k old x one) where
-          pub stored-room : t .h ≤ length one
-          stored-room = omega (arith, mirror-room, stored-long (t .h) (earlyOf (λ _. b) k (windowsIn t)) old one (stores .buffer) (schedule-long (withD (windowsIn t) k (leastEnd overloadOf (λ _. b) (windowsIn t) k))) mirror-room)
+          pub stored-room : s .h ≤ length one
+          stored-room = omega (arith, mirror-h, mirror-room, stored-long (t .h) (earlyOf (λ _. b) k (windowsIn t)) old one (stores .buffer) (schedule-long (withD (windowsIn t) k (leastEnd overloadOf (λ _. b) (windowsIn t) k))) mirror-room)
 
-          pub late-end : x ≤ t .h
+          pub late-end : x ≤ s .h
           late-end = end-in-day l _ a shown-settled s holds k b kind shown-place t turned old x one stores
 
-          pub late-done : (new : List ℕ) → new ≡ mirrorBytes (t .h) one ++ drop (t .h) one → ShowsLate l k old (record { narrowed = a; bound = t .h - x }) new
+          pub late-done : (new : List ℕ) → new ≡ mirrorBytes (s .h) one ++ drop (s .h) one → ShowsLate l k old (record { narrowed = a; bound = s .h - x }) new
           late-done new q =
               shows-late l k old _ new shown-after
               (late-bound l _ a shown-settled s holds k b kind shown-place t turned old x one stores)

@@ -267,28 +267,25 @@ module _ (l : DayList) (checks : Outcome (Unit {0})) (a : NarrowAnswer) (settled
         start-is : w .h - e ≡ greatestStart overloadOf (wholeIn l) w k
         start-is = rw mirror-end (sym (start-by-mirror overload-planner w settled-formed k place-in (wholeIn l)))
 
-        pub mirror-day : t .h ≡ l .frame .h
-        mirror-day = ap (λ (x : Windows). x .h) turned-is ∙ settled-day
-
-        pub end-in-day : e ≤ t .h
+        pub end-in-day : e ≤ s .h
         end-in-day =
             let formed = formed-mirror w settled-formed in
             let range = least-end-range overloadOf (wholeIn l) (mirror w) formed k place-in in
-            omega (arith, mirror-end, range .1, formed .in-day k place-in, ap (λ (x : Windows). x .h) turned-is)
+            omega (arith, mirror-end, range .1, formed .in-day k place-in, ap (λ (x : Windows). x .h) (holds .windows))
 
-        pub late-bound : t .h - e ≡ settledOr 0 (λ x. greatestStart overloadOf (wholeIn l) x k) (narrowAfter checks l)
-        late-bound = rw (settled .outcome) (ap (λ (x : Windows). x .h - e) turned-is ∙ start-is)
+        pub late-bound : s .h - e ≡ settledOr 0 (λ x. greatestStart overloadOf (wholeIn l) x k) (narrowAfter checks l)
+        late-bound = rw (settled .outcome) (ap (λ (x : Windows). x .h - e) (holds .windows) ∙ start-is)
 
         one-is : one ≡ earlyPlan (mirror w) k e ++ drop (w .h) old
         one-is =
             let bound = sym (stores .bound) in
             stores .buffer ∙ (λ i. earlyPlan (turned-is i) k (bound i) ++ drop (turned-is i .h) old)
 
-        pub late-stored : (new : List ℕ) → new ≡ mirrorBytes (t .h) one ++ drop (t .h) one → new ≡ planned (lateOf (wholeIn l) k) old (narrowAfter checks l)
+        pub late-stored : (new : List ℕ) → new ≡ mirrorBytes (s .h) one ++ drop (s .h) one → new ≡ planned (lateOf (wholeIn l) k) old (narrowAfter checks l)
         late-stored new q =
             rw (settled .outcome)
             (q
-            ∙ (λ i. mirrorBytes (turned-is i .h) (one-is i) ++ drop (turned-is i .h) (one-is i))
+            ∙ (λ i. mirrorBytes (holds .windows i .h) (one-is i) ++ drop (holds .windows i .h) (one-is i))
             ∙ rw (mirror-front (w .h) (earlyPlan (mirror w) k e) (drop (w .h) old) long, drop-at (earlyPlan (mirror w) k e) (drop (w .h) old) (w .h) long)
             (ap (λ (xs : List ℕ). xs ++ drop (w .h) old) (sym (late-by-mirror w k place-in e in-day) ∙ ap (latePlan w k) start-is)))
           where
@@ -296,4 +293,4 @@ module _ (l : DayList) (checks : Outcome (Unit {0})) (a : NarrowAnswer) (settled
             long = schedule-long (withD (mirror w) k e)
 
             in-day : e ≤ w .h
-            in-day = omega (arith, end-in-day, ap (λ (x : Windows). x .h) turned-is)
+            in-day = omega (arith, end-in-day, ap (λ (x : Windows). x .h) (holds .windows))

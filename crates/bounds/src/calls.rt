@@ -121,8 +121,9 @@ pub fn show_late(list: DayList, k: usize, plan: &mut [u8]) -> ShownAnswer
         };
     };
     let settled = narrowed.list;
-    let windows = mirrored(untested_windows(settled));
-    let end = store_early(windows, k, whole_at(settled, k), plan);
+    let windows = untested_windows(settled);
+    let mirror = mirrored(windows);
+    let end = store_early(mirror, k, whole_at(settled, k), plan);
     mirror_plan(windows.h as usize, plan);
     ShownAnswer {
         narrowed: narrowed,

@@ -44,11 +44,14 @@ pub(crate) fn least_end(windows: WindowSet, k: usize, whole: bool) -> u16
     requires { ⌜ Bounded windows k ⌝ }
     ensures { λ e. ⌜ e ≡ leastEnd overloadOf (λ _. whole) (windowsIn windows) k ⌝ }
 {
-    let mut low = windows.r[k] + windows.p[k];
+    let r = windows.r[k];
+    let d = windows.d[k];
+    let p = windows.p[k];
+    let mut low = r + p;
     if whole {
         return low;
     }
-    let mut high = windows.d[k];
+    let mut high = d;
     while low < high {
         let middle = low + (high - low) / 2;
         if has_plan_by(windows, k, middle) {

@@ -9,34 +9,34 @@ use Rattle.bounds.proofs.ends.least_end.Statement.{statement}
 use Rattle.bounds.proofs.ends.least_end.Tie as tie
 
 abbrev Inv-loop : tie.InvT-loop
-Inv-loop k whole windows low₀ high₀ low high = Halved (windowsIn windows) k low high
+Inv-loop k whole windows r d p low₀ high₀ low high = Halved (windowsIn windows) k low high
 
 abbrev μ-loop : tie.MeasureT-loop
-μ-loop k whole windows low₀ high₀ low high = high - low
+μ-loop k whole windows r d p low₀ high₀ low high = high - low
 
-mul-low : tie.Need-mul-low Inv-loop μ-loop
-mul-low c = search needs
+mul-r : tie.Need-mul-r Inv-loop μ-loop
+mul-r c = search needs
 
-element-copy-out-low : tie.Need-element-copy-out-low Inv-loop μ-loop
-element-copy-out-low c = search needs
+element-copy-out-r : tie.Need-element-copy-out-r Inv-loop μ-loop
+element-copy-out-r c = search needs
 
-mul-low-2 : tie.Need-mul-low-2 Inv-loop μ-loop
-mul-low-2 c = search needs
+mul-d : tie.Need-mul-d Inv-loop μ-loop
+mul-d c = search needs
 
-element-copy-out-low-2 : tie.Need-element-copy-out-low-2 Inv-loop μ-loop
-element-copy-out-low-2 c = search needs
+element-copy-out-d : tie.Need-element-copy-out-d Inv-loop μ-loop
+element-copy-out-d c = search needs
+
+mul-p : tie.Need-mul-p Inv-loop μ-loop
+mul-p c = search needs
+
+element-copy-out-p : tie.Need-element-copy-out-p Inv-loop μ-loop
+element-copy-out-p c = search needs
 
 add-low : tie.Need-add-low Inv-loop μ-loop
-add-low c = search (needs, c .before .before .pre .formed .in-day _ (c .before .before .pre .place), c .before .before .pre .formed .room _ (c .before .before .pre .place))
+add-low c = search (needs, c .before .before .before .pre .formed .in-day _ (c .before .before .before .pre .place), c .before .before .before .pre .formed .room _ (c .before .before .before .pre .place))
 
 returns : tie.Need-returns Inv-loop μ-loop
-returns c = whole-end _ (windowsIn (c .before .before .before .args .t1)) _ (c .if1 .taken)
-
-mul-high : tie.Need-mul-high Inv-loop μ-loop
-mul-high c = search needs
-
-element-copy-out-high : tie.Need-element-copy-out-high Inv-loop μ-loop
-element-copy-out-high c = search needs
+returns c = whole-end _ (windowsIn (c .before .before .before .before .args .t1)) _ (c .if1 .taken)
 
 loop-holds : tie.Need-loop-holds Inv-loop μ-loop
 loop-holds c = halve-start (windowsIn (c .before .before .before .before .args .t1)) (c .before .before .before .before .pre .formed) _ (c .before .before .before .before .pre .place)
@@ -66,7 +66,7 @@ loop-again-2 : tie.Need-loop-again-2 Inv-loop μ-loop
 loop-again-2 c = halve-failed (windowsIn (c .before .before .before .before .before .before .before .before .args .t1)) (c .before .before .before .before .before .before .before .before .pre .formed) _ (c .before .before .before .before .before .before .before .before .pre .place) _ _ (c .before .before .before .loop .inv) (c .before .before .loop-test .taken) (sym (c .before .has-plan-by .ensures) ∙ c .if2 .left)
 
 returns-2 : tie.Need-returns-2 Inv-loop μ-loop
-returns-2 c = halve-done (windowsIn (c .before .before .before .before .before .before .args .t1)) (c .before .before .before .before .before .before .pre .formed) _ (c .before .before .before .before .before .before .pre .place) _ (c .before .before .before .if1 .left) _ _ (c .before .loop .inv) (c .loop-test .left)
+returns-2 c = halve-done (windowsIn (c .before .before .before .before .before .before .args .t1)) (c .before .before .before .before .before .before .pre .formed) _ (c .before .before .before .before .before .before .pre .place) _ (c .before .before .if1 .left) _ _ (c .before .loop .inv) (c .loop-test .left)
 
 pub least-end-spec : {M : Type 1} → statement M
 least-end-spec =
@@ -74,14 +74,14 @@ least-end-spec =
     (tie.spec
     Inv-loop
     μ-loop
-    mul-low
-    element-copy-out-low
-    mul-low-2
-    element-copy-out-low-2
+    mul-r
+    element-copy-out-r
+    mul-d
+    element-copy-out-d
+    mul-p
+    element-copy-out-p
     add-low
     returns
-    mul-high
-    element-copy-out-high
     loop-holds
     sub-middle
     add-middle
