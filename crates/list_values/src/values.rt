@@ -17,6 +17,13 @@ pub(crate) fn entry(serial: u32, r: u16, d: u16, p: u16) -> Entry {
     }
 }
 
+// A whole entry without a seal.
+pub(crate) fn whole(serial: u32, r: u16, d: u16, p: u16) -> Entry {
+    let mut e = entry(serial, r, d, p);
+    e.kind = Kind::Whole;
+    e
+}
+
 // An entry with a seal.
 pub(crate) fn sealed(serial: u32, seal: u32, r: u16, d: u16, p: u16, kind: Kind) -> Entry {
     Entry {
