@@ -52,7 +52,7 @@ pub(crate) fn others() {
     );
     // "The same serial may stand twice."
     show_both(
-        b"serial_twice",
+        b"one_serial",
         day(12, 2, entry(7, 0, 6, 4), whole(7, 6, 12, 5), junk()),
     );
 }
