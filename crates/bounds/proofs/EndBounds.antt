@@ -65,6 +65,7 @@ module _ {test : Test} (planner : Planner test) (whole : ℕ → Bool) (w : Wind
           let found = limit-exact w formed k place planner e room (end-limit w m plan k place e end) .1 (m, ends-plan w m plan k place e end) in
           absurd (true≢false (sym found ∙ least-end-first test whole w formed k place is .none-before e room l)))
 
+  -- in particular none that keeps k in one piece
   pub end-bound : (m : ℕ → ℕ) → Keeping whole w k m → (e : ℕ) → IsEnd (w .h) m k e → least ≤ e
   end-bound m keeping = end-least m (keeping .plan)
 
@@ -94,6 +95,7 @@ module _ {test : Test} (planner : Planner test) (whole : ℕ → Bool) (w : Wind
         let there = limit-formed w formed k place least (range .0) (range .1) in
         schedule-law (withD w k least) (formed-roomy _ there) (there .few) .plan .0 least-plan
 
+    -- which is a plan of the windows, in one piece if k is whole, with the least end
     pub early-is : IsEarly whole w k least (earlyPlan w k least)
     early-is = record { rule = refl; plan = bytes; keeping = record { plan = bytes .plan; unbroken = unbroken }; end = end }
       where

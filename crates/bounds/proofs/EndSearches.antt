@@ -38,6 +38,7 @@ pub limit-widen : (w : Windows) (k e x : ℕ) → e ≤ x → (m : ℕ → ℕ) 
 limit-widen w k e x less m = widen (withD w k x) _ _ m (limit-inside w k e x less)
 
 module _ (w : Windows) (formed : Formed w) (k : ℕ) (place : k < w .n) where
+  -- windows with room have it with another d that leaves room
   pub limit-formed : (e : ℕ) → w .r k + w .p k ≤ e → e ≤ w .d k → Formed (withD w k e)
   limit-formed e room due =
       formed-inside w formed _ _ (rw (own-limit w k) at (limit-inside w k e (w .d k) due))
@@ -46,8 +47,8 @@ module _ (w : Windows) (formed : Formed w) (k : ℕ) (place : k < w .n) where
       (λ q. omega (arith, ap (w .r) q, ap (w .p) q))
       (λ _. formed .room i below))
 
-  -- the test of an end asks whether a plan exists
   module _ {test : Test} (planner : Planner test) where
+    -- the test of an end asks whether a plan exists
     pub limit-exact : (e : ℕ) → w .r k + w .p k ≤ e → e ≤ w .d k → (accepts (test (withD w k e)) ≡ true) ↔ Plannable (withD w k e)
     limit-exact e room due =
         let exact = planner .exact (withD w k e) (limit-formed e room due) in
@@ -62,6 +63,7 @@ module _ (w : Windows) (formed : Formed w) (k : ℕ) (place : k < w .n) where
 
 -- Least ends.
 
+-- what they are by their definition
 pub least-end-whole : (test : Test) (whole : ℕ → Bool) (w : Windows) (k : ℕ) → whole k ≡ true → leastEnd test whole w k ≡ w .r k + w .p k
 unfolding leastEnd
 least-end-whole test whole w k is = rw is

@@ -189,7 +189,7 @@ module _ (w : Windows) (m : ℕ → ℕ) (plan : Plan w m) (i : ℕ) (place : i 
 -- Bytes of plans.
 
 -- the mirror of a plan's bytes has the places of its mirror
-mirror-at : (h : ℕ) (bs : List ℕ) (t : ℕ) → t < h → placesIn (mirrorBytes h bs) t ≡ mirrorPlan h (placesIn bs) t
+pub mirror-at : (h : ℕ) (bs : List ℕ) (t : ℕ) → t < h → placesIn (mirrorBytes h bs) t ≡ mirrorPlan h (placesIn bs) t
 mirror-at h bs = list-at h (mirrorPlan h (placesIn bs)) idle
 
 -- so it is a plan's bytes for the mirrored windows

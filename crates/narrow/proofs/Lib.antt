@@ -11,7 +11,7 @@ mod RoundsEnd
 pub mod Exact
 pub mod MirrorSettled
 mod SettledSteps
-mod Fixpoints
+pub mod Fixpoints
 mod UnbrokenPlans
 pub mod NarrowLaws
 pub mod OneOutcome
