@@ -21,18 +21,22 @@ pub(crate) struct Answer {
 }
 
 fn of_plan(answer: PlanAnswer) -> Answer {
+    let narrowed = answer.narrowed;
+    let ends = answer.ends;
+    let starts = answer.starts;
     Answer {
-        narrowed: answer.narrowed,
+        narrowed: narrowed,
         broken: answer.broken,
         bound: 0,
-        ends: answer.ends,
-        starts: answer.starts,
+        ends: ends,
+        starts: starts,
     }
 }
 
 fn of_shown(answer: ShownAnswer) -> Answer {
+    let narrowed = answer.narrowed;
     Answer {
-        narrowed: answer.narrowed,
+        narrowed: narrowed,
         broken: 0,
         bound: answer.bound,
         ends: [0; 64],

@@ -68,12 +68,14 @@ fn zero_from(xs: [u16; 64], from: usize) -> bool {
 // Whether the answer has the list's H, n and entries but for their windows, and nothing from n on.
 pub(crate) fn same_rest(answer: Answer, list: DayList) -> bool {
     let answered = answer.narrowed.list;
+    let ends = answer.ends;
+    let starts = answer.starts;
     let count = list.n as usize;
     answered.frame.h == list.frame.h
         && answered.n == list.n
         && same_entries(list, answered)
-        && zero_from(answer.ends, count)
-        && zero_from(answer.starts, count)
+        && zero_from(ends, count)
+        && zero_from(starts, count)
 }
 
 // Whether the answer is what stands beside a refusal: the empty list and zeros.

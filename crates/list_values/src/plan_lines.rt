@@ -14,6 +14,7 @@ use crate::print::say_number;
 use crate::print::say_refusal;
 use crate::print::say_whether;
 use list::types::DayList;
+use list::types::Entry;
 use list::types::Verdict;
 
 fn say_call(call: Call) {
@@ -34,10 +35,11 @@ fn say_own(call: Call, answer: Answer) {
 }
 
 fn say_answer(call: Call, value: DayList, answer: Answer, buffer: &Buffer) {
-    let verdict = answer.narrowed.verdict;
+    let narrowed = answer.narrowed;
+    let verdict = narrowed.verdict;
     match verdict {
         Verdict::Accepted => {
-            say_number(b" moves ", answer.narrowed.moves as u64);
+            say_number(b" moves ", narrowed.moves as u64);
             say_own(call, answer);
             say_whether(same_rest(answer, value), b" rest same", b" rest other");
             say_kept(buffer, 0);
@@ -74,6 +76,11 @@ pub(crate) fn run_calls(name: &[u8], value: DayList, k: usize, room: usize) {
     run_shown(name, value, k, room);
 }
 
+fn say_window(e: Entry) {
+    say_number(b" ", e.r as u64);
+    say_number(b" ", e.d as u64);
+}
+
 fn say_windows(list: DayList) {
     let count = list.n as usize;
     say(b" windows");
@@ -82,8 +89,7 @@ fn say_windows(list: DayList) {
         if i == count {
             return;
         }
-        say_number(b" ", list.entries[i].r as u64);
-        say_number(b" ", list.entries[i].d as u64);
+        say_window(list.entries[i]);
         i += 1;
     }
 }
@@ -101,9 +107,11 @@ fn say_numbers(word: &[u8], xs: [u16; 64], count: usize) {
 }
 
 fn say_bounds(call: Call, answer: Answer, count: usize) {
+    let ends = answer.ends;
+    let starts = answer.starts;
     if let Call::Plan = call {
-        say_numbers(b" ends", answer.ends, count);
-        say_numbers(b" starts", answer.starts, count);
+        say_numbers(b" ends", ends, count);
+        say_numbers(b" starts", starts, count);
     }
 }
 
