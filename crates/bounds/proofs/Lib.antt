@@ -14,5 +14,5 @@ pub mod Examples
 -- What the code's proofs cite, case by case.
 mod EndCases
 mod BrokenCases
-mod ShownCases
-mod CallCases
+
+

@@ -88,11 +88,12 @@ pub(crate) fn greatest_starts(list: DayList, windows: WindowSet) -> [u16; 64]
     ensures { λ xs. ⌜ xs ≡ byPlace (list .n) (greatestStart overloadOf (wholeIn list) (windowsIn windows)) ⌝ }
 {
     let h = windows.h;
-    let mut starts = least_ends(list, mirrored(windows));
+    let ends = least_ends(list, mirrored(windows));
+    let mut starts = zeros();
     let count = list.n as usize;
     let mut i: usize = 0;
     while i < count {
-        starts[i] = h - starts[i];
+        starts[i] = h - ends[i];
         i += 1;
     }
     starts

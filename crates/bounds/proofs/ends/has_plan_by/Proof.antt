@@ -1,30 +1,31 @@
+-- The windows tried are those with entry k's d set.
+-- Assumes nothing.
 use borrow.Author.Needs.{needs}
+use mathlib.Core.Path.{_≡_, _∙_, ap}
+use native.Mathlib.Omega.{arith}
+use lib.ListN.{length}
+use Rattle.list.specs.Outcomes.{Outcome}
+use Rattle.jackson.specs.Windows.{Windows}
+use Rattle.jackson.specs.Intervals.{overloadOf}
+use Rattle.narrow.specs.Searching.{accepts}
+use Rattle.narrow.proofs.ArrayCases.{held-d}
 use Rattle.bounds.proofs.ends.has_plan_by.Statement.{statement}
 use Rattle.bounds.proofs.ends.has_plan_by.Tie as tie
-use Rattle.bounds.proofs.ends.has_plan_by.Reads as reads
-use Rattle.bounds.proofs.ends.has_plan_by.Lts as lts
-use Rattle.jackson.proofs.untested_overload.Reads as untested-overload-reads
-use Rattle.narrow.proofs.is_accepted.Reads as is-accepted-reads
 
--- src/ends.rt:37:5
 mul-trial : tie.Need-mul-trial
 mul-trial c = search needs
 
--- src/ends.rt:37:5
 element-write-trial : tie.Need-element-write-trial
 element-write-trial c = search needs
 
--- src/ends.rt:38:17
 untested-overload-requires : tie.Need-untested-overload-requires
 untested-overload-requires c κs = search needs
 
--- src/ends.rt:38:5
 is-accepted-requires : tie.Need-is-accepted-requires
 is-accepted-requires c κs = search needs
 
--- src/ends.rt:32:1
 returns : tie.Need-returns
-returns c = ?
+returns c = let a : length (c .before .before .args .windows .d) ≡ 64 = search needs in c .is-accepted .ensures ∙ ap (λ (o : Outcome (Unit {0})). accepts o) (c .before .untested-overload .ensures) ∙ ap (λ (w : Windows). accepts (overloadOf w)) (held-d (c .before .before .args .windows) (c .before .before .args .k) (c .before .before .args .e) (omega (arith, a, c .before .before .pre)))
 
 pub has-plan-by-spec : {M : Type 1} → statement M
 has-plan-by-spec =

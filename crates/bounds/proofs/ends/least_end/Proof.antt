@@ -1,86 +1,72 @@
+-- The loop's invariant is `Halved`, the measure the ends between.
+-- Assumes nothing.
+use borrow.Author.Needs.{needs}
+use mathlib.Core.Path.{sym, _∙_}
+use Prim.Native.Nat.{_-_}
+use Rattle.jackson.specs.Windows.{windowsIn}
+use Rattle.bounds.proofs.EndCases.{middle-in, Halved, halve-start, halve-passed, halve-failed, halve-done, whole-end}
 use Rattle.bounds.proofs.ends.least_end.Statement.{statement}
 use Rattle.bounds.proofs.ends.least_end.Tie as tie
-use Rattle.bounds.proofs.ends.least_end.Reads as reads
-use Rattle.bounds.proofs.ends.least_end.Lts as lts
-use Rattle.bounds.proofs.ends.has_plan_by.Reads as has-plan-by-reads
 
 abbrev Inv-loop : tie.InvT-loop
-Inv-loop k whole windows low₀ high₀ low high = ?
+Inv-loop k whole windows low₀ high₀ low high = Halved (windowsIn windows) k low high
 
 abbrev μ-loop : tie.MeasureT-loop
-μ-loop k whole windows low₀ high₀ low high = ?
+μ-loop k whole windows low₀ high₀ low high = high - low
 
--- src/ends.rt:47:19
 mul-low : tie.Need-mul-low Inv-loop μ-loop
-mul-low c = ?
+mul-low c = search needs
 
--- src/ends.rt:47:19
 element-copy-out-low : tie.Need-element-copy-out-low Inv-loop μ-loop
-element-copy-out-low c = ?
+element-copy-out-low c = search needs
 
--- src/ends.rt:47:34
 mul-low-2 : tie.Need-mul-low-2 Inv-loop μ-loop
-mul-low-2 c = ?
+mul-low-2 c = search needs
 
--- src/ends.rt:47:34
 element-copy-out-low-2 : tie.Need-element-copy-out-low-2 Inv-loop μ-loop
-element-copy-out-low-2 c = ?
+element-copy-out-low-2 c = search needs
 
--- src/ends.rt:47:19
 add-low : tie.Need-add-low Inv-loop μ-loop
-add-low c = ?
+add-low c = search (needs, c .before .before .pre .formed .in-day _ (c .before .before .pre .place), c .before .before .pre .formed .room _ (c .before .before .pre .place))
 
--- src/ends.rt:49:9
 returns : tie.Need-returns Inv-loop μ-loop
-returns c = ?
+returns c = whole-end _ (windowsIn (c .before .before .before .args .t1)) _ (c .if1 .taken)
 
--- src/ends.rt:51:20
 mul-high : tie.Need-mul-high Inv-loop μ-loop
-mul-high c = ?
+mul-high c = search needs
 
--- src/ends.rt:51:20
 element-copy-out-high : tie.Need-element-copy-out-high Inv-loop μ-loop
-element-copy-out-high c = ?
+element-copy-out-high c = search needs
 
--- src/ends.rt:52:5
 loop-holds : tie.Need-loop-holds Inv-loop μ-loop
-loop-holds c = ?
+loop-holds c = halve-start (windowsIn (c .before .before .before .before .args .t1)) (c .before .before .before .before .pre .formed) _ (c .before .before .before .before .pre .place)
 
--- src/ends.rt:53:29
 sub-middle : tie.Need-sub-middle Inv-loop μ-loop
-sub-middle c = ?
+sub-middle c = search needs
 
--- src/ends.rt:53:22
 add-middle : tie.Need-add-middle Inv-loop μ-loop
-add-middle c = ?
+add-middle c = let m = middle-in _ _ (c .loop-test .taken) in search (needs, m .1, c .before .loop .inv .due, c .before .before .before .before .before .before .pre .formed .in-day _ (c .before .before .before .before .before .before .pre .place))
 
--- src/ends.rt:54:12
 has-plan-by-requires : tie.Need-has-plan-by-requires Inv-loop μ-loop
-has-plan-by-requires c κs = ?
+has-plan-by-requires c κs = search needs
 
--- src/ends.rt:52:5
 loop-less : tie.Need-loop-less Inv-loop μ-loop
-loop-less c = ?
+loop-less c = let m = middle-in _ _ (c .before .before .loop-test .taken) in search (needs, m .0, m .1)
 
--- src/ends.rt:52:5
 loop-again : tie.Need-loop-again Inv-loop μ-loop
-loop-again c = ?
+loop-again c = halve-passed (windowsIn (c .before .before .before .before .before .before .before .before .args .t1)) (c .before .before .before .before .before .before .before .before .pre .formed) _ (c .before .before .before .before .before .before .before .before .pre .place) _ _ (c .before .before .before .loop .inv) (c .before .before .loop-test .taken) (sym (c .before .has-plan-by .ensures) ∙ c .if2 .taken)
 
--- src/ends.rt:57:19
 add-low-2 : tie.Need-add-low-2 Inv-loop μ-loop
-add-low-2 c = ?
+add-low-2 c = let m = middle-in _ _ (c .before .before .loop-test .taken) in search (needs, m .1, c .before .before .before .loop .inv .due, c .before .before .before .before .before .before .before .before .pre .formed .in-day _ (c .before .before .before .before .before .before .before .before .pre .place))
 
--- src/ends.rt:52:5
 loop-less-2 : tie.Need-loop-less-2 Inv-loop μ-loop
-loop-less-2 c = ?
+loop-less-2 c = let m = middle-in _ _ (c .before .before .loop-test .taken) in search (needs, m .0, m .1)
 
--- src/ends.rt:52:5
 loop-again-2 : tie.Need-loop-again-2 Inv-loop μ-loop
-loop-again-2 c = ?
+loop-again-2 c = halve-failed (windowsIn (c .before .before .before .before .before .before .before .before .args .t1)) (c .before .before .before .before .before .before .before .before .pre .formed) _ (c .before .before .before .before .before .before .before .before .pre .place) _ _ (c .before .before .before .loop .inv) (c .before .before .loop-test .taken) (sym (c .before .has-plan-by .ensures) ∙ c .if2 .left)
 
--- src/ends.rt:43:1
 returns-2 : tie.Need-returns-2 Inv-loop μ-loop
-returns-2 c = ?
+returns-2 c = halve-done (windowsIn (c .before .before .before .before .before .before .args .t1)) (c .before .before .before .before .before .before .pre .formed) _ (c .before .before .before .before .before .before .pre .place) _ (c .before .before .before .if1 .left) _ _ (c .before .loop .inv) (c .loop-test .left)
 
 pub least-end-spec : {M : Type 1} → statement M
 least-end-spec =

@@ -1,0 +1,196 @@
+-- The searches for least ends, and numbers by place, as code makes them.
+-- Assumes nothing.
+use mathlib.Core.Path.{_≡_, refl, sym, ap, _∙_}
+use mathlib.Core.Bool.{Bool, true, false, cond}
+use mathlib.Core.List.{List}
+use Prim.Native.Nat.{ℕ, _+_, _-_, _/_, _<_, _≤_, min}
+use native.Mathlib.Omega.{arith}
+use borrow.Author.Tests.{lt-ltb, le-ltb}
+use lib.Dec.{ltb}
+use lib.ListN.{length, getD, set, replicate, length-set, length-replicate, getD-replicate}
+use lib.Seq.{getD-set-same, getD-set-other, getD-take}
+use Rattle.list.specs.DayLists.{blank}
+use Rattle.list.specs.declared.types.DayList.{DayList}
+use Rattle.jackson.specs.Counting.{listOf}
+use Rattle.jackson.specs.Windows.{Windows, windowsIn}
+use Rattle.jackson.specs.Mirrors.{MirrorOf, mirror}
+use Rattle.jackson.specs.Intervals.{overloadOf}
+use Rattle.jackson.specs.declared.types.WindowSet.{WindowSet}
+use Rattle.jackson.proofs.Sums.{le-or-lt, same-cases}
+use Rattle.jackson.proofs.Listed.{list-is, list-at, list-length}
+use Rattle.narrow.specs.Searching.{accepts, withD}
+use Rattle.narrow.specs.Laws.{Formed}
+use Rattle.narrow.specs.Calls.{isWhole, wholeIn}
+use Rattle.narrow.proofs.OverloadPlanner.{overload-planner}
+use Rattle.narrow.proofs.MirrorSearches.{formed-mirror}
+use Rattle.bounds.specs.Ends.{leastEnd, greatestStart}
+use Rattle.bounds.specs.Calls.{byPlace}
+use Rattle.bounds.specs.Parts.{Bounded, HoldsBounded}
+use Rattle.bounds.proofs.EndSearches.{limit-mono, least-end-whole, least-end-found, least-end-range}
+use Rattle.bounds.proofs.MirrorEnds.{start-by-mirror}
+
+-- the kind read from the array is that of the list
+pub kind-at : (l : DayList) (k : ℕ) (b : Bool) → k < l .n → b ≡ isWhole (getD (l .entries) k blank .kind) → b ≡ wholeIn l k
+kind-at l k b h e = rw (getD-take (l .n) (l .entries) k blank h) e
+
+-- a search by halving: no end before low has a plan, and high is d or has one
+pub record Halved (w : Windows) (k low high : ℕ) : Type 0 where
+  pub room : w .r k + w .p k ≤ low
+  pub order : low ≤ high
+  pub due : high ≤ w .d k
+  pub none-before : (e : ℕ) → w .r k + w .p k ≤ e → e < low → accepts (overloadOf (withD w k e)) ≡ false
+  pub passes : high < w .d k → accepts (overloadOf (withD w k high)) ≡ true
+
+-- the middle lies between
+pub middle-in : (low high : ℕ) → low < high → (low ≤ low + (high - low) / 2) × (low + (high - low) / 2 < high)
+middle-in low high h = (omega arith, omega arith)
+
+module _ (w : Windows) (formed : Formed w) (k : ℕ) (place : k < w .n) where
+  pub halve-start : Halved w k (w .r k + w .p k) (w .d k)
+  halve-start =
+      record {
+        room = omega arith;
+        order = formed .room k place;
+        due = omega arith;
+        none-before = λ e a b. absurd (omega (arith, a, b));
+        passes = λ h. absurd (omega (arith, h));
+      }
+
+  module _ (low high : ℕ) (so : Halved w k low high) (below : low < high) where
+    abbrev pub middle : ℕ
+    middle = low + (high - low) / 2
+
+    pub halve-passed : accepts (overloadOf (withD w k middle)) ≡ true → Halved w k low middle
+    halve-passed yes-plan =
+        let m = middle-in low high below in
+        record {
+          room = so .room;
+          order = m .0;
+          due = omega (arith, m .1, so .due);
+          none-before = so .none-before;
+          passes = λ _. yes-plan;
+        }
+
+    pub halve-failed : accepts (overloadOf (withD w k middle)) ≡ false → Halved w k (middle + 1) high
+    halve-failed no-plan =
+        let m = middle-in low high below in
+        record {
+          room = omega (arith, so .room, m .0);
+          order = omega (arith, m .1);
+          due = so .due;
+          none-before = λ e room less. limit-fails e room (omega (arith, less)) (omega (arith, m .1, so .due));
+          passes = so .passes;
+        }
+      where
+        -- a narrower window has no plan either
+        limit-fails : (e : ℕ) → w .r k + w .p k ≤ e → e ≤ middle → middle ≤ w .d k → accepts (overloadOf (withD w k e)) ≡ false
+        limit-fails e room less due = go (accepts (overloadOf (withD w k e))) refl
+          where
+            go : (t : Bool) → accepts (overloadOf (withD w k e)) ≡ t → t ≡ false
+            go false q = refl
+            go true q = sym (limit-mono w formed k place overload-planner e middle room less due q) ∙ no-plan
+
+  pub halve-done : (whole : Bool) → whole ≡ false → (low high : ℕ) → Halved w k low high → high ≤ low → low ≡ leastEnd overloadOf (λ _. whole) w k
+  halve-done whole is low high so end =
+      let z : high ≡ low = omega (arith, so .order) in
+      sym
+      (least-end-found overloadOf (λ _. whole) w formed k place is low (so .room) (omega (arith, so .due, z)) (so .none-before)
+      (rw z at (so .passes)))
+
+pub whole-end : (whole : Bool) (w : Windows) (k : ℕ) → whole ≡ true → w .r k + w .p k ≡ leastEnd overloadOf (λ _. whole) w k
+whole-end whole w k is = sym (least-end-whole overloadOf (λ _. whole) w k is)
+
+-- the least end depends on the kind of its own entry alone
+pub least-end-kind : (whole : ℕ → Bool) (b : Bool) (w : Windows) (k : ℕ) → b ≡ whole k → leastEnd overloadOf (λ _. b) w k ≡ leastEnd overloadOf whole w k
+unfolding leastEnd
+least-end-kind whole b w k e = rw e
+
+-- numbers by place: the first i are stored
+module _ (f : ℕ → ℕ) where
+  by-place-at : (n i : ℕ) → i < 64 → getD (byPlace n f) i 0 ≡ cond (ltb i n) (f i) 0
+  by-place-at n i h = list-at 64 (λ j. cond (ltb j n) (f j) 0) 0 i h
+
+  pub by-place : (n i : ℕ) → n ≤ 64 → i < n → getD (byPlace n f) i 0 ≡ f i
+  by-place n i few h = by-place-at n i (omega arith) ∙ rw (lt-ltb i n h)
+
+  placed-nowhere : replicate 64 0 ≡ byPlace 0 f
+  placed-nowhere =
+      sym
+      (list-is 64 _ 0 (replicate 64 0) (length-replicate {A = ℕ} 64 0)
+      (λ t h. let z = le-ltb t 0 (omega arith) in rw z (sym (getD-replicate 64 t 0 0 h))))
+
+  placed-one : (xs : List ℕ) (i x : ℕ) → xs ≡ byPlace i f → i < 64 → x ≡ f i → set xs i x ≡ byPlace (i + 1) f
+  placed-one xs i x so h e = sym (list-is 64 _ 0 (set xs i x) (length-set xs i x ∙ long) (λ t below. sym (at t below)))
+    where
+      long : length xs ≡ 64
+      long = rw so (list-length 64 _)
+
+      at : (t : ℕ) → t < 64 → getD (set xs i x) t 0 ≡ cond (ltb t (i + 1)) (f t) 0
+      at t below =
+          same-cases t i
+          (λ z _. rw (lt-ltb t (i + 1) (omega arith)) (rw z (getD-set-same xs i x 0 (omega (arith, long)) ∙ e)))
+          (λ z _.
+          getD-set-other xs i t x 0 z
+          ∙ ap (λ (ys : List ℕ). getD ys t 0) so
+          ∙ by-place-at i t below
+          ∙ le-or-lt i t
+          (λ a. rw (le-ltb t i a, le-ltb t (i + 1) (omega (arith, z))))
+          (λ a. rw (lt-ltb t i a, lt-ltb t (i + 1) (omega arith))))
+
+-- only the places below n count
+pub by-place-same : (n : ℕ) (f g : ℕ → ℕ) → ((i : ℕ) → i < n → f i ≡ g i) → byPlace n f ≡ byPlace n g
+by-place-same n f g e = list-is 64 _ 0 (byPlace n g) (list-length 64 _) (λ t h. go t ∙ sym (by-place-at g n t h))
+  where
+    go : (t : ℕ) → cond (ltb t n) (f t) 0 ≡ cond (ltb t n) (g t) 0
+    go t = le-or-lt n t (λ a. rw (le-ltb t n a)) (λ a. rw (lt-ltb t n a) (e t a))
+
+-- the numbers of the first i of n places are stored
+pub record Placed (f : ℕ → ℕ) (n : ℕ) (xs : List ℕ) (i : ℕ) : Type 0 where
+  pub few : n ≤ 64
+  pub passed : i ≤ n
+  pub is : xs ≡ byPlace i f
+
+module _ (f : ℕ → ℕ) (n : ℕ) where
+  pub placed-none : (xs : List ℕ) → n ≤ 64 → xs ≡ replicate 64 0 → Placed f n xs 0
+  placed-none xs few e = record { few = few; passed = omega arith; is = e ∙ placed-nowhere f }
+
+  pub placed-next : (xs : List ℕ) (i x : ℕ) → Placed f n xs i → i < n → x ≡ f i → Placed f n (set xs i x) (i + 1)
+  placed-next xs i x so h e =
+      record { few = so .few; passed = omega (arith, h); is = placed-one f xs i x (so .is) (omega (arith, so .few)) e }
+
+  pub placed-all : (xs : List ℕ) (i : ℕ) → Placed f n xs i → n ≤ i → xs ≡ byPlace n f
+  placed-all xs i so h = let z : i ≡ n = omega (arith, so .passed) in rw (← z) (so .is)
+
+-- the entries of a list and their windows in arrays
+module _ (l : DayList) (s : WindowSet) (has : HoldsBounded l s) where
+  pub bounded-few : l .n ≤ 64
+  bounded-few = omega (arith, has .count)
+
+  pub bounded-at : (i : ℕ) → i < l .n → Bounded s i
+  bounded-at i h = record { formed = has .formed; place = omega (arith, has .count, h) }
+
+  module _ (t : WindowSet) (turned : MirrorOf s t) where
+    pub bounded-mirror : HoldsBounded l t
+    bounded-mirror =
+        record { formed = rw (turned .windows) (formed-mirror (windowsIn s) (has .formed)); count = ap (λ (x : ℕ). min x 64) (turned .n) ∙ has .count }
+
+    -- the mirrors of the least ends in the mirror
+    module _ (ends : List ℕ) (are : ends ≡ byPlace (l .n) (leastEnd overloadOf (wholeIn l) (windowsIn t))) where
+      mirror-end : (i : ℕ) → i < l .n → getD ends i 0 ≡ leastEnd overloadOf (wholeIn l) (mirror (windowsIn s)) i
+      mirror-end i h =
+          ap (λ (xs : List ℕ). getD xs i 0) are
+          ∙ by-place _ (l .n) i bounded-few h
+          ∙ ap (λ (w : Windows). leastEnd overloadOf (wholeIn l) w i) (turned .windows)
+
+      pub mirror-end-in-day : (i : ℕ) → i < l .n → getD ends i 0 ≤ s .h
+      mirror-end-in-day i h =
+          let formed = formed-mirror (windowsIn s) (has .formed) in
+          let place = bounded-at i h .place in
+          omega (arith, mirror-end i h, least-end-range overloadOf (wholeIn l) (mirror (windowsIn s)) formed i place .1, formed .in-day i place)
+
+      pub starts-by-mirror : byPlace (l .n) (λ i. s .h - getD ends i 0) ≡ byPlace (l .n) (greatestStart overloadOf (wholeIn l) (windowsIn s))
+      starts-by-mirror =
+          by-place-same (l .n) _ _
+          (λ i h.
+          ap (λ (x : ℕ). s .h - x) (mirror-end i h)
+          ∙ sym (start-by-mirror overload-planner (windowsIn s) (has .formed) i (bounded-at i h .place) (wholeIn l)))
