@@ -60,7 +60,7 @@ pub(crate) fn plan_lengths() {
     run_calls(b"plan_empty_buffer", report_list(), 0, 0);
     // 11: one byte is missing.
     run_calls(b"plan_one_byte_short", report_list(), 0, 11);
-    // H bytes.
+    // H bytes. End and start of entry 0 are those of the report.
     run_calls(b"plan_just_enough", report_list(), 0, 12);
     // One more; "the bytes after H keep their values".
     run_calls(b"plan_one_byte_more", report_list(), 0, 13);

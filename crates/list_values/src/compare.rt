@@ -32,6 +32,7 @@ fn is_blank(e: Entry) -> bool {
     same_box(e, blank) && e.r == 0 && e.d == 0
 }
 
+// Whether an answered entry is the given one but for its window, or blank where none counts.
 fn same_at(given: Entry, counts: bool, answered: Entry) -> bool {
     if counts {
         same_box(given, answered)

@@ -23,13 +23,19 @@ fn show_both(name: &[u8], value: DayList) {
 
 // Document 01's examples.
 pub(crate) fn examples() {
+    // The settled windows leave one plan.
     show_both(b"a", example_a());
+    // Shown late, entry 0 has 1 and 2, and entry 1 what is left.
     show_both(b"b", example_b());
+    // Either entry may be the first; of equals the lowest place is.
     show_both(b"c_1", example_c(1));
+    // An equal d does not interrupt entry 1 at 1; the d 3 of entry 0 shown early does.
     show_both(b"f", example_f());
+    // The d 5 of entry 0 interrupts entry 1 at 1; shown early, with d 3, entry 1 goes on.
     show_both(b"g", example_g());
     // Example (h): one idle minute.
     show_plan(b"h", none(1));
+    // In all plans entry 2 has 3 and 4 and entry 1 has 5 to 7. Entry 0 has 0 to 2 and 8 in the early ones, 8 to 11 in the late ones.
     show_both(b"report", report_list());
     show_place(b"report", report_list(), 2);
 }

@@ -17,10 +17,10 @@ pub(crate) fn say_byte(x: u8) {
     io::print_hex(STDOUT_FILENO, x as u64, 2);
 }
 
-// The first word, or the second.
-pub(crate) fn say_whether(holds: bool, yes: &[u8], other: &[u8]) {
+// A word for what holds, or the other.
+pub(crate) fn say_whether(holds: bool, word: &[u8], other: &[u8]) {
     if holds {
-        say(yes);
+        say(word);
     } else {
         say(other);
     }

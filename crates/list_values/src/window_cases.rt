@@ -39,8 +39,8 @@ pub(crate) fn overloaded() {
 pub(crate) fn no_place() {
     // Example (e).
     refused(b"e", example_e());
-    // Entry 1 has minutes 2 and 3, and entries 1 and 2 together 0 to 4. So entry 0, from 1 on, has 5 and 6, a move. Entry 2, in [0, 5), then
-    // has no three minutes in a row.
+    // Entry 1 fills [2, 4), and entries 1 and 2 together fill [0, 5). So entry 0 starts at 5 at least, a move. Then entry 2 finds no
+    // three minutes in a row.
     refused(
         b"no_place_after_move",
         day(
