@@ -14,5 +14,6 @@ pub mod Examples
 -- What the code's proofs cite, case by case.
 mod EndCases
 mod BrokenCases
+mod ShownCases
 
 

@@ -1,46 +1,43 @@
+-- The loop's invariant is `Counted`, the measure what is left of the entries.
+-- Assumes nothing.
+use borrow.Author.Needs.{needs}
+use mathlib.Core.Path.{_≡_}
+use Prim.Native.Nat.{_-_}
+use lib.ListN.{length}
+use Rattle.list.proofs.Walk.{length-mapped}
+use Rattle.bounds.proofs.BrokenCases.{Counted, counted-none, counted-next, counted-all}
 use Rattle.bounds.proofs.broken.broken_in.Statement.{statement}
 use Rattle.bounds.proofs.broken.broken_in.Tie as tie
-use Rattle.bounds.proofs.broken.broken_in.Reads as reads
-use Rattle.bounds.proofs.broken.broken_in.Lts as lts
-use Rattle.bounds.proofs.broken.one_broken.Reads as one-broken-reads
 
 abbrev Inv-loop : tie.InvT-loop
-Inv-loop list h plan count sum₀ i₀ sum i = ?
+Inv-loop list h plan count sum₀ i₀ sum i = Counted list h plan sum i
 
 abbrev μ-loop : tie.MeasureT-loop
-μ-loop list h plan count sum₀ i₀ sum i = ?
+μ-loop list h plan count sum₀ i₀ sum i = list .n - i
 
--- src/broken.rt:67:17
 cast-count : tie.Need-cast-count Inv-loop μ-loop
-cast-count c = ?
+cast-count c = search needs
 
--- src/broken.rt:70:5
 loop-holds : tie.Need-loop-holds Inv-loop μ-loop
-loop-holds c = ?
+loop-holds c = counted-none _ _ _ (c .before .before .pre)
 
--- src/broken.rt:71:16
 one-broken-requires : tie.Need-one-broken-requires Inv-loop μ-loop
-one-broken-requires c κs = ?
+one-broken-requires c κs = (c .before .before .before .before .pre, c .loop-test .taken)
 
--- src/broken.rt:71:9
 add-sum : tie.Need-add-sum Inv-loop μ-loop
-add-sum c = ?
+add-sum c = search (needs, c .before .before .loop .inv .small, c .before .before .loop .inv .few, counted-next _ _ _ (c .before .before .before .before .before .pre) _ _ (c .before .before .loop .inv) (c .before .loop-test .taken) _ (c .one-broken .ensures) .small)
 
--- src/broken.rt:72:9
 add-i : tie.Need-add-i Inv-loop μ-loop
-add-i c = ?
+add-i c = search (needs, c .before .before .loop .inv .few)
 
--- src/broken.rt:70:5
 loop-less : tie.Need-loop-less Inv-loop μ-loop
-loop-less c = ?
+loop-less c = search needs
 
--- src/broken.rt:70:5
 loop-again : tie.Need-loop-again Inv-loop μ-loop
-loop-again c = ?
+loop-again c = counted-next _ _ _ (c .before .before .before .before .before .pre) _ _ (c .before .before .loop .inv) (c .before .loop-test .taken) _ (c .one-broken .ensures)
 
--- src/broken.rt:63:1
 returns : tie.Need-returns Inv-loop μ-loop
-returns c = ?
+returns c = let len : length (c .before .before .before .before .args .list .entries) ≡ 64 = search (needs, length-mapped) in counted-all _ _ _ (c .before .before .before .before .pre) _ _ (c .before .loop .inv) len (c .loop-test .left)
 
 pub broken-in-spec : {M : Type 1} → statement M
 broken-in-spec =

@@ -1,45 +1,39 @@
+-- The loop's invariant is `SoughtBack`, the measure the minutes left.
+-- Assumes nothing.
+use borrow.Author.Needs.{needs}
+use Rattle.bounds.proofs.BrokenCases.{SoughtBack, back-none, back-next, back-found, back-all}
 use Rattle.bounds.proofs.broken.end_in.Statement.{statement}
 use Rattle.bounds.proofs.broken.end_in.Tie as tie
-use Rattle.bounds.proofs.broken.end_in.Reads as reads
-use Rattle.bounds.proofs.broken.end_in.Lts as lts
 
 abbrev Inv-loop : tie.InvT-loop
-Inv-loop plan h k t₀ t = ?
+Inv-loop plan h k t₀ t = SoughtBack h plan k t
 
 abbrev μ-loop : tie.MeasureT-loop
-μ-loop plan h k t₀ t = ?
+μ-loop plan h k t₀ t = t
 
--- src/broken.rt:35:5
 loop-holds : tie.Need-loop-holds Inv-loop μ-loop
-loop-holds c = ?
+loop-holds c = back-none _ _ _ (c .pre)
 
--- src/broken.rt:36:17
 sub-if1 : tie.Need-sub-if1 Inv-loop μ-loop
-sub-if1 c = ?
+sub-if1 c = search needs
 
--- src/broken.rt:36:12
 shared-slice-read-if1 : tie.Need-shared-slice-read-if1 Inv-loop μ-loop
-shared-slice-read-if1 c = ?
+shared-slice-read-if1 c = search (needs, c .before .before .loop .inv .room, c .before .before .loop .inv .within)
 
--- src/broken.rt:39:9
 sub-t : tie.Need-sub-t Inv-loop μ-loop
-sub-t c = ?
+sub-t c = search needs
 
--- src/broken.rt:35:5
 loop-less : tie.Need-loop-less Inv-loop μ-loop
-loop-less c = ?
+loop-less c = search needs
 
--- src/broken.rt:35:5
 loop-again : tie.Need-loop-again Inv-loop μ-loop
-loop-again c = ?
+loop-again c = back-next _ _ _ _ (c .before .before .before .loop .inv) (c .before .before .loop-test .taken) (c .if1 .left)
 
--- src/broken.rt:30:1
 returns : tie.Need-returns Inv-loop μ-loop
-returns c = ?
+returns c = back-all _ _ _ _ (c .before .loop .inv) (c .loop-test .left)
 
--- src/broken.rt:30:1
 returns-2 : tie.Need-returns-2 Inv-loop μ-loop
-returns-2 c = ?
+returns-2 c = back-found _ _ _ _ (c .before .before .before .loop .inv) (c .before .before .loop-test .taken) (c .if1 .taken)
 
 pub end-in-spec : {M : Type 1} → statement M
 end-in-spec =

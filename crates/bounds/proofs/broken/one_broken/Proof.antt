@@ -1,55 +1,45 @@
+-- A whole entry is broken if its p minutes from its start on do not reach its end.
+-- Assumes nothing.
 use borrow.Author.Needs.{needs}
+use mathlib.Core.Path.{_≡_}
+use lib.ListN.{length}
+use Rattle.list.proofs.Walk.{length-mapped}
+use Rattle.bounds.proofs.BrokenCases.{minutes-in-day, start-in-day, not-whole, in-one-piece, in-pieces}
 use Rattle.bounds.proofs.broken.one_broken.Statement.{statement}
 use Rattle.bounds.proofs.broken.one_broken.Tie as tie
-use Rattle.bounds.proofs.broken.one_broken.Reads as reads
-use Rattle.bounds.proofs.broken.one_broken.Lts as lts
-use Rattle.bounds.proofs.broken.end_in.Reads as end-in-reads
-use Rattle.bounds.proofs.broken.start_in.Reads as start-in-reads
-use Rattle.bounds.proofs.ends.whole_at.Reads as whole-at-reads
 
--- src/broken.rt:50:9
 whole-at-requires : tie.Need-whole-at-requires
-whole-at-requires c κs = search needs
+whole-at-requires c κs = (c .before .pre .1, c .before .pre .0 .few)
 
--- src/broken.rt:51:9
 returns : tie.Need-returns
-returns c = ?
+returns c = let len : length (c .before .before .before .args .t1 .entries) ≡ 64 = search (needs, length-mapped) in not-whole (c .before .before .before .args .t1) (c .before .before .before .args .h) (c .before .before .before .args .plan .now) (c .before .before .before .pre .0) len (c .before .before .before .args .k) (c .before .before .before .pre .1) _ (c .before .whole-at .ensures) (c .if1 .taken)
 
--- src/broken.rt:53:17
 cast-place : tie.Need-cast-place
-cast-place c = search needs
+cast-place c = search (needs, c .before .before .before .pre .0 .few)
 
--- src/broken.rt:54:13
 mul-p : tie.Need-mul-p
-mul-p c = search needs
+mul-p c = search (needs, c .before .before .before .pre .0 .few)
 
--- src/broken.rt:54:9
 element-copy-out-p : tie.Need-element-copy-out-p
-element-copy-out-p c = search needs
+element-copy-out-p c = let len : length (c .before .before .before .args .t1 .entries) ≡ 64 = search (needs, length-mapped) in search (needs, len, c .before .before .before .pre .0 .few)
 
--- src/broken.rt:55:8
 start-in-requires : tie.Need-start-in-requires
-start-in-requires c κs = search needs
+start-in-requires c κs = c .before .before .before .pre .0 .room
 
--- src/broken.rt:55:35
 cast-if2 : tie.Need-cast-if2
-cast-if2 c = ?
+cast-if2 c = let len : length (c .before .before .before .before .args .t1 .entries) ≡ 64 = search (needs, length-mapped) in search (needs, minutes-in-day (c .before .before .before .before .args .t1) (c .before .before .before .before .args .h) (c .before .before .before .before .args .plan .now) (c .before .before .before .before .pre .0) len (c .before .before .before .before .args .k) (c .before .before .before .before .pre .1))
 
--- src/broken.rt:55:8
 add-if2 : tie.Need-add-if2
-add-if2 c = ?
+add-if2 c = let len : length (c .before .before .before .before .args .t1 .entries) ≡ 64 = search (needs, length-mapped) in search (needs, start-in-day (c .before .before .before .before .args .t1) (c .before .before .before .before .args .h) (c .before .before .before .before .args .plan .now) (c .before .before .before .before .pre .0) len (c .before .before .before .before .args .k) (c .before .before .before .before .pre .1), minutes-in-day (c .before .before .before .before .args .t1) (c .before .before .before .before .args .h) (c .before .before .before .before .args .plan .now) (c .before .before .before .before .pre .0) len (c .before .before .before .before .args .k) (c .before .before .before .before .pre .1), c .start-in .ensures)
 
--- src/broken.rt:55:49
 end-in-requires : tie.Need-end-in-requires
-end-in-requires c κs = search needs
+end-in-requires c κs = c .before .before .before .before .pre .0 .room
 
--- src/broken.rt:45:1
 returns-2 : tie.Need-returns-2
-returns-2 c = ?
+returns-2 c = let len : length (c .before .before .before .before .before .before .args .t1 .entries) ≡ 64 = search (needs, length-mapped) in in-one-piece (c .before .before .before .before .before .before .args .t1) (c .before .before .before .before .before .before .args .h) (c .before .before .before .before .before .before .args .plan .now) (c .before .before .before .before .before .before .pre .0) len (c .before .before .before .before .before .before .args .k) (c .before .before .before .before .before .before .pre .1) _ (c .before .before .before .before .whole-at .ensures) (c .before .before .before .if1 .left) _ _ (c .before .before .start-in .ensures) (c .before .end-in .ensures) (c .if2 .taken)
 
--- src/broken.rt:45:1
 returns-3 : tie.Need-returns-3
-returns-3 c = ?
+returns-3 c = let len : length (c .before .before .before .before .before .before .args .t1 .entries) ≡ 64 = search (needs, length-mapped) in in-pieces (c .before .before .before .before .before .before .args .t1) (c .before .before .before .before .before .before .args .h) (c .before .before .before .before .before .before .args .plan .now) (c .before .before .before .before .before .before .pre .0) len (c .before .before .before .before .before .before .args .k) (c .before .before .before .before .before .before .pre .1) _ (c .before .before .before .before .whole-at .ensures) (c .before .before .before .if1 .left) _ _ (c .before .before .start-in .ensures) (c .before .end-in .ensures) (c .if2 .left)
 
 pub one-broken-spec : {M : Type 1} → statement M
 one-broken-spec =

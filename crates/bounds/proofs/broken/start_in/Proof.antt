@@ -1,41 +1,37 @@
+-- The loop's invariant is `Sought`, the measure what is left of h.
+-- Assumes nothing.
+use borrow.Author.Needs.{needs}
+use Prim.Native.Nat.{_-_}
+use Rattle.bounds.proofs.BrokenCases.{Sought, sought-none, sought-next, sought-found, sought-all}
 use Rattle.bounds.proofs.broken.start_in.Statement.{statement}
 use Rattle.bounds.proofs.broken.start_in.Tie as tie
-use Rattle.bounds.proofs.broken.start_in.Reads as reads
-use Rattle.bounds.proofs.broken.start_in.Lts as lts
 
 abbrev Inv-loop : tie.InvT-loop
-Inv-loop plan h k t₀ t = ?
+Inv-loop plan h k t₀ t = Sought h plan k t
 
 abbrev μ-loop : tie.MeasureT-loop
-μ-loop plan h k t₀ t = ?
+μ-loop plan h k t₀ t = h - t
 
--- src/broken.rt:20:5
 loop-holds : tie.Need-loop-holds Inv-loop μ-loop
-loop-holds c = ?
+loop-holds c = sought-none _ _ _ (c .pre)
 
--- src/broken.rt:21:12
 shared-slice-read-if1 : tie.Need-shared-slice-read-if1 Inv-loop μ-loop
-shared-slice-read-if1 c = ?
+shared-slice-read-if1 c = search (needs, c .before .before .loop .inv .room)
 
--- src/broken.rt:24:9
 add-t : tie.Need-add-t Inv-loop μ-loop
-add-t c = ?
+add-t c = search needs
 
--- src/broken.rt:20:5
 loop-less : tie.Need-loop-less Inv-loop μ-loop
-loop-less c = ?
+loop-less c = search needs
 
--- src/broken.rt:20:5
 loop-again : tie.Need-loop-again Inv-loop μ-loop
-loop-again c = ?
+loop-again c = sought-next _ _ _ _ (c .before .before .before .loop .inv) (c .before .before .loop-test .taken) (c .if1 .left)
 
--- src/broken.rt:15:1
 returns : tie.Need-returns Inv-loop μ-loop
-returns c = ?
+returns c = sought-all _ _ _ _ (c .before .loop .inv) (c .loop-test .left)
 
--- src/broken.rt:15:1
 returns-2 : tie.Need-returns-2 Inv-loop μ-loop
-returns-2 c = ?
+returns-2 c = sought-found _ _ _ _ (c .before .before .before .loop .inv) (c .before .before .loop-test .taken) (c .if1 .taken)
 
 pub start-in-spec : {M : Type 1} → statement M
 start-in-spec =

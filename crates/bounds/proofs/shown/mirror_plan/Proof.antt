@@ -1,57 +1,52 @@
+-- The loop's invariant is `Turned`, the measure the minutes between.
+-- Assumes nothing.
+use borrow.Author.Needs.{needs}
+use Prim.Native.Nat.{ℕ, _-_, _<_}
+use native.Mathlib.Omega.{arith}
+use lib.ListN.{length, getD}
+use lib.Seq.{lt-length-set}
+use Rattle.bounds.proofs.ShownCases.{Turned, turn-start, turn-next, turn-long, turn-done}
 use Rattle.bounds.proofs.shown.mirror_plan.Statement.{statement}
 use Rattle.bounds.proofs.shown.mirror_plan.Tie as tie
-use Rattle.bounds.proofs.shown.mirror_plan.Reads as reads
-use Rattle.bounds.proofs.shown.mirror_plan.Lts as lts
 
 abbrev Inv-loop : tie.InvT-loop
-Inv-loop h plan₀ first₀ end₀ plan first end = ?
+Inv-loop h plan₀ first₀ end₀ plan first end = Turned h plan₀ plan first end
 
 abbrev μ-loop : tie.MeasureT-loop
-μ-loop h plan₀ first₀ end₀ plan first end = ?
+μ-loop h plan₀ first₀ end₀ plan first end = end - first
 
--- src/shown.rt:33:5
 loop-holds : tie.Need-loop-holds Inv-loop μ-loop
-loop-holds c = ?
+loop-holds c = turn-start _ _ (c .pre)
 
--- src/shown.rt:34:9
 sub-end : tie.Need-sub-end Inv-loop μ-loop
-sub-end c = ?
+sub-end c = search needs
 
--- src/shown.rt:35:21
 slice-read-place : tie.Need-slice-read-place Inv-loop μ-loop
-slice-read-place c = ?
+slice-read-place c = let long = turn-long _ _ _ _ _ (c .before .before .loop .inv) in search (needs, long, c .before .before .loop .inv .room, c .before .before .loop .inv .rest)
 
--- src/shown.rt:36:23
 slice-read-plan : tie.Need-slice-read-plan Inv-loop μ-loop
-slice-read-plan c = ?
+slice-read-plan c = let long = turn-long _ _ _ _ _ (c .before .before .before .loop .inv) in search (needs, long, c .before .before .before .loop .inv .room, c .before .before .before .loop .inv .rest)
 
--- src/shown.rt:36:9
 slice-write-plan : tie.Need-slice-write-plan Inv-loop μ-loop
-slice-write-plan c = ?
+slice-write-plan c = let long = turn-long _ _ _ _ _ (c .before .before .before .loop .inv) in search (needs, long, c .before .before .before .loop .inv .room, c .before .before .before .loop .inv .rest)
 
--- src/shown.rt:37:9
 slice-write-plan-2 : tie.Need-slice-write-plan-2 Inv-loop μ-loop
-slice-write-plan-2 c = ?
+slice-write-plan-2 c = let long = turn-long _ _ _ _ _ (c .before .before .before .loop .inv) in let below : c .before .before .before .loop .end - 1 < length (c .before .before .before .loop .plan) = omega (arith, long, c .before .before .before .loop .inv .room, c .before .before .before .loop .inv .rest, c .before .before .loop-test .taken) in lt-length-set {A = ℕ} (c .before .before .before .loop .plan) (c .before .before .before .loop .first) (getD (c .before .before .before .loop .plan) (c .before .before .before .loop .end - 1) 0) below
 
--- src/shown.rt:38:9
 add-first : tie.Need-add-first Inv-loop μ-loop
-add-first c = ?
+add-first c = let long = turn-long _ _ _ _ _ (c .before .before .before .loop .inv) in search (needs, long, c .before .before .before .loop .inv .room, c .before .before .before .loop .inv .rest)
 
--- src/shown.rt:33:5
 loop-less : tie.Need-loop-less Inv-loop μ-loop
-loop-less c = ?
+loop-less c = search needs
 
--- src/shown.rt:33:5
 loop-again : tie.Need-loop-again Inv-loop μ-loop
-loop-again c = ?
+loop-again c = turn-next _ _ _ _ _ (c .before .before .before .loop .inv) (c .before .before .loop-test .taken)
 
--- src/shown.rt:27:1
 same-length : tie.Need-same-length Inv-loop μ-loop
-same-length c = ?
+same-length c = turn-long _ _ _ _ _ (c .before .loop .inv)
 
--- src/shown.rt:27:1
 returns : tie.Need-returns Inv-loop μ-loop
-returns c = ?
+returns c = turn-done _ _ _ _ _ (c .before .loop .inv) (c .loop-test .left)
 
 pub mirror-plan-spec : {M : Type 1} → statement M
 mirror-plan-spec =
