@@ -8,7 +8,7 @@ use native.Mathlib.Numerals.{add-one}
 use native.Mathlib.Omega.{arith}
 use borrow.Author.Tests.{eq-eqb, ne-eqb, eqb-true, not-true, not-false}
 use lib.Dec.{eqb}
-use lib.ListN.{length, getD, length-take}
+use lib.ListN.{length, getD, take, length-take}
 use lib.Seq.{getD-take}
 use Rattle.list.specs.DayLists.{blank}
 use Rattle.list.specs.declared.types.Entry.{Entry}
@@ -36,23 +36,26 @@ at-most-one true b e = omega (arith, e)
 at-most-one false b e = omega (arith, e)
 
 -- a byte read is the place that has its minute
-pub place-at : (bytes : List ℕ) (t : ℕ) → t < length bytes → getD bytes t 0 ≡ placesIn bytes t
-place-at [] t h = absurd (omega arith)
-place-at (x ∷ bytes) zero h = refl
-place-at (x ∷ bytes) (suc t) h = place-at bytes t (omega arith)
+place-at : (h : ℕ) (bytes : List ℕ) (t : ℕ) → t < h → h ≤ length bytes → getD bytes t 0 ≡ placesIn (take h bytes) t
+place-at h bytes t below room = within bytes t (omega arith) ∙ sym (getD-take h bytes t idle below)
+  where
+    within : (bytes : List ℕ) (t : ℕ) → t < length bytes → getD bytes t 0 ≡ placesIn bytes t
+    within [] t h = absurd (omega arith)
+    within (x ∷ bytes) zero h = refl
+    within (x ∷ bytes) (suc t) h = within bytes t (omega arith)
 
 -- no minute before t is place k's
 pub record Sought (h : ℕ) (bytes : List ℕ) (k t : ℕ) : Type 0 where
   pub room : h ≤ length bytes
   pub within : t ≤ h
-  pub none-before : (i : ℕ) → i < t → placesIn bytes i ≡ k → ⊥
+  pub none-before : (i : ℕ) → i < t → placesIn (take h bytes) i ≡ k → ⊥
 
 module _ (h : ℕ) (bytes : List ℕ) (k : ℕ) where
   pub sought-none : h ≤ length bytes → Sought h bytes k 0
   sought-none room = record { room = room; within = omega arith; none-before = λ i l _. absurd (omega arith) }
 
   module _ (t : ℕ) (so : Sought h bytes k t) where
-    start-if : (t < h → placesIn bytes t ≡ k) → t ≡ startOf h (placesIn bytes) k
+    start-if : (t < h → placesIn (take h bytes) t ≡ k) → t ≡ startOf h (placesIn (take h bytes)) k
     start-if here =
         one-first h _ t _
         (record {
@@ -62,14 +65,14 @@ module _ (h : ℕ) (bytes : List ℕ) (k : ℕ) where
         })
         (first-below h _)
 
-    pub sought-all : h ≤ t → t ≡ startOf h (placesIn bytes) k
+    pub sought-all : h ≤ t → t ≡ startOf h (placesIn (take h bytes)) k
     sought-all end = start-if (λ l. absurd (omega arith))
 
     module _ (below : t < h) where
-      here : getD bytes t 0 ≡ placesIn bytes t
-      here = place-at bytes t (omega (arith, so .room))
+      here : getD bytes t 0 ≡ placesIn (take h bytes) t
+      here = place-at h bytes t below (so .room)
 
-      pub sought-found : getD bytes t 0 ≡ k → t ≡ startOf h (placesIn bytes) k
+      pub sought-found : getD bytes t 0 ≡ k → t ≡ startOf h (placesIn (take h bytes)) k
       sought-found e = start-if (λ _. sym here ∙ e)
 
       pub sought-next : (getD bytes t 0 ≡ k → ⊥) → Sought h bytes k (t + 1)
@@ -86,30 +89,30 @@ module _ (h : ℕ) (bytes : List ℕ) (k : ℕ) where
 pub record SoughtBack (h : ℕ) (bytes : List ℕ) (k t : ℕ) : Type 0 where
   pub room : h ≤ length bytes
   pub within : t ≤ h
-  pub is : endOf h (placesIn bytes) k ≡ endOf t (placesIn bytes) k
+  pub is : endOf h (placesIn (take h bytes)) k ≡ endOf t (placesIn (take h bytes)) k
 
 module _ (h : ℕ) (bytes : List ℕ) (k : ℕ) where
   pub back-none : h ≤ length bytes → SoughtBack h bytes k h
   back-none room = record { room = room; within = omega arith; is = refl }
 
   module _ (t : ℕ) (so : SoughtBack h bytes k t) where
-    pub back-all : t ≤ 0 → t ≡ endOf h (placesIn bytes) k
+    pub back-all : t ≤ 0 → t ≡ endOf h (placesIn (take h bytes)) k
     unfolding lastBelow
-    back-all end = let z : t ≡ 0 = omega arith in z ∙ sym (so .is ∙ ap (λ (x : ℕ). endOf x (placesIn bytes) k) z)
+    back-all end = let z : t ≡ 0 = omega arith in z ∙ sym (so .is ∙ ap (λ (x : ℕ). endOf x (placesIn (take h bytes)) k) z)
 
     module _ (below : 0 < t) where
-      last-here : getD bytes (t - 1) 0 ≡ placesIn bytes (t - 1)
-      last-here = place-at bytes (t - 1) (omega (arith, so .room, so .within))
+      last-here : getD bytes (t - 1) 0 ≡ placesIn (take h bytes) (t - 1)
+      last-here = place-at h bytes (t - 1) (omega (arith, so .within)) (so .room)
 
-      last-one : endOf t (placesIn bytes) k ≡ cond (eqb (placesIn bytes (t - 1)) k) t (endOf (t - 1) (placesIn bytes) k)
+      last-one : endOf t (placesIn (take h bytes)) k ≡ cond (eqb (placesIn (take h bytes) (t - 1)) k) t (endOf (t - 1) (placesIn (take h bytes)) k)
       unfolding lastBelow
       last-one = go t below
         where
-          go : (t : ℕ) → 0 < t → endOf t (placesIn bytes) k ≡ cond (eqb (placesIn bytes (t - 1)) k) t (endOf (t - 1) (placesIn bytes) k)
+          go : (t : ℕ) → 0 < t → endOf t (placesIn (take h bytes)) k ≡ cond (eqb (placesIn (take h bytes) (t - 1)) k) t (endOf (t - 1) (placesIn (take h bytes)) k)
           go zero h = absurd (omega arith)
           go (suc t) h = let z : suc t - 1 ≡ t = omega arith in rw z refl
 
-      pub back-found : getD bytes (t - 1) 0 ≡ k → t ≡ endOf h (placesIn bytes) k
+      pub back-found : getD bytes (t - 1) 0 ≡ k → t ≡ endOf h (placesIn (take h bytes)) k
       back-found e = sym (so .is ∙ last-one ∙ rw (eq-eqb _ _ (sym last-here ∙ e)))
 
       pub back-next : (getD bytes (t - 1) 0 ≡ k → ⊥) → SoughtBack h bytes k (t - 1)
@@ -125,35 +128,36 @@ module _ (l : DayList) (h : ℕ) (bytes : List ℕ) (has : HoldsPlan l h bytes) 
   count-is : windowsOf l .n ≡ l .n
   count-is = rw (length-take (l .n) (l .entries)) (omega (arith, has .few, long))
 
-  minutes-are : minutesOf h (placesIn bytes) k ≡ getD (l .entries) k blank .p
+  minutes-are : minutesOf h (placesIn (take h bytes)) k ≡ getD (l .entries) k blank .p
   minutes-are =
-      rw (has .day) (has .plan .exact k (omega (arith, count-is, place)))
+      ap (λ (x : ℕ). minutesOf x (placesIn (take h bytes)) k) (has .day)
+      ∙ has .plan .exact k (omega (arith, count-is, place))
       ∙ ap (λ (e : Entry). e .p) (getD-take (l .n) (l .entries) k blank place)
 
   pub minutes-in-day : getD (l .entries) k blank .p ≤ h
   minutes-in-day =
-      omega (arith, minutes-are, minutes-within h (placesIn bytes) k 0 h (λ t below _. (omega arith, below)))
+      omega (arith, minutes-are, minutes-within h (placesIn (take h bytes)) k 0 h (λ t below _. (omega arith, below)))
 
-  pub start-in-day : startOf h (placesIn bytes) k ≤ h
+  pub start-in-day : startOf h (placesIn (take h bytes)) k ≤ h
   start-in-day = first-below h _ .within
 
-  pub not-whole : (x : Bool) → x ≡ wholeIn l k → not x ≡ true → _≡_ {A = ℕ} 0 (cond (isBroken (wholeIn l) h (placesIn bytes) k) 1 0)
+  pub not-whole : (x : Bool) → x ≡ wholeIn l k → not x ≡ true → _≡_ {A = ℕ} 0 (cond (isBroken (wholeIn l) h (placesIn (take h bytes)) k) 1 0)
   not-whole x e f = let z : wholeIn l k ≡ false = sym e ∙ not-true x f in rw z refl
 
-  module _ (x : Bool) (e : x ≡ wholeIn l k) (t : not x ≡ false) (s end : ℕ) (start : s ≡ startOf h (placesIn bytes) k)
-      (ends : end ≡ endOf h (placesIn bytes) k) where
+  module _ (x : Bool) (e : x ≡ wholeIn l k) (t : not x ≡ false) (s end : ℕ) (start : s ≡ startOf h (placesIn (take h bytes)) k)
+      (ends : end ≡ endOf h (placesIn (take h bytes)) k) where
     whole : wholeIn l k ≡ true
     whole = sym e ∙ not-false x t
 
-    pub in-one-piece : s + getD (l .entries) k blank .p ≡ end → _≡_ {A = ℕ} 0 (cond (isBroken (wholeIn l) h (placesIn bytes) k) 1 0)
+    pub in-one-piece : s + getD (l .entries) k blank .p ≡ end → _≡_ {A = ℕ} 0 (cond (isBroken (wholeIn l) h (placesIn (take h bytes)) k) 1 0)
     in-one-piece same =
-        let z : startOf h (placesIn bytes) k + minutesOf h (placesIn bytes) k ≡ endOf h (placesIn bytes) k =
+        let z : startOf h (placesIn (take h bytes)) k + minutesOf h (placesIn (take h bytes)) k ≡ endOf h (placesIn (take h bytes)) k =
             omega (arith, same, start, ends, minutes-are) in
         rw (whole, eq-eqb _ _ z) refl
 
-    pub in-pieces : (s + getD (l .entries) k blank .p ≡ end → ⊥) → _≡_ {A = ℕ} 1 (cond (isBroken (wholeIn l) h (placesIn bytes) k) 1 0)
+    pub in-pieces : (s + getD (l .entries) k blank .p ≡ end → ⊥) → _≡_ {A = ℕ} 1 (cond (isBroken (wholeIn l) h (placesIn (take h bytes)) k) 1 0)
     in-pieces other =
-        let z : startOf h (placesIn bytes) k + minutesOf h (placesIn bytes) k ≡ endOf h (placesIn bytes) k → ⊥ =
+        let z : startOf h (placesIn (take h bytes)) k + minutesOf h (placesIn (take h bytes)) k ≡ endOf h (placesIn (take h bytes)) k → ⊥ =
             λ q. other (omega (arith, q, start, ends, minutes-are)) in
         rw (whole, ne-eqb _ _ z) refl
 
@@ -162,7 +166,7 @@ pub record Counted (l : DayList) (h : ℕ) (bytes : List ℕ) (x i : ℕ) : Type
   pub few : l .n ≤ 64
   pub passed : i ≤ l .n
   pub small : x ≤ i
-  pub is : x ≡ sum i (λ j. cond (isBroken (wholeIn l) h (placesIn bytes) j) 1 0)
+  pub is : x ≡ sum i (λ j. cond (isBroken (wholeIn l) h (placesIn (take h bytes)) j) 1 0)
 
 module _ (l : DayList) (h : ℕ) (bytes : List ℕ) (has : HoldsPlan l h bytes) where
   pub counted-none : Counted l h bytes 0 0
@@ -170,18 +174,18 @@ module _ (l : DayList) (h : ℕ) (bytes : List ℕ) (has : HoldsPlan l h bytes) 
   counted-none = record { few = has .few; passed = omega arith; small = omega arith; is = refl }
 
   module _ (x i : ℕ) (so : Counted l h bytes x i) where
-    pub counted-next : i < l .n → (b : ℕ) → b ≡ cond (isBroken (wholeIn l) h (placesIn bytes) i) 1 0 → Counted l h bytes (x + b) (i + 1)
+    pub counted-next : i < l .n → (b : ℕ) → b ≡ cond (isBroken (wholeIn l) h (placesIn (take h bytes)) i) 1 0 → Counted l h bytes (x + b) (i + 1)
     unfolding sum
     counted-next below b e =
         record {
           few = so .few;
           passed = omega (arith, below);
-          small = omega (arith, so .small, at-most-one (isBroken (wholeIn l) h (placesIn bytes) i) b e);
-          is = rw (add-one, e) (ap (λ (y : ℕ). y + cond (isBroken (wholeIn l) h (placesIn bytes) i) 1 0) (so .is));
+          small = omega (arith, so .small, at-most-one (isBroken (wholeIn l) h (placesIn (take h bytes)) i) b e);
+          is = rw (add-one, e) (ap (λ (y : ℕ). y + cond (isBroken (wholeIn l) h (placesIn (take h bytes)) i) 1 0) (so .is));
         }
 
-    pub counted-all : length (l .entries) ≡ 64 → l .n ≤ i → x ≡ brokenIn (wholeIn l) (windowsOf l) (placesIn bytes)
+    pub counted-all : length (l .entries) ≡ 64 → l .n ≤ i → x ≡ brokenIn (wholeIn l) (windowsOf l) (placesIn (take h bytes))
     unfolding brokenIn
     counted-all long end =
         let z : i ≡ windowsOf l .n = rw (length-take (l .n) (l .entries)) (omega (arith, so .passed, has .few, long)) in
-        rw (← has .day) (so .is ∙ ap (λ (n : ℕ). sum n (λ j. cond (isBroken (wholeIn l) h (placesIn bytes) j) 1 0)) z)
+        rw (← has .day) (so .is ∙ ap (λ (n : ℕ). sum n (λ j. cond (isBroken (wholeIn l) h (placesIn (take h bytes)) j) 1 0)) z)

@@ -15,5 +15,6 @@ pub mod Examples
 mod EndCases
 mod BrokenCases
 mod ShownCases
+mod CallCases
 
 

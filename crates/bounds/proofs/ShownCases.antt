@@ -22,7 +22,6 @@ use Rattle.jackson.proofs.Listed.{list-is, list-at, list-length}
 use Rattle.narrow.specs.Searching.{withD}
 use Rattle.bounds.specs.Ends.{leastEnd}
 use Rattle.bounds.specs.Parts.{StoresEarly}
-use Rattle.bounds.proofs.BrokenCases.{place-at}
 
 -- a plan buffer that is long enough holds the schedule
 pub filled-with : (w : Windows) (old : List ℕ) (v : Verdict) (new : List ℕ) → FillsWindows w old v new → w .h ≤ length old

@@ -3,7 +3,7 @@ use Prim.Native.Nat.{ℕ, _<_, _≤_}
 use mathlib.Core.Path.{_≡_}
 use mathlib.Core.Bool.{Bool}
 use mathlib.Core.List.{List, _++_}
-use lib.ListN.{length, drop}
+use lib.ListN.{length, take, drop}
 use Rattle.list.specs.Outcomes.{Outcome}
 use Rattle.list.specs.declared.types.DayList.{DayList}
 use Rattle.jackson.specs.Windows.{Windows, windowsOf, windowsIn}
@@ -36,7 +36,7 @@ pub record HoldsPlan (l : DayList) (h : ℕ) (bytes : List ℕ) : Type 0 where
   pub day : h ≡ l .frame .h
   pub few : l .n ≤ 64
   pub room : h ≤ length bytes
-  pub plan : Plan (windowsOf l) (placesIn bytes)
+  pub plan : Plan (windowsOf l) (placesIn (take h bytes))
 
 -- an answer of narrowing after checks with this outcome
 pub record NarrowsAfter (checks : Outcome (Unit {0})) (l : DayList) (a : NarrowAnswer) : Type 0 where

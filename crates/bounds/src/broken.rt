@@ -4,7 +4,7 @@ use list::types::DayList;
 ghost use mathlib.Core.Path.{_≡_};
 ghost use mathlib.Core.Bool.{cond};
 ghost use Prim.Native.Nat.{_<_, _≤_};
-ghost use lib.ListN.{length, getD};
+ghost use lib.ListN.{length, take};
 ghost use Rattle.jackson.specs.Windows.{windowsOf};
 ghost use Rattle.jackson.specs.Plans.{placesIn, startOf, endOf};
 ghost use Rattle.narrow.specs.Calls.{wholeIn};
@@ -14,7 +14,7 @@ ghost use Rattle.bounds.specs.Parts.{HoldsPlan};
 // The first of h minutes that place k has, h for none.
 fn start_in(plan: &[u8], h: usize, k: u8) -> usize
     requires { ⌜ h ≤ length (now plan) ⌝ }
-    ensures { λ t. ⌜ t ≡ startOf h (placesIn (now (plan .entry))) k ⌝ }
+    ensures { λ t. ⌜ t ≡ startOf h (placesIn (take h (now (plan .entry)))) k ⌝ }
 {
     let mut t: usize = 0;
     while t < h {
@@ -29,7 +29,7 @@ fn start_in(plan: &[u8], h: usize, k: u8) -> usize
 // The minute after the last of h minutes that place k has, 0 for none.
 fn end_in(plan: &[u8], h: usize, k: u8) -> usize
     requires { ⌜ h ≤ length (now plan) ⌝ }
-    ensures { λ t. ⌜ t ≡ endOf h (placesIn (now (plan .entry))) k ⌝ }
+    ensures { λ t. ⌜ t ≡ endOf h (placesIn (take h (now (plan .entry)))) k ⌝ }
 {
     let mut t = h;
     while 0 < t {
@@ -45,7 +45,7 @@ fn end_in(plan: &[u8], h: usize, k: u8) -> usize
 fn one_broken(list: DayList, h: usize, plan: &[u8], k: usize) -> u8
     requires { ⌜ HoldsPlan list h (now plan) ⌝ }
     requires { ⌜ k < list .n ⌝ }
-    ensures { λ x. ⌜ x ≡ cond (isBroken (wholeIn list) h (placesIn (now (plan .entry))) k) 1 0 ⌝ }
+    ensures { λ x. ⌜ x ≡ cond (isBroken (wholeIn list) h (placesIn (take h (now (plan .entry)))) k) 1 0 ⌝ }
 {
     if !whole_at(list, k) {
         return 0;
@@ -62,7 +62,7 @@ fn one_broken(list: DayList, h: usize, plan: &[u8], k: usize) -> u8
 // How many entries are broken in the plan of h minutes.
 pub(crate) fn broken_in(list: DayList, h: usize, plan: &[u8]) -> u8
     requires { ⌜ HoldsPlan list h (now plan) ⌝ }
-    ensures { λ x. ⌜ x ≡ brokenIn (wholeIn list) (windowsOf list) (placesIn (now (plan .entry))) ⌝ }
+    ensures { λ x. ⌜ x ≡ brokenIn (wholeIn list) (windowsOf list) (placesIn (take h (now (plan .entry)))) ⌝ }
 {
     let count = list.n as usize;
     let mut sum: u8 = 0;

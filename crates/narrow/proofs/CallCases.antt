@@ -97,7 +97,7 @@ module _ (l : DayList) (a : NarrowAnswer) where
         let z : _≡_ {A = DayList × ℕ} (a .list, a .moves) (listWith l (v .windows), v .moves) = rw e at (answers .beside) in
         (ap (λ (x : DayList × ℕ). x .0) z, ap (λ (x : DayList × ℕ). x .1) z)
 
-    holds-answer : AnswersAs l o a → HoldsAnswer l o a
+    pub holds-answer : AnswersAs l o a → HoldsAnswer l o a
     holds-answer answers =
         record {
           narrowed = narrowed (a .verdict) o (answers .outcome) refl;

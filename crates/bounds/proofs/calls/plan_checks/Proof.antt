@@ -1,36 +1,30 @@
+-- The value check, then row 11.
+-- Assumes nothing.
 use borrow.Author.Needs.{needs}
+use Rattle.bounds.proofs.CallCases.{plan-failed, buffer-short, buffer-fine}
 use Rattle.bounds.proofs.calls.plan_checks.Statement.{statement}
 use Rattle.bounds.proofs.calls.plan_checks.Tie as tie
-use Rattle.bounds.proofs.calls.plan_checks.Reads as reads
-use Rattle.bounds.proofs.calls.plan_checks.Lts as lts
-use Rattle.list.proofs.check.Reads as check-reads
 
--- src/calls.rt:30:9
 check-requires : tie.Need-check-requires
 check-requires c κs = search needs
 
 enum-told : tie.Need-enum-told
 enum-told c = search needs
 
--- src/calls.rt:32:9
 enum-told-2 : tie.Need-enum-told-2
 enum-told-2 c = search needs
 
--- src/calls.rt:32:9
 returns : tie.Need-returns
-returns c = ?
+returns c = plan-failed (c .before .before .before .args .list) _ (c .before .before .check .ensures) _ (c .enum-told2 .given .1) (c .before .before .before .args .room)
 
--- src/calls.rt:34:13
 cast-h : tie.Need-cast-h
 cast-h c = search needs
 
--- src/calls.rt:36:9
 returns-2 : tie.Need-returns-2
-returns-2 c = ?
+returns-2 c = buffer-short (c .before .before .before .before .before .args .list) _ (c .before .before .before .before .check .ensures) (c .before .before .before .before .before .args .room) (c .before .before .enum-told .given .1) (c .if1 .taken)
 
--- src/calls.rt:27:1
 returns-3 : tie.Need-returns-3
-returns-3 c = ?
+returns-3 c = buffer-fine (c .before .before .before .before .before .args .list) _ (c .before .before .before .before .check .ensures) (c .before .before .before .before .before .args .room) (c .before .before .enum-told .given .1) (c .if1 .left)
 
 pub plan-checks-spec : {M : Type 1} → statement M
 plan-checks-spec =

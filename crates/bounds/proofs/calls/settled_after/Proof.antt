@@ -1,33 +1,29 @@
+-- A refusal is handed on; else the list is narrowed.
+-- Assumes nothing.
 use borrow.Author.Needs.{needs}
+use mathlib.Core.Path.{ap}
+use Rattle.list.specs.Refusals.{verdictOf}
+use Rattle.bounds.proofs.CallCases.{narrows-not, narrows-settled}
 use Rattle.bounds.proofs.calls.settled_after.Statement.{statement}
 use Rattle.bounds.proofs.calls.settled_after.Tie as tie
-use Rattle.bounds.proofs.calls.settled_after.Reads as reads
-use Rattle.bounds.proofs.calls.settled_after.Lts as lts
-use Rattle.narrow.proofs.refused_with.Reads as refused-with-reads
-use Rattle.narrow.proofs.settle.Reads as settle-reads
 
 enum-told : tie.Need-enum-told
 enum-told c = search needs
 
--- src/calls.rt:61:9
 enum-told-2 : tie.Need-enum-told-2
 enum-told-2 c = search needs
 
--- src/calls.rt:61:9
 refused-with-requires : tie.Need-refused-with-requires
 refused-with-requires c κs = search needs
 
--- src/calls.rt:61:9
 returns : tie.Need-returns
-returns c = ?
+returns c = narrows-not (c .before .before .before .args .list) (c .before .before .before .args .checks) _ _ (c .before .enum-told2 .given .1) (c .refused-with .ensures)
 
--- src/calls.rt:63:5
 settle-requires : tie.Need-settle-requires
 settle-requires c κs = search needs
 
--- src/calls.rt:56:1
 returns-2 : tie.Need-returns-2
-returns-2 c = ?
+returns-2 c = narrows-settled (c .before .before .before .args .list) (c .before .before .before .args .checks) _ (c .before .enum-told .given .1) (c .before .before .before .pre (ap verdictOf (c .before .enum-told .given .1))) (c .settle .ensures)
 
 pub settled-after-spec : {M : Type 1} → statement M
 settled-after-spec =

@@ -1,41 +1,33 @@
+-- The value check, then rows 13 and 11.
+-- Assumes nothing.
 use borrow.Author.Needs.{needs}
+use Rattle.bounds.proofs.CallCases.{shown-failed, place-unknown, place-known}
 use Rattle.bounds.proofs.calls.shown_checks.Statement.{statement}
 use Rattle.bounds.proofs.calls.shown_checks.Tie as tie
-use Rattle.bounds.proofs.calls.shown_checks.Reads as reads
-use Rattle.bounds.proofs.calls.shown_checks.Lts as lts
-use Rattle.bounds.proofs.calls.plan_checks.Reads as plan-checks-reads
-use Rattle.list.proofs.check.Reads as check-reads
 
--- src/calls.rt:45:9
 check-requires : tie.Need-check-requires
 check-requires c κs = search needs
 
 enum-told : tie.Need-enum-told
 enum-told c = search needs
 
--- src/calls.rt:47:9
 enum-told-2 : tie.Need-enum-told-2
 enum-told-2 c = search needs
 
--- src/calls.rt:47:9
 returns : tie.Need-returns
-returns c = ?
+returns c = shown-failed (c .before .before .before .args .list) _ (c .before .before .check .ensures) _ (c .enum-told2 .given .1) (c .before .before .before .args .k) (c .before .before .before .args .room)
 
--- src/calls.rt:49:8
 cast-if1 : tie.Need-cast-if1
 cast-if1 c = search needs
 
--- src/calls.rt:50:9
 returns-2 : tie.Need-returns-2
-returns-2 c = ?
+returns-2 c = place-unknown (c .before .before .before .before .before .args .list) _ (c .before .before .before .before .check .ensures) (c .before .before .before .before .before .args .room) (c .before .before .enum-told .given .1) (c .before .before .before .before .before .args .k) (c .if1 .taken)
 
--- src/calls.rt:52:5
 plan-checks-requires : tie.Need-plan-checks-requires
 plan-checks-requires c κs = search needs
 
--- src/calls.rt:42:1
 returns-3 : tie.Need-returns-3
-returns-3 c = ?
+returns-3 c = place-known (c .before .before .before .before .before .before .args .list) _ (c .before .before .before .before .before .check .ensures) (c .before .before .before .before .before .before .args .room) (c .before .before .before .enum-told .given .1) (c .before .before .before .before .before .before .args .k) (c .before .if1 .left) (c .plan-checks .result) (c .plan-checks .ensures)
 
 pub shown-checks-spec : {M : Type 1} → statement M
 shown-checks-spec =
