@@ -152,13 +152,13 @@ module _ (l : DayList) (h : ℕ) (bytes : List ℕ) (has : HoldsPlan l h bytes) 
     pub in-one-piece : s + getD (l .entries) k blank .p ≡ end → _≡_ {A = ℕ} 0 (cond (isBroken (wholeIn l) h (placesIn (take h bytes)) k) 1 0)
     in-one-piece same =
         let z : startOf h (placesIn (take h bytes)) k + minutesOf h (placesIn (take h bytes)) k ≡ endOf h (placesIn (take h bytes)) k =
-            omega (arith, same, start, ends, minutes-are) in
+        omega (arith, same, start, ends, minutes-are) in
         rw (whole, eq-eqb _ _ z) refl
 
     pub in-pieces : (s + getD (l .entries) k blank .p ≡ end → ⊥) → _≡_ {A = ℕ} 1 (cond (isBroken (wholeIn l) h (placesIn (take h bytes)) k) 1 0)
     in-pieces other =
         let z : startOf h (placesIn (take h bytes)) k + minutesOf h (placesIn (take h bytes)) k ≡ endOf h (placesIn (take h bytes)) k → ⊥ =
-            λ q. other (omega (arith, q, start, ends, minutes-are)) in
+        λ q. other (omega (arith, q, start, ends, minutes-are)) in
         rw (whole, ne-eqb _ _ z) refl
 
 -- the broken entries among the first i

@@ -8,7 +8,7 @@ use native.Mathlib.Omega.{arith}
 use borrow.Author.Tests.{lt-ltb, le-ltb, le-leb, lt-leb, leb-false, ltb-false, eq-eqb, ne-eqb}
 use lib.Dec.{eqb, leb, ltb}
 use lib.ListN.{length, getD, take, drop, replicate}
-use lib.Seq.{take-at, drop-at}
+use lib.Seq.{length-take-le, take-at, drop-at}
 use Rattle.list.specs.Outcomes.{Code, Row, Outcome, answered, refused, firstOf, andThen}
 use Rattle.list.specs.Refusals.{codeOf, verdictOf}
 use Rattle.list.specs.Checks.{checkOf, WellFormed}
@@ -22,12 +22,14 @@ use Rattle.list.specs.Refusals.{outcomeOf}
 use Rattle.list.proofs.Sound.{sound-list}
 use Rattle.jackson.specs.Windows.{Windows, windowsOf, windowsIn}
 use Rattle.jackson.specs.Plans.{placesIn}
+use Rattle.jackson.specs.Mirrors.{mirror, mirrorBytes, MirrorOf}
 use Rattle.jackson.specs.Intervals.{overloadOf}
 use Rattle.jackson.specs.Minutes.{schedule}
 use Rattle.jackson.specs.Testing.{Holds}
 use Rattle.jackson.specs.Planning.{FillsWindows}
 use Rattle.jackson.specs.declared.types.WindowSet.{WindowSet}
 use Rattle.jackson.proofs.ListLaws.{list-few}
+use Rattle.narrow.specs.Searching.{withD}
 use Rattle.narrow.specs.Laws.{Formed}
 use Rattle.narrow.specs.Settling.{Widest}
 use Rattle.narrow.specs.Rounds.{Narrowed}
@@ -36,15 +38,18 @@ use Rattle.narrow.specs.declared.types.NarrowAnswer.{NarrowAnswer}
 use Rattle.narrow.proofs.OverloadPlanner.{overload-planner}
 use Rattle.narrow.proofs.RoundsEnd.{answered-refused}
 use Rattle.narrow.proofs.NarrowLaws.{narrow-law}
+use Rattle.narrow.proofs.MirrorSearches.{formed-mirror}
 use Rattle.narrow.proofs.CallCases.{list-formed, answers-refused, holds-answer}
 use Rattle.bounds.specs.Ends.{leastEnd, greatestStart}
-use Rattle.bounds.specs.ShownPlans.{earlyPlan}
+use Rattle.bounds.specs.ShownPlans.{earlyPlan, latePlan}
 use Rattle.bounds.specs.BrokenEntries.{brokenIn}
 use Rattle.bounds.specs.Parts.{HoldsBounded, StoresEarly, HoldsPlan, NarrowsAfter}
 use Rattle.bounds.proofs.Demands.{plans-windows}
 use Rattle.bounds.proofs.EndCases.{least-end-kind}
-use Rattle.bounds.proofs.ShownCases.{filled-with}
-use Rattle.bounds.specs.Calls.{PlansWindows, byPlace, settledOr, planned, leastEnds, greatestStarts, brokenOf, earlyOf, narrowAfter, beforeNine, bufferRow, placeRow, planChecks, shownChecks}
+use Rattle.bounds.proofs.EndSearches.{least-end-range}
+use Rattle.bounds.proofs.MirrorEnds.{start-by-mirror, late-by-mirror}
+use Rattle.bounds.proofs.ShownCases.{stored-long, filled-with, schedule-long, mirror-front}
+use Rattle.bounds.specs.Calls.{PlansWindows, byPlace, settledOr, planned, leastEnds, greatestStarts, brokenOf, earlyOf, lateOf, narrowAfter, beforeNine, bufferRow, placeRow, planChecks, shownChecks}
 
 -- The checks before 9.
 module _ (l : DayList) (v : Verdict) (checked : verdictOf v ≡ checkOf l) where
@@ -179,6 +184,12 @@ module _ (l : DayList) (checks : Outcome (Unit {0})) (a : NarrowAnswer) (settled
     count-is : windowsOf (a .list) .n ≡ a .list .n
     count-is = ap (λ (w : Windows). w .n) (sym (holds .windows)) ∙ settled-bounded .count
 
+    pub place-in-list : WellFormed l → length (l .entries) ≡ 64 → (k : ℕ) → k < l .n → k < a .list .n
+    place-in-list formed long k h =
+        let given : windowsOf l .n ≡ l .n = length-take-le (l .n) (l .entries) (omega (arith, long, sound-list l formed .header .room)) in
+        let same : windowsOf (a .list) .n ≡ windowsOf l .n = ap (λ (w : Windows). w .n) (settled .widest .entries) in
+        omega (arith, given, same, count-is, h)
+
     pub day-is : s .h ≡ l .frame .h
     day-is = ap (λ (w : Windows). w .h) (holds .windows) ∙ settled-day
 
@@ -201,13 +212,16 @@ module _ (l : DayList) (checks : Outcome (Unit {0})) (a : NarrowAnswer) (settled
       front : take (windowsOf (a .list) .h) new ≡ schedule (windowsOf (a .list))
       front = rw stored (take-at (schedule (windowsOf (a .list))) _ _ (settled-plan .plan .long))
 
-      pub plan-held : length new ≡ length old → HoldsPlan (a .list) (s .h) new
-      plan-held long =
+      pub plan-long : length new ≡ length old
+      plan-long = stored-long (windowsOf (a .list) .h) (schedule (windowsOf (a .list))) old new stored (schedule-long _) (rw settled-day room)
+
+      pub plan-held : HoldsPlan (a .list) (s .h) new
+      plan-held =
           let day : s .h ≡ a .list .frame .h = ap (λ (w : Windows). w .h) (holds .windows) in
           record {
             day = day;
             few = settled .few;
-            room = omega (arith, long, day-is, room);
+            room = omega (arith, plan-long, day-is, room);
             plan = rw (day, front) (settled-plan .plan .plan);
           }
 
@@ -234,3 +248,52 @@ module _ (l : DayList) (checks : Outcome (Unit {0})) (a : NarrowAnswer) (settled
             rw (settled .outcome)
             (stores .buffer
             ∙ (λ i. earlyPlan (holds .windows i) k (end-is i) ++ drop (holds .windows i .h) old))
+
+      -- in the mirror
+      module _ (place : k < a .list .n) (t : WindowSet) (turned : MirrorOf s t) (old : List ℕ) (e : ℕ) (one : List ℕ)
+          (stores : StoresEarly (λ _. b) (windowsIn t) k old e one) where
+        abbrev w : Windows
+        w = windowsOf (a .list)
+
+        place-in : k < w .n
+        place-in = omega (arith, count-is, place)
+
+        turned-is : windowsIn t ≡ mirror w
+        turned-is = turned .windows ∙ ap mirror (holds .windows)
+
+        mirror-end : e ≡ leastEnd overloadOf (wholeIn l) (mirror w) k
+        mirror-end = stores .bound ∙ rw turned-is (least-end-kind (wholeIn l) b (mirror w) k kind-is)
+
+        start-is : w .h - e ≡ greatestStart overloadOf (wholeIn l) w k
+        start-is = rw mirror-end (sym (start-by-mirror overload-planner w settled-formed k place-in (wholeIn l)))
+
+        pub mirror-day : t .h ≡ l .frame .h
+        mirror-day = ap (λ (x : Windows). x .h) turned-is ∙ settled-day
+
+        pub end-in-day : e ≤ t .h
+        end-in-day =
+            let formed = formed-mirror w settled-formed in
+            let range = least-end-range overloadOf (wholeIn l) (mirror w) formed k place-in in
+            omega (arith, mirror-end, range .1, formed .in-day k place-in, ap (λ (x : Windows). x .h) turned-is)
+
+        pub late-bound : t .h - e ≡ settledOr 0 (λ x. greatestStart overloadOf (wholeIn l) x k) (narrowAfter checks l)
+        late-bound = rw (settled .outcome) (ap (λ (x : Windows). x .h - e) turned-is ∙ start-is)
+
+        one-is : one ≡ earlyPlan (mirror w) k e ++ drop (w .h) old
+        one-is =
+            let bound = sym (stores .bound) in
+            stores .buffer ∙ (λ i. earlyPlan (turned-is i) k (bound i) ++ drop (turned-is i .h) old)
+
+        pub late-stored : (new : List ℕ) → new ≡ mirrorBytes (t .h) one ++ drop (t .h) one → new ≡ planned (lateOf (wholeIn l) k) old (narrowAfter checks l)
+        late-stored new q =
+            rw (settled .outcome)
+            (q
+            ∙ (λ i. mirrorBytes (turned-is i .h) (one-is i) ++ drop (turned-is i .h) (one-is i))
+            ∙ rw (mirror-front (w .h) (earlyPlan (mirror w) k e) (drop (w .h) old) long, drop-at (earlyPlan (mirror w) k e) (drop (w .h) old) (w .h) long)
+            (ap (λ (xs : List ℕ). xs ++ drop (w .h) old) (sym (late-by-mirror w k place-in e in-day) ∙ ap (latePlan w k) start-is)))
+          where
+            long : length (earlyPlan (mirror w) k e) ≡ w .h
+            long = schedule-long (withD (mirror w) k e)
+
+            in-day : e ≤ w .h
+            in-day = omega (arith, end-in-day, ap (λ (x : Windows). x .h) turned-is)

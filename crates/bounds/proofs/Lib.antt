@@ -16,5 +16,4 @@ mod EndCases
 mod BrokenCases
 mod ShownCases
 mod CallCases
-
-
+mod AnswerCases

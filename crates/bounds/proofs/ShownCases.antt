@@ -23,6 +23,10 @@ use Rattle.narrow.specs.Searching.{withD}
 use Rattle.bounds.specs.Ends.{leastEnd}
 use Rattle.bounds.specs.Parts.{StoresEarly}
 
+-- a buffer in which a plan of h bytes was stored is as long as before
+pub stored-long : (h : ℕ) (xs old new : List ℕ) → new ≡ xs ++ drop h old → length xs ≡ h → h ≤ length old → length new ≡ length old
+stored-long h xs old new e long room = rw e (length-front old xs h (long ∙ sym (length-take-le h old room)))
+
 -- a plan buffer that is long enough holds the schedule
 pub filled-with : (w : Windows) (old : List ℕ) (v : Verdict) (new : List ℕ) → FillsWindows w old v new → w .h ≤ length old
     → new ≡ schedule w ++ drop (w .h) old
@@ -37,6 +41,15 @@ stored-early whole w u k e old v new same fills room bound =
 -- lists of the same values
 list-same : (n : ℕ) (f g : ℕ → ℕ) → ((t : ℕ) → t < n → f t ≡ g t) → listOf n f ≡ listOf n g
 list-same n f g e = list-is n f 0 (listOf n g) (list-length n g) (λ t h. e t h ∙ sym (list-at n g 0 t h))
+
+-- the mirror looks at the plan's own bytes alone
+pub mirror-front : (h : ℕ) (xs ys : List ℕ) → length xs ≡ h → mirrorBytes h (xs ++ ys) ≡ mirrorBytes h xs
+mirror-front h xs ys long = list-same h _ _ (λ t below. List·getD-append xs ys idle (h - suc t) (rw long (omega arith)))
+
+-- a schedule has a byte for each minute
+pub schedule-long : (w : Windows) → length (schedule w) ≡ w .h
+unfolding schedule
+schedule-long w = list-length (w .h) _
 
 -- one value stored
 list-set : (n : ℕ) (f : ℕ → ℕ) (i x : ℕ) → i < n → set (listOf n f) i x ≡ listOf n (λ t. cond (eqb t i) x (f t))
@@ -80,7 +93,7 @@ module _ (h : ℕ) (old : List ℕ) where
 
   module _ (new : List ℕ) (first end : ℕ) (so : Turned h old new first end) where
     pub turn-long : length new ≡ length old
-    turn-long = rw (so .bytes) (length-front old (listOf h _) h (list-length h _ ∙ sym (length-take-le h old (so .room))))
+    turn-long = stored-long h (listOf h (turned h old first end)) old new (so .bytes) (list-length h (turned h old first end)) (so .room)
 
     read : (t : ℕ) → t < h → getD new t 0 ≡ turned h old first end t
     read t below =

@@ -1,75 +1,57 @@
+-- The checks and narrowing may refuse; else the plan is stored, and the bounds are those of the settled list.
+-- Assumes nothing.
 use borrow.Author.Needs.{needs}
+use mathlib.Core.Path.{sym, _∙_}
+use lib.ListN.{length}
+use Rattle.bounds.proofs.CallCases.{plan-formed}
+use Rattle.bounds.proofs.AnswerCases.{plan-turned, plan-bounded, plan-holds, plan-same-length, plan-done}
 use Rattle.bounds.proofs.calls.plan_day.Statement.{statement}
 use Rattle.bounds.proofs.calls.plan_day.Tie as tie
-use Rattle.bounds.proofs.calls.plan_day.Reads as reads
-use Rattle.bounds.proofs.calls.plan_day.Lts as lts
-use Rattle.bounds.proofs.broken.broken_in.Reads as broken-in-reads
-use Rattle.bounds.proofs.calls.plan_checks.Reads as plan-checks-reads
-use Rattle.bounds.proofs.calls.settled_after.Reads as settled-after-reads
-use Rattle.bounds.proofs.ends.greatest_starts.Reads as greatest-starts-reads
-use Rattle.bounds.proofs.ends.least_ends.Reads as least-ends-reads
-use Rattle.bounds.proofs.ends.zeros.Reads as zeros-reads
-use Rattle.jackson.proofs.untested_schedule.Reads as untested-schedule-reads
-use Rattle.jackson.proofs.untested_windows.Reads as untested-windows-reads
 
--- src/calls.rt:70:34
 plan-checks-requires : tie.Need-plan-checks-requires
 plan-checks-requires c κs = search needs
 
--- src/calls.rt:70:9
 settled-after-requires : tie.Need-settled-after-requires
-settled-after-requires c κs = ?
+settled-after-requires c κs = λ e. plan-formed (c .before .before .args .list) (length (c .before .before .args .plan .now)) (sym (c .plan-checks .ensures) ∙ e)
 
 enum-told : tie.Need-enum-told
 enum-told c = search needs
 
--- src/calls.rt:76:19
 enum-told-2 : tie.Need-enum-told-2
 enum-told-2 c = search needs
 
--- src/calls.rt:76:19
 zeros-requires : tie.Need-zeros-requires
 zeros-requires c κs = search needs
 
--- src/calls.rt:77:21
 zeros-requires-2 : tie.Need-zeros-requires-2
 zeros-requires-2 c κs = search needs
 
--- src/calls.rt:73:9
 returns : tie.Need-returns
-returns c = ?
+returns c = plan-turned (c .before .before .before .before .before .before .before .args .list) (c .before .before .before .before .before .before .before .args .plan .now) (c .before .before .before .before .before .plan-checks .result) (c .before .before .before .before .before .plan-checks .ensures) (c .before .before .before .before .settled-after .result) (c .before .before .before .before .settled-after .ensures) _ (c .before .before .enum-told2 .given .1) _ _ (c .before .zeros .ensures) (c .zeros2 .ensures)
 
--- src/calls.rt:81:9
 untested-windows-requires : tie.Need-untested-windows-requires
 untested-windows-requires c κs = search needs
 
--- src/calls.rt:82:9
 untested-schedule-requires : tie.Need-untested-schedule-requires
 untested-schedule-requires c κs = search needs
 
--- src/calls.rt:85:36
 cast-broken-in : tie.Need-cast-broken-in
 cast-broken-in c = search needs
 
--- src/calls.rt:85:17
 broken-in-requires : tie.Need-broken-in-requires
-broken-in-requires c κs = ?
+broken-in-requires c κs = plan-holds (c .before .before .before .before .before .before .before .before .before .before .before .before .before .args .list) (c .before .before .before .before .before .before .before .before .before .before .before .before .before .args .plan .now) (c .before .before .before .before .before .before .before .before .before .before .before .plan-checks .result) (c .before .before .before .before .before .before .before .before .before .before .before .plan-checks .ensures) (c .before .before .before .before .before .before .before .before .before .before .settled-after .result) (c .before .before .before .before .before .before .before .before .before .before .settled-after .ensures) (c .before .before .before .before .before .before .before .before .enum-told .given .1) (c .before .before .before .before .before .before .untested-windows .result) (c .before .before .before .before .before .before .untested-windows .ensures) (c .before .before .before .before .untested-schedule .result) _ (c .before .before .before .before .untested-schedule .ensures)
 
--- src/calls.rt:86:15
 least-ends-requires : tie.Need-least-ends-requires
-least-ends-requires c κs = ?
+least-ends-requires c κs = plan-bounded (c .before .before .before .before .before .before .before .before .before .before .before .before .before .before .args .list) (c .before .before .before .before .before .before .before .before .before .before .before .before .before .before .args .plan .now) (c .before .before .before .before .before .before .before .before .before .before .before .before .plan-checks .result) (c .before .before .before .before .before .before .before .before .before .before .before .before .plan-checks .ensures) (c .before .before .before .before .before .before .before .before .before .before .before .settled-after .result) (c .before .before .before .before .before .before .before .before .before .before .before .settled-after .ensures) (c .before .before .before .before .before .before .before .before .before .enum-told .given .1) (c .before .before .before .before .before .before .before .untested-windows .result) (c .before .before .before .before .before .before .before .untested-windows .ensures)
 
--- src/calls.rt:87:17
 greatest-starts-requires : tie.Need-greatest-starts-requires
-greatest-starts-requires c κs = ?
+greatest-starts-requires c κs = plan-bounded (c .before .before .before .before .before .before .before .before .before .before .before .before .before .before .before .args .list) (c .before .before .before .before .before .before .before .before .before .before .before .before .before .before .before .args .plan .now) (c .before .before .before .before .before .before .before .before .before .before .before .before .before .plan-checks .result) (c .before .before .before .before .before .before .before .before .before .before .before .before .before .plan-checks .ensures) (c .before .before .before .before .before .before .before .before .before .before .before .before .settled-after .result) (c .before .before .before .before .before .before .before .before .before .before .before .before .settled-after .ensures) (c .before .before .before .before .before .before .before .before .before .before .enum-told .given .1) (c .before .before .before .before .before .before .before .before .untested-windows .result) (c .before .before .before .before .before .before .before .before .untested-windows .ensures)
 
--- src/calls.rt:67:1
 same-length : tie.Need-same-length
-same-length c = search needs
+same-length c = plan-same-length (c .before .before .before .before .before .before .before .before .before .before .before .before .before .before .before .before .args .list) (c .before .before .before .before .before .before .before .before .before .before .before .before .before .before .before .before .args .plan .now) (c .before .before .before .before .before .before .before .before .before .before .before .before .before .before .plan-checks .result) (c .before .before .before .before .before .before .before .before .before .before .before .before .before .before .plan-checks .ensures) (c .before .before .before .before .before .before .before .before .before .before .before .before .before .settled-after .result) (c .before .before .before .before .before .before .before .before .before .before .before .before .before .settled-after .ensures) (c .before .before .before .before .before .before .before .before .before .before .before .enum-told .given .1) (c .before .before .before .before .before .before .before .before .before .untested-windows .result) (c .before .before .before .before .before .before .before .before .before .untested-windows .ensures) (c .before .before .before .before .before .before .before .untested-schedule .result) _ (c .before .before .before .before .before .before .before .untested-schedule .ensures)
 
--- src/calls.rt:67:1
 returns-2 : tie.Need-returns-2
-returns-2 c = ?
+returns-2 c = plan-done (c .before .before .before .before .before .before .before .before .before .before .before .before .before .before .before .before .args .list) (c .before .before .before .before .before .before .before .before .before .before .before .before .before .before .before .before .args .plan .now) (c .before .before .before .before .before .before .before .before .before .before .before .before .before .before .plan-checks .result) (c .before .before .before .before .before .before .before .before .before .before .before .before .before .before .plan-checks .ensures) (c .before .before .before .before .before .before .before .before .before .before .before .before .before .settled-after .result) (c .before .before .before .before .before .before .before .before .before .before .before .before .before .settled-after .ensures) (c .before .before .before .before .before .before .before .before .before .before .before .enum-told .given .1) (c .before .before .before .before .before .before .before .before .before .untested-windows .result) (c .before .before .before .before .before .before .before .before .before .untested-windows .ensures) (c .before .before .before .before .before .before .before .untested-schedule .result) _ (c .before .before .before .before .before .before .before .untested-schedule .ensures) _ _ _ (c .before .before .broken-in .ensures) (c .before .least-ends .ensures) (c .greatest-starts .ensures)
 
 pub plan-day-spec : {M : Type 1} → statement M
 plan-day-spec =

@@ -1,52 +1,43 @@
+-- The checks and narrowing may refuse; else the early plan in the settled windows is stored.
+-- Assumes nothing.
 use borrow.Author.Needs.{needs}
+use mathlib.Core.Path.{_≡_, sym, _∙_}
+use lib.ListN.{length}
+use Rattle.list.proofs.Walk.{length-mapped}
+use Rattle.bounds.proofs.CallCases.{plan-formed, shown-plan}
+use Rattle.bounds.proofs.AnswerCases.{early-turned, shown-place, shown-few, shown-bounded, shown-room, early-done}
 use Rattle.bounds.proofs.calls.show_early.Statement.{statement}
 use Rattle.bounds.proofs.calls.show_early.Tie as tie
-use Rattle.bounds.proofs.calls.show_early.Reads as reads
-use Rattle.bounds.proofs.calls.show_early.Lts as lts
-use Rattle.bounds.proofs.calls.settled_after.Reads as settled-after-reads
-use Rattle.bounds.proofs.calls.shown_checks.Reads as shown-checks-reads
-use Rattle.bounds.proofs.ends.whole_at.Reads as whole-at-reads
-use Rattle.bounds.proofs.shown.store_early.Reads as store-early-reads
-use Rattle.jackson.proofs.untested_windows.Reads as untested-windows-reads
 
--- src/calls.rt:96:34
 shown-checks-requires : tie.Need-shown-checks-requires
 shown-checks-requires c κs = search needs
 
--- src/calls.rt:96:9
 settled-after-requires : tie.Need-settled-after-requires
-settled-after-requires c κs = ?
+settled-after-requires c κs = λ e. plan-formed (c .before .before .args .list) (length (c .before .before .args .plan .now)) (shown-plan (c .before .before .args .list) (c .before .before .args .k) (length (c .before .before .args .plan .now)) (sym (c .shown-checks .ensures) ∙ e) .1)
 
 enum-told : tie.Need-enum-told
 enum-told c = search needs
 
--- src/calls.rt:99:9
 enum-told-2 : tie.Need-enum-told-2
 enum-told-2 c = search needs
 
--- src/calls.rt:99:9
 returns : tie.Need-returns
-returns c = ?
+returns c = early-turned (c .before .before .before .before .before .args .list) (c .before .before .before .before .before .args .k) (c .before .before .before .before .before .args .plan .now) (c .before .before .before .shown-checks .result) (c .before .before .before .shown-checks .ensures) (c .before .before .settled-after .result) (c .before .before .settled-after .ensures) _ (c .enum-told2 .given .1)
 
--- src/calls.rt:107:28
 untested-windows-requires : tie.Need-untested-windows-requires
 untested-windows-requires c κs = search needs
 
--- src/calls.rt:107:58
 whole-at-requires : tie.Need-whole-at-requires
-whole-at-requires c κs = ?
+whole-at-requires c κs = let good = c .before .before .before .before .before .before .before .good in let fits = c .before .before .before .before .before .before .before .fits in let len : length (c .before .before .before .before .before .before .before .args .list .entries) ≡ 64 = search (length-mapped, good, fits) in (shown-place (c .before .before .before .before .before .before .before .args .list) (c .before .before .before .before .before .before .before .args .k) (c .before .before .before .before .before .before .before .args .plan .now) (c .before .before .before .before .before .shown-checks .result) (c .before .before .before .before .before .shown-checks .ensures) (c .before .before .before .before .settled-after .result) (c .before .before .before .before .settled-after .ensures) (c .before .before .enum-told .given .1) (c .untested-windows .result) (c .untested-windows .ensures) len, shown-few (c .before .before .before .before .before .before .before .args .list) (c .before .before .before .before .before .before .before .args .k) (c .before .before .before .before .before .before .before .args .plan .now) (c .before .before .before .before .before .shown-checks .result) (c .before .before .before .before .before .shown-checks .ensures) (c .before .before .before .before .settled-after .result) (c .before .before .before .before .settled-after .ensures) (c .before .before .enum-told .given .1) (c .untested-windows .result) (c .untested-windows .ensures) len)
 
--- src/calls.rt:107:16
 store-early-requires : tie.Need-store-early-requires
-store-early-requires c κs = ?
+store-early-requires c κs = let good = c .before .before .before .before .before .before .before .before .before .good in let fits = c .before .before .before .before .before .before .before .before .before .fits in let len : length (c .before .before .before .before .before .before .before .before .before .args .list .entries) ≡ 64 = search (length-mapped, good, fits) in (shown-bounded (c .before .before .before .before .before .before .before .before .before .args .list) (c .before .before .before .before .before .before .before .before .before .args .k) (c .before .before .before .before .before .before .before .before .before .args .plan .now) (c .before .before .before .before .before .before .before .shown-checks .result) (c .before .before .before .before .before .before .before .shown-checks .ensures) (c .before .before .before .before .before .before .settled-after .result) (c .before .before .before .before .before .before .settled-after .ensures) (c .before .before .before .before .enum-told .given .1) (c .before .before .untested-windows .result) (c .before .before .untested-windows .ensures) len, shown-room (c .before .before .before .before .before .before .before .before .before .args .list) (c .before .before .before .before .before .before .before .before .before .args .k) (c .before .before .before .before .before .before .before .before .before .args .plan .now) (c .before .before .before .before .before .before .before .shown-checks .result) (c .before .before .before .before .before .before .before .shown-checks .ensures) (c .before .before .before .before .before .before .settled-after .result) (c .before .before .before .before .before .before .settled-after .ensures) (c .before .before .before .before .enum-told .given .1) (c .before .before .untested-windows .result) (c .before .before .untested-windows .ensures) len)
 
--- src/calls.rt:93:1
 same-length : tie.Need-same-length
 same-length c = search needs
 
--- src/calls.rt:93:1
 returns-2 : tie.Need-returns-2
-returns-2 c = ?
+returns-2 c = let good = c .before .before .before .before .before .before .before .before .before .before .before .before .good in let fits = c .before .before .before .before .before .before .before .before .before .before .before .before .fits in let len : length (c .before .before .before .before .before .before .before .before .before .before .before .before .args .list .entries) ≡ 64 = search (length-mapped, good, fits) in early-done (c .before .before .before .before .before .before .before .before .before .before .before .before .args .list) (c .before .before .before .before .before .before .before .before .before .before .before .before .args .k) (c .before .before .before .before .before .before .before .before .before .before .before .before .args .plan .now) (c .before .before .before .before .before .before .before .before .before .before .shown-checks .result) (c .before .before .before .before .before .before .before .before .before .before .shown-checks .ensures) (c .before .before .before .before .before .before .before .before .before .settled-after .result) (c .before .before .before .before .before .before .before .before .before .settled-after .ensures) (c .before .before .before .before .before .before .before .enum-told .given .1) (c .before .before .before .before .before .untested-windows .result) (c .before .before .before .before .before .untested-windows .ensures) len _ (c .before .before .before .before .whole-at .ensures) _ _ (c .before .before .store-early .ensures)
 
 pub show-early-spec : {M : Type 1} → statement M
 show-early-spec =
