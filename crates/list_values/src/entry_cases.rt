@@ -33,7 +33,7 @@ pub(crate) fn windows() {
     window(b"p0_window", 20, 15, 0);
     // 7: d is H + 1.
     window(b"d_over_h", 0, 13, 1);
-    // 7 asks for r + p over d; here they are equal. 3 bytes, and map, serial, r, d and p, 11.
+    // 7 asks for r + p over d; here they are equal. 3 bytes, and map, serial, r, d and p, 11; end 8, start 3.
     window(b"window_full", 3, 8, 5);
     // 7: r + p is d + 1.
     window(b"window_short", 3, 8, 6);

@@ -1,4 +1,5 @@
 // The one form, byte for byte.
+use crate::examples::report_list;
 use crate::lines::run_and_show;
 use crate::values::day;
 use crate::values::entry;
@@ -39,9 +40,6 @@ pub(crate) fn seals() {
 
 // The list of "Writer and report".
 pub(crate) fn example() {
-    let a = entry(501, 0, 12, 4);
-    let b = sealed(502, 77, 2, 8, 3, Kind::Whole);
-    let c = sealed(503, 78, 3, 6, 2, Kind::Pause);
     // The bytes that stand there: 3, 7, 15 and 15.
-    run_and_show(b"example", day(12, 3, a, b, c));
+    run_and_show(b"example", report_list());
 }

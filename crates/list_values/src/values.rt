@@ -5,16 +5,25 @@ use list::types::Frame;
 use list::types::Kind;
 use list::types::Seal;
 
-// A pause entry without a seal.
-pub(crate) fn entry(serial: u32, r: u16, d: u16, p: u16) -> Entry {
+fn unsealed(serial: u32, r: u16, d: u16, p: u16, kind: Kind) -> Entry {
     Entry {
         serial: serial,
         seal: Seal::Missing,
         r: r,
         d: d,
         p: p,
-        kind: Kind::Pause,
+        kind: kind,
     }
+}
+
+// A pause entry without a seal.
+pub(crate) fn entry(serial: u32, r: u16, d: u16, p: u16) -> Entry {
+    unsealed(serial, r, d, p, Kind::Pause)
+}
+
+// A whole entry without a seal.
+pub(crate) fn whole(serial: u32, r: u16, d: u16, p: u16) -> Entry {
+    unsealed(serial, r, d, p, Kind::Whole)
 }
 
 // An entry with a seal.
