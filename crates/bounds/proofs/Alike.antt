@@ -1,11 +1,11 @@
 -- Lists that are planned alike: those that differ in serials and seals alone, and so those equal by document 01's rule.
 -- Assumes nothing.
 use Prim.Native.Nat.{ℕ}
-use mathlib.Core.Path.{_≡_}
-use mathlib.Core.List.{List, [], _∷_}
+use mathlib.Core.Path.{_≡_, refl}
+use mathlib.Core.List.{List}
 use lib.ListN.{length}
-use lib.Dec.{leb, ltb}
-use Rattle.list.specs.Outcomes.{Row, row, Outcome, answered, firstOf, andThen}
+use Rattle.list.specs.Outcomes.{Outcome, andThen}
+use Rattle.list.specs.Checks.{checkOf}
 use Rattle.list.specs.DayLists.{SameList}
 use Rattle.list.specs.declared.types.DayList.{DayList}
 use Rattle.jackson.specs.Intervals.{overloadOf}
@@ -15,23 +15,22 @@ use Rattle.narrow.specs.Rounds.{narrowing}
 use Rattle.narrow.specs.Calls.{wholeIn, SameTimes, listed}
 use Rattle.narrow.proofs.Alike.{same-times, times-windows, times-whole, same-listed}
 use Rattle.bounds.specs.Ends.{leastEnd, greatestStart}
-use Rattle.bounds.specs.Calls.{beforeNine, planChecks, shownChecks, narrowAfter, settledOr, planned}
+use Rattle.bounds.specs.Calls.{planChecks, shownChecks, narrowAfter, settledOr, planned}
 use Rattle.bounds.specs.Calls.{planOf, leastEnds, greatestStarts, brokenOf, shownOf, earlyOf, lateOf}
 
 -- windows, moves, refusals, bounds, broken entries and plans do not depend on serials and seals, nor on what stands from n on
 module _ {a b : DayList} (s : SameTimes a b) where
   -- the checks before 9
-  times-before : {x y : List Row} → x ≡ y → beforeNine a x ≡ beforeNine b y
-  times-before e = λ j. andThen (alike-checked (times-windows s) j) (λ _. firstOf (e j) (answered tt))
+  times-checked : checkOf a ≡ checkOf b
+  times-checked = alike-checked (times-windows s)
 
   pub times-plan-checked : (room : ℕ) → planChecks a room ≡ planChecks b room
   unfolding planChecks
-  times-plan-checked room = times-before (λ j. row 11 (ltb room (s .frame j .h)) (s .frame j .h) ∷ [])
+  times-plan-checked room = rw (times-checked, s .frame) refl
 
   pub times-shown-checked : (k room : ℕ) → shownChecks a k room ≡ shownChecks b k room
   unfolding shownChecks
-  times-shown-checked k room =
-      times-before (λ j. row 13 (leb (s .n j) k) k ∷ row 11 (ltb room (s .frame j .h)) (s .frame j .h) ∷ [])
+  times-shown-checked k room = rw (times-checked, s .frame, s .n) refl
 
   -- the settled windows and the moves, or the refusal
   times-after : {x y : Outcome (Unit {0})} → x ≡ y → narrowAfter x a ≡ narrowAfter y b

@@ -1,12 +1,11 @@
 -- The contracts of the calls, from the equalities of what they answer and store.
 -- Assumes nothing.
 use mathlib.Core.Path.{_≡_, refl, sym, ap, _∙_}
-use mathlib.Core.Bool.{Bool, cond}
+use mathlib.Core.Bool.{Bool}
 use mathlib.Core.List.{List, _++_}
 use Prim.Native.Nat.{ℕ, _-_, _<_, _≤_}
 use native.Mathlib.Omega.{arith}
 use borrow.Author.Tests.{eq-eqb, ne-eqb}
-use lib.Dec.{eqb}
 use lib.ListN.{length, getD, take, drop, replicate}
 use lib.Seq.{take-at}
 use Rattle.list.specs.Outcomes.{Outcome, answered, refused}
@@ -26,8 +25,8 @@ use Rattle.jackson.specs.Intervals.{overloadOf}
 use Rattle.jackson.specs.Minutes.{schedule}
 use Rattle.jackson.proofs.Sums.{same-cases}
 use Rattle.jackson.proofs.Listed.{list-length}
-use Rattle.narrow.specs.Searching.{withD, put}
-use Rattle.narrow.specs.Rounds.{Narrowed, narrowing}
+use Rattle.narrow.specs.Searching.{withD}
+use Rattle.narrow.specs.Rounds.{Narrowed}
 use Rattle.narrow.specs.Calls.{wholeIn, narrowedIn}
 use Rattle.narrow.specs.declared.types.NarrowAnswer.{NarrowAnswer}
 use Rattle.narrow.proofs.RoundsEnd.{answered-same, answered-refused}
@@ -40,7 +39,7 @@ use Rattle.bounds.specs.Calls.{planChecks, shownChecks, narrowAfter, byP
 use Rattle.bounds.specs.Parts.{Bounded, HoldsBounded, StoresEarly, HoldsPlan, NarrowsAfter}
 use Rattle.bounds.specs.declared.types.PlanAnswer.{PlanAnswer}
 use Rattle.bounds.specs.declared.types.ShownAnswer.{ShownAnswer}
-use Rattle.bounds.proofs.Demands.{ByRules, demand3}
+use Rattle.bounds.proofs.Demands.{demand3}
 use Rattle.bounds.proofs.EndCases.{by-place, bounded-at, bounded-mirror}
 use Rattle.bounds.proofs.ShownCases.{stored-long, schedule-long}
 use Rattle.bounds.proofs.CallCases.{plan-formed, plan-room, shown-plan, IsSettled, is-settled, settled-few, settled-day, settled-plan, settled-bounded, place-in-list, day-is, ends-are, starts-are, plan-is, plan-long, plan-held, broken-is, early-bound, early-stored, end-in-day, late-bound, late-stored}

@@ -13,7 +13,7 @@ use lib.Seq.{getD-take}
 use Rattle.list.specs.DayLists.{blank}
 use Rattle.list.specs.declared.types.Entry.{Entry}
 use Rattle.list.specs.declared.types.DayList.{DayList}
-use Rattle.jackson.specs.Counting.{firstBelow, lastBelow, sum}
+use Rattle.jackson.specs.Counting.{lastBelow, sum}
 use Rattle.jackson.specs.Windows.{windowsOf}
 use Rattle.jackson.specs.Plans.{idle, placesIn, startOf, endOf, minutesOf}
 use Rattle.jackson.proofs.Sums.{le-or-lt}

@@ -11,7 +11,6 @@ use lib.ListN.{length, getD, set, replicate, length-set, length-replicate, getD-
 use lib.Seq.{getD-set-same, getD-set-other, getD-take}
 use Rattle.list.specs.DayLists.{blank}
 use Rattle.list.specs.declared.types.DayList.{DayList}
-use Rattle.jackson.specs.Counting.{listOf}
 use Rattle.jackson.specs.Windows.{Windows, windowsIn}
 use Rattle.jackson.specs.Mirrors.{MirrorOf, mirror}
 use Rattle.jackson.specs.Intervals.{overloadOf}

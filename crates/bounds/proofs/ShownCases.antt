@@ -1,7 +1,7 @@
 -- Shown plans as code stores and turns them.
 -- Assumes nothing.
 use mathlib.Core.Path.{_≡_, refl, sym, ap, _∙_}
-use mathlib.Core.Bool.{Bool, true, false, cond, _||_}
+use mathlib.Core.Bool.{Bool, cond, _||_}
 use mathlib.Core.List.{List, _++_}
 use Prim.Native.Nat.{ℕ, suc, _+_, _-_, _<_, _≤_}
 use native.Mathlib.Omega.{arith}
@@ -13,7 +13,7 @@ use Rattle.list.specs.declared.types.Verdict.{Verdict}
 use Rattle.jackson.specs.Counting.{listOf}
 use Rattle.jackson.specs.Windows.{Windows}
 use Rattle.jackson.specs.Plans.{idle, placesIn}
-use Rattle.jackson.specs.Mirrors.{mirrorPlan, mirrorBytes}
+use Rattle.jackson.specs.Mirrors.{mirrorBytes}
 use Rattle.jackson.specs.Intervals.{overloadOf}
 use Rattle.jackson.specs.Minutes.{schedule}
 use Rattle.jackson.specs.Planning.{FillsWindows}

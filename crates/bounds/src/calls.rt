@@ -78,13 +78,13 @@ pub fn plan_day(list: DayList, plan: &mut [u8]) -> PlanAnswer
         };
     };
     let settled = narrowed.list;
-    let windows = untested_windows(settled);
-    let _filled = untested_schedule(windows, plan);
+    let settled_windows = untested_windows(settled);
+    let _filled = untested_schedule(settled_windows, plan);
     PlanAnswer {
         narrowed: narrowed,
-        broken: broken_in(settled, windows.h as usize, plan),
-        ends: least_ends(settled, windows),
-        starts: greatest_starts(settled, windows),
+        broken: broken_in(settled, settled_windows.h as usize, plan),
+        ends: least_ends(settled, settled_windows),
+        starts: greatest_starts(settled, settled_windows),
     }
 }
 

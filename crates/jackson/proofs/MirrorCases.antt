@@ -1,6 +1,6 @@
 -- Mirroring arrays of windows.
 -- Assumes nothing.
-use mathlib.Core.Path.{_≡_, refl, sym, _∙_}
+use mathlib.Core.Path.{_≡_, refl, _∙_}
 use mathlib.Core.List.{List}
 use Prim.Native.Nat.{ℕ, _+_, _-_, _<_, _≤_, min}
 use native.Mathlib.Omega.{arith}
@@ -8,7 +8,6 @@ use borrow.Author.Tests.{lt-ltb, le-ltb}
 use lib.Dec.{ltb}
 use lib.ListN.{length, getD, set, length-set}
 use lib.Seq.{getD-set-same, getD-set-other}
-use Rattle.jackson.specs.Windows.{columns, windowsIn}
 use Rattle.jackson.specs.Mirrors.{MirrorOf}
 use Rattle.jackson.specs.Steps.{MirroredSide}
 use Rattle.jackson.specs.declared.types.WindowSet.{WindowSet}

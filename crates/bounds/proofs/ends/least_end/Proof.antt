@@ -36,7 +36,7 @@ add-low : tie.Need-add-low Inv-loop μ-loop
 add-low c = search (needs, c .before .before .before .pre .formed .in-day _ (c .before .before .before .pre .place), c .before .before .before .pre .formed .room _ (c .before .before .before .pre .place))
 
 returns : tie.Need-returns Inv-loop μ-loop
-returns c = whole-end _ (windowsIn (c .before .before .before .before .args .t1)) _ (c .if1 .taken)
+returns c = whole-end (c .before .before .before .before .args .whole) (windowsIn (c .before .before .before .before .args .t1)) (c .before .before .before .before .args .k) (c .if1 .taken)
 
 loop-holds : tie.Need-loop-holds Inv-loop μ-loop
 loop-holds c = halve-start (windowsIn (c .before .before .before .before .args .t1)) (c .before .before .before .before .pre .formed) _ (c .before .before .before .before .pre .place)

@@ -26,7 +26,7 @@ same-length : tie.Need-same-length
 same-length c = search needs
 
 returns : tie.Need-returns
-returns c = let a : length (c .before .before .before .before .before .before .args .windows .d) ≡ 64 = search needs in stored-early (λ _. c .before .before .before .before .before .before .args .whole) (windowsIn (c .before .before .before .before .before .before .args .windows)) _ (c .before .before .before .before .before .before .args .k) _ (c .before .before .before .before .before .before .args .plan .now) _ _ (held-d (c .before .before .before .before .before .before .args .windows) (c .before .before .before .before .before .before .args .k) _ (omega (arith, a, c .before .before .before .before .before .before .pre .0 .place))) (c .before .before .untested-schedule .ensures) (c .before .before .before .before .before .before .pre .1) (c .before .before .before .before .least-end .ensures)
+returns c = let a : length (c .before .before .before .before .before .before .args .windows .d) ≡ 64 = search needs in stored-early (λ _. c .before .before .before .before .before .before .args .whole) (windowsIn (c .before .before .before .before .before .before .args .windows)) _ (c .before .before .before .before .before .before .args .k) (c .before .before .before .before .least-end .result) (c .before .before .before .before .before .before .args .plan .now) (c .before .before .untested-schedule .result) _ (held-d (c .before .before .before .before .before .before .args .windows) (c .before .before .before .before .before .before .args .k) (c .before .before .before .before .least-end .result) (omega (arith, a, c .before .before .before .before .before .before .pre .0 .place))) (c .before .before .untested-schedule .ensures) (c .before .before .before .before .before .before .pre .1) (c .before .before .before .before .least-end .ensures)
 
 pub store-early-spec : {M : Type 1} → statement M
 store-early-spec =
