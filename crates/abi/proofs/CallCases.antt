@@ -83,15 +83,6 @@ pub narrow-said : (o : DayList → Outcome Narrowed) (xs old new : List ℕ) (l 
     → NarrowCall (narrowAnswerOf a) 0 old b new → AnswersAs l (o l) a → NarrowCall (listed (valueOf xs) (o (valueOf xs))) 0 old b new
 narrow-said o xs old new l p a b given w = rw (← p) (subst (λ (u : Outcome (DayList × ℕ)). NarrowCall u 0 old b new) (w .outcome) given)
 
--- the bounds that planning answered
-module _ (old : List ℕ) (a : PlanAnswer) where
-  pub bounds-given : (new : List ℕ) → a .narrowed .verdict ≡ Accepted → new ≡ a .ends ++ a .starts
-      → new ≡ settledOr old (λ _. a .ends ++ a .starts) (narrowedIn (a .narrowed))
-  bounds-given new v q = rw v q
-
-  pub bounds-refused : (x : Refusal) → a .narrowed .verdict ≡ Refused x → old ≡ settledOr old (λ _. a .ends ++ a .starts) (narrowedIn (a .narrowed))
-  bounds-refused x v = rw v refl
-
 -- planning the list value that xs say
 pub plan-said : (xs oldPlan newPlan oldFields newFields oldBounds newBounds : List ℕ) (l : DayList) → l ≡ valueOf xs → (a : PlanAnswer) (b : Answer)
     → PlansDay l oldPlan a newPlan

@@ -143,9 +143,7 @@ pub extern "C" fn dock_round(fields: &[u32; 450], narrowed: &mut [u32; 450]) -> 
 
 // The bounds that planning answered; refused, `bounds` keeps its values.
 fn give_bounds(answer: PlanAnswer, bounds: &mut [u32; 128])
-    ensures {
-        λ _. ⌜ now (bounds .exit) ≡ settledOr (now (bounds .entry)) (λ _. answer .ends ++ answer .starts) (narrowedIn (answer .narrowed)) ⌝
-    }
+    ensures { λ _. ⌜ now (bounds .exit) ≡ settledOr (now (bounds .entry)) (λ _. answer .ends ++ answer .starts) (narrowedIn (answer .narrowed)) ⌝ }
 {
     let narrowed = answer.narrowed;
     let verdict = narrowed.verdict;
@@ -161,10 +159,13 @@ fn give_bounds(answer: PlanAnswer, bounds: &mut [u32; 128])
 // list, flat, `bounds` the least ends of the 64 places and then their greatest starts, and `plan` begins with the plan. Refused: each keeps
 // its values.
 #[no_mangle]
-pub extern "C" fn dock_plan(fields: &[u32; 450], plan: &mut [u8], narrowed: &mut [u32; 450], bounds: &mut [u32; 128]) -> Answer
-    ensures {
-        λ a. ⌜ PlanCall (now (fields .entry)) (now (plan .entry)) (now (narrowed .entry)) (now (bounds .entry)) a (now (plan .exit)) (now (narrowed .exit)) (now (bounds .exit)) ⌝
-    }
+pub extern "C" fn dock_plan(
+    fields: &[u32; 450],
+    plan: &mut [u8],
+    narrowed: &mut [u32; 450],
+    bounds: &mut [u32; 128],
+) -> Answer
+    ensures { λ a. ⌜ PlanCall (now (fields .entry)) (now (plan .entry)) (now (narrowed .entry)) (now (bounds .entry)) a (now (plan .exit)) (now (narrowed .exit)) (now (bounds .exit)) ⌝ }
 {
     let answer = plan_day(list_in(fields), plan);
     give_bounds(answer, bounds);
@@ -174,7 +175,12 @@ pub extern "C" fn dock_plan(fields: &[u32; 450], plan: &mut [u8], narrowed: &mut
 // Shows the early plan of a place of the list value that `fields` says. Accepted: the values are the moves and the place's least end,
 // `narrowed` is the settled list, flat, and `plan` begins with the plan. Refused: each keeps its values.
 #[no_mangle]
-pub extern "C" fn dock_early(fields: &[u32; 450], place: u64, plan: &mut [u8], narrowed: &mut [u32; 450]) -> Answer
+pub extern "C" fn dock_early(
+    fields: &[u32; 450],
+    place: u64,
+    plan: &mut [u8],
+    narrowed: &mut [u32; 450],
+) -> Answer
     ensures { λ a. ⌜ EarlyCall (now (fields .entry)) place (now (plan .entry)) (now (narrowed .entry)) a (now (plan .exit)) (now (narrowed .exit)) ⌝ }
 {
     let answer = show_early(list_in(fields), place as usize, plan);
@@ -183,7 +189,12 @@ pub extern "C" fn dock_early(fields: &[u32; 450], place: u64, plan: &mut [u8], n
 
 // Shows the late plan, with the place's greatest start.
 #[no_mangle]
-pub extern "C" fn dock_late(fields: &[u32; 450], place: u64, plan: &mut [u8], narrowed: &mut [u32; 450]) -> Answer
+pub extern "C" fn dock_late(
+    fields: &[u32; 450],
+    place: u64,
+    plan: &mut [u8],
+    narrowed: &mut [u32; 450],
+) -> Answer
     ensures { λ a. ⌜ LateCall (now (fields .entry)) place (now (plan .entry)) (now (narrowed .entry)) a (now (plan .exit)) (now (narrowed .exit)) ⌝ }
 {
     let answer = show_late(list_in(fields), place as usize, plan);

@@ -1,35 +1,27 @@
+-- `dock_late` meets its contract.
+-- Assumes nothing.
 use borrow.Author.Needs.{needs}
+use Rattle.abi.proofs.CallCases.{late-said}
 use Rattle.abi.proofs.dock_late.Statement.{statement}
 use Rattle.abi.proofs.dock_late.Tie as tie
-use Rattle.abi.proofs.dock_late.Reads as reads
-use Rattle.abi.proofs.dock_late.Lts as lts
-use Rattle.abi.proofs.flat.list_in.Reads as list-in-reads
-use Rattle.abi.proofs.give_narrowed.Reads as give-narrowed-reads
-use Rattle.bounds.proofs.show_late.Reads as show-late-reads
 
--- src/lib.rt:187:28
 list-in-requires : tie.Need-list-in-requires
 list-in-requires c κs = search needs
 
--- src/lib.rt:187:9
 show-late-requires : tie.Need-show-late-requires
 show-late-requires c κs = search needs
 
--- src/lib.rt:188:36
 cast-give-narrowed : tie.Need-cast-give-narrowed
 cast-give-narrowed c = search needs
 
--- src/lib.rt:188:5
 give-narrowed-requires : tie.Need-give-narrowed-requires
 give-narrowed-requires c κs = search needs
 
--- src/lib.rt:183:1
 same-length : tie.Need-same-length
 same-length c = search needs
 
--- src/lib.rt:183:1
 returns : tie.Need-returns
-returns c = ?
+returns c = late-said (c .before .before .before .before .before .before .before .before .before .args .fields .now) (c .before .before .before .before .before .before .before .before .before .args .place) (c .before .before .before .before .before .before .before .before .before .args .plan .now) _ (c .before .before .before .before .before .before .before .before .before .args .narrowed .now) _ (c .before .before .before .before .before .before .before .list-in .result) (c .before .before .before .before .before .before .before .list-in .ensures) (c .before .before .before .before .before .show-late .result) (c .give-narrowed .result) (c .give-narrowed .ensures) (c .before .before .before .before .before .show-late .ensures)
 
 pub dock-late-spec : {M : Type 1} → statement M
 dock-late-spec =

@@ -43,12 +43,12 @@ loop-less c = search needs
 
 loop-again : tie.Need-loop-again Inv-loop μ-loop
 loop-again c =
-    let k : length (c .before .before .args .xs) ≡ 64 = search needs in
+    let k : length (c .before .before .args .t1) ≡ 64 = search needs in
     stored-next (c .before .loop .inv) k _ (c .loop-test .taken)
 
 returns : tie.Need-returns Inv-loop μ-loop
 returns c =
-    let k : length (c .before .before .args .xs) ≡ 64 = search needs in
+    let k : length (c .before .before .args .t1) ≡ 64 = search needs in
     stored-done (c .before .loop .inv) k (c .loop-test .left)
 
 pub put-places-spec : {M : Type 1} → statement M
