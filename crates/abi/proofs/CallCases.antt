@@ -83,6 +83,11 @@ pub narrow-said : (o : DayList → Outcome Narrowed) (xs old new : List ℕ) (l 
     → NarrowCall (narrowAnswerOf a) 0 old b new → AnswersAs l (o l) a → NarrowCall (listed (valueOf xs) (o (valueOf xs))) 0 old b new
 narrow-said o xs old new l p a b given w = rw (← p) (subst (λ (u : Outcome (DayList × ℕ)). NarrowCall u 0 old b new) (w .outcome) given)
 
+-- the bounds that planning answered
+pub bounds-given : (a : PlanAnswer) (old new : List ℕ) → a .narrowed .verdict ≡ Accepted → new ≡ a .ends ++ a .starts
+    → new ≡ settledOr old (λ _. a .ends ++ a .starts) (narrowedIn (a .narrowed))
+bounds-given a old new v q = rw v q
+
 -- planning the list value that xs say
 pub plan-said : (xs oldPlan newPlan oldFields newFields oldBounds newBounds : List ℕ) (l : DayList) → l ≡ valueOf xs → (a : PlanAnswer) (b : Answer)
     → PlansDay l oldPlan a newPlan

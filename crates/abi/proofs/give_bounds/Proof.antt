@@ -1,6 +1,7 @@
 -- The bounds, or what was there.
 -- Assumes nothing.
 use borrow.Author.Needs.{needs}
+use Rattle.abi.proofs.CallCases.{bounds-given}
 use Rattle.abi.proofs.give_bounds.Statement.{statement}
 use Rattle.abi.proofs.give_bounds.Tie as tie
 
@@ -17,7 +18,7 @@ joined-requires : tie.Need-joined-requires
 joined-requires c κs = search needs
 
 returns-2 : tie.Need-returns-2
-returns-2 c = rw (c .before .before .before .enum-told .given .1) (c .joined .ensures)
+returns-2 c = bounds-given (c .before .before .before .before .before .before .args .answer) (c .before .before .before .before .before .before .args .bounds .now) _ (c .before .before .before .enum-told .given .1) (c .joined .ensures)
 
 pub give-bounds-spec : {M : Type 1} → statement M
 give-bounds-spec = tie.close (tie.spec enum-told enum-told-2 returns joined-requires returns-2)
