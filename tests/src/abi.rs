@@ -1,6 +1,7 @@
 //! The calls of the static library. They check nothing beforehand; what is lent to the library is filled
 //! with values that it does not write by chance, so that what it leaves alone can be told.
 
+use crate::day::MOST_ENTRIES;
 use crate::flat::Fields;
 
 extern "C" {
@@ -10,6 +11,27 @@ extern "C" {
     fn dock_schedule(fields: *const Fields, plan: *mut u8, len: usize) -> Answer;
     fn dock_settle(fields: *const Fields, narrowed: *mut Fields) -> Answer;
     fn dock_round(fields: *const Fields, narrowed: *mut Fields) -> Answer;
+    fn dock_plan(
+        fields: *const Fields,
+        plan: *mut u8,
+        len: usize,
+        narrowed: *mut Fields,
+        bounds: *mut Bounds,
+    ) -> Answer;
+    fn dock_early(
+        fields: *const Fields,
+        place: u64,
+        plan: *mut u8,
+        len: usize,
+        narrowed: *mut Fields,
+    ) -> Answer;
+    fn dock_late(
+        fields: *const Fields,
+        place: u64,
+        plan: *mut u8,
+        len: usize,
+        narrowed: *mut Fields,
+    ) -> Answer;
 }
 
 /// What a call answers: 0 or a refusal's number, and three values, 0 where there are fewer.
@@ -99,4 +121,62 @@ pub fn round(fields: &Fields) -> (Answer, Fields) {
 pub fn round_into(fields: &Fields, narrowed: &mut Fields) -> Answer {
     // SAFETY: the library reads one array and writes another, both of them lent here.
     unsafe { dock_round(fields, narrowed) }
+}
+
+/// The least ends of 64 places, then their greatest starts.
+pub type Bounds = [u32; 2 * MOST_ENTRIES];
+
+/// The calls that plan a list in its settled windows: its own plan, and the early or late plan of a place.
+#[derive(Clone, Copy, Debug, PartialEq, Eq)]
+pub enum Call {
+    Plan,
+    Early(u64),
+    Late(u64),
+}
+
+/// What is lent to such a call. The bounds are lent to planning alone.
+#[derive(Clone, PartialEq, Eq)]
+pub struct Lent {
+    pub plan: Vec<u8>,
+    pub narrowed: Fields,
+    pub bounds: Bounds,
+}
+
+impl Lent {
+    /// What is lent before a call, with `room` bytes for the plan.
+    pub fn untouched(room: usize) -> Lent {
+        let bounds = std::array::from_fn(|i| 0xB0B0_0000 + i as u32);
+        Lent { plan: untouched_bytes(room), narrowed: untouched_fields(), bounds }
+    }
+}
+
+/// Makes a call of the library with `room` bytes for the plan, and gives back all that was lent.
+pub fn ask(call: Call, fields: &Fields, room: usize) -> (Answer, Lent) {
+    let mut lent = Lent::untouched(0);
+    let (answer, plan) =
+        lending(room, |plan| ask_lending(call, fields, plan, &mut lent.narrowed, &mut lent.bounds));
+    (answer, Lent { plan, ..lent })
+}
+
+/// Makes a call of the library with this lent to it, whatever it holds.
+pub fn ask_into(call: Call, fields: &Fields, lent: &mut Lent) -> Answer {
+    ask_lending(call, fields, &mut lent.plan, &mut lent.narrowed, &mut lent.bounds)
+}
+
+fn ask_lending(
+    call: Call,
+    fields: &Fields,
+    plan: &mut [u8],
+    narrowed: &mut Fields,
+    bounds: &mut Bounds,
+) -> Answer {
+    let (plan, len) = (plan.as_mut_ptr(), plan.len());
+    // SAFETY: the library reads one array and writes `len` bytes and one or two arrays, all of them lent here.
+    unsafe {
+        match call {
+            Call::Plan => dock_plan(fields, plan, len, narrowed, bounds),
+            Call::Early(place) => dock_early(fields, place, plan, len, narrowed),
+            Call::Late(place) => dock_late(fields, place, plan, len, narrowed),
+        }
+    }
 }

@@ -41,6 +41,7 @@ pub enum Refusal {
     NoPlace { place: usize },
     ShortPlan { h: u16 },
     ShortBuffer { needed: usize },
+    UnknownPlace { place: u64 },
 }
 
 impl Refusal {
@@ -59,6 +60,7 @@ impl Refusal {
             Refusal::NoPlace { place } => (10, place),
             Refusal::ShortPlan { h } => (11, usize::from(h)),
             Refusal::ShortBuffer { needed } => (12, needed),
+            Refusal::UnknownPlace { place } => return (13, [place, 0, 0]),
         };
         (number, [carries as u64, 0, 0])
     }

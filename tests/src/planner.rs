@@ -13,11 +13,17 @@ pub fn overload(value: &Value) -> Result<(), Refusal> {
 /// refusals and 9.
 pub fn schedule(value: &Value, room: usize) -> Result<Vec<u8>, Refusal> {
     let day = writer::checked(value)?;
+    long_enough(&day, room)?;
+    given_windows(&day)?;
+    Ok(jackson::schedule(&day))
+}
+
+/// Row 11, "plan buffer under H bytes".
+pub fn long_enough(day: &Day, room: usize) -> Result<(), Refusal> {
     if room < usize::from(day.h) {
         return Err(Refusal::ShortPlan { h: day.h });
     }
-    given_windows(&day)?;
-    Ok(jackson::schedule(&day))
+    Ok(())
 }
 
 fn given_windows(day: &Day) -> Result<(), Refusal> {

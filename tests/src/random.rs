@@ -139,6 +139,64 @@ pub fn unbroken_day(random: &mut Random, h: u16, n: usize, idle: bool, wider: u1
     Day { h, entries }
 }
 
+/// A full day with an unbroken plan, of whole entries but for one in `pause`, and none if that is 0.
+pub fn full_day(random: &mut Random, idle: bool, wider: u16, pause: usize) -> Day {
+    let mut day = unbroken_day(random, LONGEST_DAY, MOST_ENTRIES, idle, wider);
+    day.entries.iter_mut().for_each(|entry| entry.whole = pause == 0 || !random.once_in(pause));
+    day
+}
+
+/// A day of at most `most` minutes and `n` entries, of which three in four or all are whole: windows of any
+/// kind, or drawn around a plan that breaks entries or not.
+pub fn mixed_day(random: &mut Random, most: u16, n: usize) -> Day {
+    let h = random.within(1, most);
+    let n = random.below(n + 1);
+    let idle = random.pick(&[0, 2, 9]);
+    let mut day = match random.below(4) {
+        0 => Day { h, entries: (0..n).map(|_| entry(random, h)).collect() },
+        1 => unbroken_day(random, h, n.clamp(1, h.into()), idle > 0, h / 2),
+        _ => planned_day(random, h, n, idle, &[1, 2, 4, 8]),
+    };
+    if random.once_in(4) {
+        work_more(random, &mut day);
+    }
+    let mixed = random.once_in(2);
+    day.entries.iter_mut().for_each(|entry| entry.whole = !mixed || !random.once_in(4));
+    day
+}
+
+/// Two wide whole entries, and two pause entries of a minute that leave little between them: here 10 comes in
+/// round two now and then. Windows drawn around a plan hardly ever do that.
+pub fn crossed_day(random: &mut Random) -> Day {
+    let mut day = Day { h: 7, entries: vec![] };
+    for _ in 0..2 {
+        let r = random.within(1, 5);
+        let d = random.within(r + 1, r + 2);
+        day.entries.push(Entry { r, d, p: 1, whole: false, ..entry(random, 1) });
+        let p = random.within(2, 3);
+        day.entries.push(Entry { r: 0, d: 7, p, whole: true, ..entry(random, 1) });
+    }
+    shuffle(random, &mut day.entries);
+    day
+}
+
+/// A day of 3 minutes at least with wide entries, and short ones that interrupt them: many plans of it break
+/// whole entries, and pause entries cannot end at once.
+pub fn nested_day(random: &mut Random, h: u16, n: usize) -> Day {
+    let quarter = h / 4;
+    let mut day = Day { h, entries: vec![] };
+    for _ in 0..n {
+        let (r, d, p) = if random.once_in(2) {
+            (random.within(0, quarter), h - random.within(0, quarter), random.within(1, 3.min(h / 2)))
+        } else {
+            let r = random.within(1, h - 2);
+            (r, random.within(r + 1, r + 2), 1)
+        };
+        day.entries.push(Entry { r, d, p, whole: random.once_in(2), ..entry(random, 1) });
+    }
+    day
+}
+
 /// Puts values in any order.
 pub fn shuffle<T>(random: &mut Random, values: &mut [T]) {
     for place in (1..values.len()).rev() {

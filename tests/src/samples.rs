@@ -57,6 +57,22 @@ pub fn boxes(h: u16, entries: &str) -> Day {
     whole(windows(h, &all), &wholes)
 }
 
+/// Found by search: 16 whole entries in 100 minutes that are settled with 68 moves.
+pub fn many_moves() -> Day {
+    boxes(
+        100,
+        "w[16,96)5 w[8,97)9 w[13,88)9 w[11,94)5 w[10,95)5 w[16,97)6 w[10,100)5 w[17,98)10
+         w[5,97)5 w[8,94)7 w[83,97)5 w[2,98)3 w[3,22)7 w[4,15)8 w[89,98)3 w[93,97)3",
+    )
+}
+
+/// The longest day with a part of it four times, one after the other in time, their places taken in turn.
+pub fn four_of(part: &Day) -> Day {
+    let later = |entry: &Entry, by: u16| Entry { r: entry.r + by, d: entry.d + by, ..entry.clone() };
+    let entries = part.entries.iter().flat_map(|entry| [0, 360, 720, 1080].map(|by| later(entry, by)));
+    Day { h: LONGEST_DAY, entries: entries.collect() }
+}
+
 /// A pause entry with these minutes, right or wrong.
 pub fn entry(r: u16, d: u16, p: u16) -> Entry {
     Entry { serial: 9, seal: None, r, d, p, whole: false }

@@ -111,6 +111,18 @@ impl Plans<'_> {
         Some(windows)
     }
 
+    /// The least end and the greatest start of an entry "over all plans" that fit the given windows; of a
+    /// whole entry, over those that have it in one piece.
+    pub fn bounds(&self, place: usize) -> (u16, u16) {
+        let all = self.spans.iter().map(|spans| spans[place]);
+        let kept =
+            |&(start, end): &(u16, u16)| !self.day.entries[place].whole || end - start == self.p(place);
+        let spans = Vec::from_iter(all.filter(kept));
+        let end = spans.iter().map(|span| span.1).min();
+        let start = spans.iter().map(|span| span.0).max();
+        end.zip(start).expect("a plan")
+    }
+
     /// All steps that can be named, in the order of a round.
     fn named(&self) -> impl Iterator<Item = (usize, Side)> + '_ {
         self.wholes().flat_map(|place| [(place, Side::Earliest), (place, Side::Latest)])

@@ -32,3 +32,8 @@ pub fn days_of_both_kinds(h: u16, n: u32) -> impl Iterator<Item = Day> {
         })
     })
 }
+
+/// Every day of at most `h` minutes and `n` entries of both kinds.
+pub fn days_up_to(h: u16, n: u32) -> impl Iterator<Item = Day> {
+    (1..=h).flat_map(move |h| (0..=n).flat_map(move |n| days_of_both_kinds(h, n)))
+}

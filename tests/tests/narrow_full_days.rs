@@ -9,13 +9,6 @@ use dock_tests::random::{self, Random};
 use dock_tests::samples::boxes;
 use dock_tests::{abi, brute, chains, flat};
 
-/// A full day with an unbroken plan, of whole entries but for one in `pause`, and none if that is 0.
-fn full_day(random: &mut Random, idle: bool, wider: u16, pause: usize) -> Day {
-    let mut day = random::unbroken_day(random, LONGEST_DAY, MOST_ENTRIES, idle, wider);
-    day.entries.iter_mut().for_each(|entry| entry.whole = pause == 0 || !random.once_in(pause));
-    day
-}
-
 /// With minutes to spare there is little to narrow.
 #[test]
 fn full_loose_days() {
@@ -23,7 +16,7 @@ fn full_loose_days() {
     let mut moved = 0;
     for turn in 0..30 {
         let wider = random.pick(&[15, 30, 60, 1440]);
-        let day = full_day(&mut random, true, wider, [0, 2, 4][turn % 3]);
+        let day = random::full_day(&mut random, true, wider, [0, 2, 4][turn % 3]);
         moved += usize::from(settled(&day).1 > 0);
     }
     assert!(moved > 5, "{moved} days with moves");
@@ -36,7 +29,7 @@ fn full_tight_days() {
     let mut all = 0;
     for turn in 0..20 {
         let wider = [10, 30, 60, 200][turn % 4];
-        let day = full_day(&mut random, false, wider, [0, 2, 4, 8, 16][turn % 5]);
+        let day = random::full_day(&mut random, false, wider, [0, 2, 4, 8, 16][turn % 5]);
         let narrowed = settle(&flat::of_day(&day)).expect("there is an unbroken plan");
         let cut = narrow::minutes_cut(&day, &narrowed.day);
         assert!(narrowed.moves <= cut, "{} moves cut {cut} minutes", narrowed.moves);
@@ -67,7 +60,7 @@ fn large_days_of_any_size() {
 fn settled_windows_have_the_plans_that_make_them_so() {
     let mut random = Random::new(128);
     for wider in [30, 200] {
-        let day = full_day(&mut random, false, wider, 4);
+        let day = random::full_day(&mut random, false, wider, 4);
         let Narrowed { day, .. } = settle(&flat::of_day(&day)).expect("there is an unbroken plan");
         for place in (0..MOST_ENTRIES).filter(|&place| day.entries[place].whole) {
             let Entry { r, d, p, .. } = day.entries[place];
@@ -87,7 +80,7 @@ fn settled_windows_have_the_plans_that_make_them_so() {
 fn a_full_tight_day_round_by_round() {
     let mut random = Random::new(123);
     for wider in [10, 20, 30] {
-        let day = full_day(&mut random, false, wider, 0);
+        let day = random::full_day(&mut random, false, wider, 0);
         let wanted = narrow::rounds(&day).done;
         let found = settled_by_rounds(&flat::of_day(&day));
         assert_eq!(found.len(), wanted.len(), "rounds with {wider} minutes more at either side");
@@ -117,7 +110,7 @@ fn full_days_around_a_broken_plan() {
 fn full_overloaded_days() {
     let mut random = Random::new(125);
     for _ in 0..100 {
-        let mut day = full_day(&mut random, false, 60, 2);
+        let mut day = random::full_day(&mut random, false, 60, 2);
         random::work_more(&mut random, &mut day);
         let refusal = settle(&flat::of_day(&day)).expect_err("must be overloaded");
         assert!(matches!(refusal, Refusal::Overloaded(_)), "{refusal:?}");

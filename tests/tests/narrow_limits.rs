@@ -5,7 +5,7 @@ use dock_tests::check_narrow::{no_place, not_settled, round, round_refused};
 use dock_tests::check_narrow::{settle, settled, settled_by_rounds};
 use dock_tests::day::{Day, LONGEST_DAY, MOST_ENTRIES};
 use dock_tests::random::{self, Random};
-use dock_tests::samples::{boxes, whole, windows};
+use dock_tests::samples::{self, boxes, whole, windows};
 use dock_tests::{abi, chains, flat};
 
 /// A day with these entries, all of them whole.
@@ -190,19 +190,11 @@ fn pause_entries_alone() {
     }
 }
 
-/// Found by search: a part of a day that is settled with 68 moves. Four of them in one day make 272.
+/// A part of a day that is settled with 68 moves. Four of them in one day make 272.
 #[test]
 fn more_than_255_moves() {
-    let part = boxes(
-        100,
-        "w[16,96)5 w[8,97)9 w[13,88)9 w[11,94)5 w[10,95)5 w[16,97)6 w[10,100)5 w[17,98)10
-         w[5,97)5 w[8,94)7 w[83,97)5 w[2,98)3 w[3,22)7 w[4,15)8 w[89,98)3 w[93,97)3",
-    );
+    let part = samples::many_moves();
     assert_eq!(settled(&part).1, 68);
-    let mut entries = vec![];
-    for entry in &part.entries {
-        entries.extend((0..4).map(|part| (entry.r + 360 * part, entry.d + 360 * part, entry.p)));
-    }
-    let (found, moves) = settled(&all_whole(LONGEST_DAY, &entries));
+    let (found, moves) = settled(&samples::four_of(&part));
     assert_eq!((found.entries.len(), moves), (64, 272));
 }

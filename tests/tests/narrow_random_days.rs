@@ -2,29 +2,9 @@
 //! the second narrowing, and others against their mirror.
 
 use dock_tests::check_narrow::{by_trying_everything, round, settle, settled_by_rounds};
-use dock_tests::day::{Day, Entry, Refusal};
-use dock_tests::narrow;
+use dock_tests::day::{Day, Refusal};
 use dock_tests::random::{self, Random};
-use dock_tests::{abi, flat};
-
-/// A day of at most `most` minutes and `n` entries, of which three in four or all are whole: windows of any
-/// kind, or drawn around a plan that breaks entries or not.
-fn day(random: &mut Random, most: u16, n: usize) -> Day {
-    let h = random.within(1, most);
-    let n = random.below(n + 1);
-    let idle = random.pick(&[0, 2, 9]);
-    let mut day = match random.below(4) {
-        0 => Day { h, entries: (0..n).map(|_| random::entry(random, h)).collect() },
-        1 => random::unbroken_day(random, h, n.clamp(1, h.into()), idle > 0, h / 2),
-        _ => random::planned_day(random, h, n, idle, &[1, 2, 4, 8]),
-    };
-    if random.once_in(4) {
-        random::work_more(random, &mut day);
-    }
-    let mixed = random.once_in(2);
-    day.entries.iter_mut().for_each(|entry| entry.whole = !mixed || !random.once_in(4));
-    day
-}
+use dock_tests::{abi, flat, mirror, narrow};
 
 /// How often days were settled without moves, in so many rounds with moves (5 or more counted as 5), refused
 /// with 9, and refused with 10 in round one or later.
@@ -52,7 +32,7 @@ impl Seen {
 }
 
 fn up_to(most: u16, n: usize) -> impl Fn(&mut Random) -> Day {
-    move |random| day(random, most, n)
+    move |random| random::mixed_day(random, most, n)
 }
 
 /// Makes so many random days, holds each against this check, and counts them.
@@ -74,24 +54,9 @@ fn ten_thousand_small_days_against_trying_everything() {
     assert!(seen.overloaded > 1_000 && seen.no_place > 100, "{seen:?}");
 }
 
-/// Two wide whole entries, and two pause entries of a minute that leave little between them: here 10 comes in
-/// round two now and then. Windows drawn around a plan hardly ever do that.
-fn crossed_day(random: &mut Random) -> Day {
-    let mut day = Day { h: 7, entries: vec![] };
-    for _ in 0..2 {
-        let r = random.within(1, 5);
-        let d = random.within(r + 1, r + 2);
-        day.entries.push(Entry { r, d, p: 1, whole: false, ..random::entry(random, 1) });
-        let p = random.within(2, 3);
-        day.entries.push(Entry { r: 0, d: 7, p, whole: true, ..random::entry(random, 1) });
-    }
-    random::shuffle(random, &mut day.entries);
-    day
-}
-
 #[test]
 fn late_refusals_against_trying_everything() {
-    let seen = each_of(2_000, 102, crossed_day, by_trying_everything);
+    let seen = each_of(2_000, 102, random::crossed_day, by_trying_everything);
     assert!(seen.no_place > 100 && seen.no_place_later > 10, "{seen:?}");
 }
 
@@ -118,23 +83,17 @@ fn three_thousand_days_of_up_to_60_minutes_against_the_second_narrowing() {
     assert!(seen.overloaded > 500 && seen.no_place > 100, "{seen:?}");
 }
 
-/// The mirror: "[r, d) becomes [H-d, H-r), places kept".
-fn mirror(day: &Day) -> Day {
-    let turned = |entry: &Entry| Entry { r: day.h - entry.d, d: day.h - entry.r, ..entry.clone() };
-    Day { h: day.h, entries: day.entries.iter().map(turned).collect() }
-}
-
 /// A visit gives r the least and d the greatest of one set of starts, so the mirror of a day is settled with
 /// the mirrored windows and as many moves, or refused with 10 at the same place; and an overloaded one is
 /// overloaded.
 #[test]
 fn the_mirror_of_a_day_is_settled_alike() {
     let seen = each_of(5_000, 105, up_to(20, 8), |day| {
-        let turned = settle(&flat::of_day(&mirror(day)));
+        let turned = settle(&flat::of_day(&mirror::day(day)));
         match settle(&flat::of_day(day)) {
             Ok(narrowed) => {
                 let found = turned.expect("settled as well");
-                assert_eq!((mirror(&found.day), found.moves), (narrowed.day, narrowed.moves), "{day:?}");
+                assert_eq!((mirror::day(&found.day), found.moves), (narrowed.day, narrowed.moves), "{day:?}");
             }
             Err(refusal @ Refusal::NoPlace { .. }) => assert_eq!(turned, Err(refusal), "{day:?}"),
             Err(_) => assert!(matches!(turned, Err(Refusal::Overloaded(_))), "{day:?}"),

@@ -1,0 +1,14 @@
+//! The mirror: "minute t becomes H-1-t, [r, d) becomes [H-d, H-r), places kept".
+
+use crate::day::{Day, Entry};
+
+/// The mirrored list.
+pub fn day(day: &Day) -> Day {
+    let turned = |entry: &Entry| Entry { r: day.h - entry.d, d: day.h - entry.r, ..entry.clone() };
+    Day { h: day.h, entries: day.entries.iter().map(turned).collect() }
+}
+
+/// The mirrored plan of H minutes.
+pub fn plan(plan: &[u8]) -> Vec<u8> {
+    plan.iter().rev().copied().collect()
+}
