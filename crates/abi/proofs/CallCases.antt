@@ -1,7 +1,7 @@
--- What the calls leave, from what the crates list, jackson and narrow answer.
+-- What the calls leave, from what the crates list, jackson, narrow and bounds answer.
 -- Assumes nothing.
 use mathlib.Core.Path.{_≡_, refl, sym, ap, subst, _∙_}
-use mathlib.Core.List.{List, [], _∷_}
+use mathlib.Core.List.{List, [], _∷_, _++_}
 use Prim.Native.Nat.{ℕ}
 use lib.ListN.{length}
 use Rattle.list.specs.Outcomes.{Outcome, answered, refused}
@@ -16,14 +16,19 @@ use Rattle.list.specs.declared.types.Verdict.the-variants.{Accepted, Refused}
 use Rattle.list.specs.declared.types.ReadAnswer.{ReadAnswer}
 use Rattle.list.specs.declared.types.WriteAnswer.{WriteAnswer}
 use Rattle.list.specs.declared.types.WriteAnswer.the-variants.{Written, NotWritten}
+use Rattle.jackson.specs.Windows.{Windows}
 use Rattle.jackson.specs.Testing.{Tests}
 use Rattle.jackson.specs.Planning.{Fills}
 use Rattle.narrow.specs.Rounds.{Narrowed}
-use Rattle.narrow.specs.Calls.{narrowAnswerOf, listed, AnswersAs}
+use Rattle.narrow.specs.Calls.{narrowAnswerOf, narrowedIn, listed, AnswersAs}
 use Rattle.narrow.specs.declared.types.NarrowAnswer.{NarrowAnswer}
+use Rattle.bounds.specs.Calls.{settledOr, shownOf, PlansDay, ShowsPlan, ShowsEarly, ShowsLate}
+use Rattle.bounds.specs.Demand3.{Told}
+use Rattle.bounds.specs.declared.types.PlanAnswer.{PlanAnswer}
+use Rattle.bounds.specs.declared.types.ShownAnswer.{ShownAnswer}
 use Rattle.codes.specs.Numbers.{three}
 use Rattle.abi.specs.Flat.{flatOf, valueOf}
-use Rattle.abi.specs.Calls.{answerWith, ReadCall, WriteCall, OverloadCall, ScheduleCall, NarrowCall}
+use Rattle.abi.specs.Calls.{answerWith, ReadCall, WriteCall, OverloadCall, ScheduleCall, NarrowCall, PlanCall, ShownSaid, EarlyCall, LateCall}
 use Rattle.abi.specs.declared.Answer.{Answer}
 
 -- an answer made of a refusal
@@ -65,15 +70,55 @@ module _ (xs : List ℕ) (l : DayList) (p : l ≡ valueOf xs) (v : Verdict) (b :
       record { answer = q ∙ ap (answerWith (λ _. [])) (f .outcome); buffer = f .buffer }
 
 -- what narrowing answered, in numbers
-module _ (old : List ℕ) (a : NarrowAnswer) where
+module _ (old : List ℕ) (a : NarrowAnswer) (second : ℕ) where
   pub narrowed-given : (fields : List ℕ) → a .verdict ≡ Accepted → fields ≡ flatOf (a .list)
-      → NarrowCall (narrowAnswerOf a) old (record { number = 0; values = a .moves ∷ 0 ∷ 0 ∷ [] }) fields
+      → NarrowCall (narrowAnswerOf a) second old (record { number = 0; values = a .moves ∷ second ∷ 0 ∷ [] }) fields
   narrowed-given fields v q = rw v (record { answer = refl; buffer = q })
 
-  pub narrowed-refused : (x : Refusal) (b : Answer) → a .verdict ≡ Refused x → RefusedAs x b → NarrowCall (narrowAnswerOf a) old b old
+  pub narrowed-refused : (x : Refusal) (b : Answer) → a .verdict ≡ Refused x → RefusedAs x b → NarrowCall (narrowAnswerOf a) second old b old
   narrowed-refused x b v q = rw v (record { answer = q; buffer = refl })
 
 -- a call that narrows the list value that xs say, with the outcome o
 pub narrow-said : (o : DayList → Outcome Narrowed) (xs old new : List ℕ) (l : DayList) → l ≡ valueOf xs → (a : NarrowAnswer) (b : Answer)
-    → NarrowCall (narrowAnswerOf a) old b new → AnswersAs l (o l) a → NarrowCall (listed (valueOf xs) (o (valueOf xs))) old b new
-narrow-said o xs old new l p a b given w = rw (← p) (subst (λ (u : Outcome (DayList × ℕ)). NarrowCall u old b new) (w .outcome) given)
+    → NarrowCall (narrowAnswerOf a) 0 old b new → AnswersAs l (o l) a → NarrowCall (listed (valueOf xs) (o (valueOf xs))) 0 old b new
+narrow-said o xs old new l p a b given w = rw (← p) (subst (λ (u : Outcome (DayList × ℕ)). NarrowCall u 0 old b new) (w .outcome) given)
+
+-- the bounds that planning answered
+pub bounds-given : (a : PlanAnswer) (old new : List ℕ) → a .narrowed .verdict ≡ Accepted → new ≡ a .ends ++ a .starts
+    → new ≡ settledOr old (λ _. a .ends ++ a .starts) (narrowedIn (a .narrowed))
+bounds-given a old new v q = rw v q
+
+-- planning the list value that xs say
+pub plan-said : (xs oldPlan newPlan oldFields newFields oldBounds newBounds : List ℕ) (l : DayList) → l ≡ valueOf xs → (a : PlanAnswer) (b : Answer)
+    → PlansDay l oldPlan a newPlan
+    → newBounds ≡ settledOr oldBounds (λ _. a .ends ++ a .starts) (narrowedIn (a .narrowed))
+    → NarrowCall (narrowAnswerOf (a .narrowed)) (a .broken) oldFields b newFields
+    → PlanCall xs oldPlan oldFields oldBounds b newPlan newFields newBounds
+plan-said xs oldPlan newPlan oldFields newFields oldBounds newBounds l p a b w bounds given =
+    let f : PlansDay (valueOf xs) oldPlan a newPlan = subst (λ (k : DayList). PlansDay k oldPlan a newPlan) p w in
+    record {
+      narrowed = rw (← (f .outcome .outcome), ← (f .broken)) given;
+      plan = f .buffer;
+      bounds = rw (← (f .ends), ← (f .starts), ← (f .holds .narrowed)) bounds;
+    }
+
+-- showing a plan of the list l
+shown-said : {l : DayList} {k : ℕ} {oldPlan newPlan oldFields newFields : List ℕ} {s : Windows → ℕ} {m : Windows → List ℕ}
+    {told : ShownAnswer → List ℕ → Told} {a : ShownAnswer} {b : Answer}
+    → ShowsPlan l k oldPlan s m told a newPlan
+    → NarrowCall (narrowAnswerOf (a .narrowed)) (a .bound) oldFields b newFields
+    → ShownSaid l s m (shownOf l k (length oldPlan)) oldPlan oldFields b newPlan newFields
+shown-said w given = record { narrowed = rw (← (w .outcome .outcome), ← (w .bound)) given; plan = w .buffer }
+
+-- of the list value that xs say
+module _ (xs : List ℕ) (k : ℕ) (oldPlan newPlan oldFields newFields : List ℕ) (l : DayList) (p : l ≡ valueOf xs) (a : ShownAnswer) (b : Answer)
+    (given : NarrowCall (narrowAnswerOf (a .narrowed)) (a .bound) oldFields b newFields) where
+  pub early-said : ShowsEarly l k oldPlan a newPlan → EarlyCall xs k oldPlan oldFields b newPlan newFields
+  early-said w =
+      let f : ShowsEarly (valueOf xs) k oldPlan a newPlan = subst (λ (v : DayList). ShowsEarly v k oldPlan a newPlan) p w in
+      shown-said f given
+
+  pub late-said : ShowsLate l k oldPlan a newPlan → LateCall xs k oldPlan oldFields b newPlan newFields
+  late-said w =
+      let f : ShowsLate (valueOf xs) k oldPlan a newPlan = subst (λ (v : DayList). ShowsLate v k oldPlan a newPlan) p w in
+      shown-said f given

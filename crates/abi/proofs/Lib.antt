@@ -1,2 +1,3 @@
 pub mod FlatCases
 pub mod CallCases
+pub mod BoundsCases

@@ -1,16 +1,21 @@
 -- What the exported calls answer, as numbers, and what they leave in the lent buffers.
 use Prim.Native.Nat.{ℕ}
 use mathlib.Core.Path.{_≡_}
-use mathlib.Core.List.{List, [], _∷_}
+use mathlib.Core.List.{List, [], _∷_, _++_}
 use lib.ListN.{length}
 use Rattle.list.specs.Outcomes.{Outcome, answered, refused}
 use Rattle.list.specs.Reading.{readOf}
 use Rattle.list.specs.Writing.{writeOf, bufferAfter}
 use Rattle.list.specs.declared.types.DayList.{DayList}
-use Rattle.jackson.specs.Windows.{windowsOf}
+use Rattle.jackson.specs.Windows.{Windows, windowsOf}
 use Rattle.jackson.specs.Testing.{testOf}
+use Rattle.jackson.specs.Intervals.{overloadOf}
+use Rattle.jackson.specs.Minutes.{schedule}
 use Rattle.jackson.specs.Planning.{fillOf, planAfter}
-use Rattle.narrow.specs.Calls.{settleOf, roundOf, listed}
+use Rattle.narrow.specs.Rounds.{Narrowed}
+use Rattle.narrow.specs.Calls.{wholeIn, settleOf, roundOf, listed}
+use Rattle.bounds.specs.Ends.{leastEnd, greatestStart}
+use Rattle.bounds.specs.Calls.{settledOr, planned, planOf, leastEnds, greatestStarts, brokenOf, shownOf, earlyOf, lateOf}
 use Rattle.codes.specs.Numbers.{three}
 use Rattle.abi.specs.Flat.{flatOf, valueOf}
 use Rattle.abi.specs.declared.Answer.{Answer}
@@ -49,14 +54,44 @@ abbrev pub narrowedAfter : Outcome (DayList × ℕ) → List ℕ → List ℕ
 narrowedAfter (answered x) old = flatOf (x .0)
 narrowedAfter (refused k) old = old
 
--- an answer where narrowing has the outcome o, with the moves first, and what it leaves in fields that held old
-pub record NarrowCall (o : Outcome (DayList × ℕ)) (old : List ℕ) (a : Answer) (fields : List ℕ) : Type 0 where
-  pub answer : a ≡ answerWith (λ x. x .1 ∷ []) o
+-- an answer where narrowing has the outcome o, with the moves first and then this number, and what it leaves in fields that held old
+pub record NarrowCall (o : Outcome (DayList × ℕ)) (second : ℕ) (old : List ℕ) (a : Answer) (fields : List ℕ) : Type 0 where
+  pub answer : a ≡ answerWith (λ x. x .1 ∷ second ∷ []) o
   pub buffer : fields ≡ narrowedAfter o old
 
--- what `dock_settle` and `dock_round` answer of the list value that xs say, and leave in fields that held old
+-- what `dock_settle` and `dock_round` answer of the list value that xs say, and leave in fields that held old: the moves alone
 abbrev pub SettleCall : List ℕ → List ℕ → Answer → List ℕ → Type 0
-SettleCall xs = NarrowCall (listed (valueOf xs) (settleOf (valueOf xs)))
+SettleCall xs = NarrowCall (listed (valueOf xs) (settleOf (valueOf xs))) 0
 
 abbrev pub RoundCall : List ℕ → List ℕ → Answer → List ℕ → Type 0
-RoundCall xs = NarrowCall (listed (valueOf xs) (roundOf (valueOf xs)))
+RoundCall xs = NarrowCall (listed (valueOf xs) (roundOf (valueOf xs))) 0
+
+-- an answer where planning the list l has the outcome o, with the moves and the number of broken entries, and what it leaves in a plan
+-- buffer, fields and bounds that held the old ones: the bounds are the least ends, then the greatest starts
+pub record PlanSaid (l : DayList) (o : Outcome Narrowed) (oldPlan oldFields oldBounds : List ℕ)
+    (a : Answer) (newPlan newFields newBounds : List ℕ) : Type 0 where
+  pub narrowed : NarrowCall (listed l o) (brokenOf (wholeIn l) o) oldFields a newFields
+  pub plan : newPlan ≡ planned schedule oldPlan o
+  pub bounds : newBounds ≡ settledOr oldBounds (λ _. leastEnds (wholeIn l) o ++ greatestStarts (wholeIn l) o) o
+
+-- what `dock_plan` answers of the list value that xs say, and leaves in what is lent
+abbrev pub PlanCall : List ℕ → List ℕ → List ℕ → List ℕ → Answer → List ℕ → List ℕ → List ℕ → Type 0
+PlanCall xs oldPlan = PlanSaid (valueOf xs) (planOf (valueOf xs) (length oldPlan)) oldPlan
+
+-- an answer where showing a plan of the list l has the outcome o, with the moves and the bound b of the settled windows, and what it
+-- leaves in a plan buffer and fields that held the old ones: m is the plan in the settled windows
+pub record ShownSaid (l : DayList) (b : Windows → ℕ) (m : Windows → List ℕ) (o : Outcome Narrowed) (oldPlan oldFields : List ℕ)
+    (a : Answer) (newPlan newFields : List ℕ) : Type 0 where
+  pub narrowed : NarrowCall (listed l o) (settledOr 0 b o) oldFields a newFields
+  pub plan : newPlan ≡ planned m oldPlan o
+
+-- what `dock_early` and `dock_late` answer of place k of the list value that xs say, and leave in what is lent
+abbrev pub EarlyCall : List ℕ → ℕ → List ℕ → List ℕ → Answer → List ℕ → List ℕ → Type 0
+EarlyCall xs k oldPlan =
+    let l = valueOf xs in
+    ShownSaid l (λ w. leastEnd overloadOf (wholeIn l) w k) (earlyOf (wholeIn l) k) (shownOf l k (length oldPlan)) oldPlan
+
+abbrev pub LateCall : List ℕ → ℕ → List ℕ → List ℕ → Answer → List ℕ → List ℕ → Type 0
+LateCall xs k oldPlan =
+    let l = valueOf xs in
+    ShownSaid l (λ w. greatestStart overloadOf (wholeIn l) w k) (lateOf (wholeIn l) k) (shownOf l k (length oldPlan)) oldPlan

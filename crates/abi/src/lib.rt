@@ -1,22 +1,29 @@
 // The planner's calls for programs in other languages: byte slices and numbers only.
 // Promises: each call answers 0 or a refusal's number of document 01, with its values, and leaves in its buffers what
 // specs/Calls.antt says, whatever the bytes and numbers are. What it cannot check are the pointers themselves: a caller lends
-// `bytes`, `out` and `plan` with their lengths, and `fields` and `narrowed`, which must not overlap, with 450 numbers each. Uses the crates
-// list, jackson, narrow and codes.
+// `bytes`, `out` and `plan` with their lengths, `fields` and `narrowed` with 450 numbers each and `bounds` with 128, and no two of them
+// overlap. Uses the crates list, jackson, narrow, bounds and codes.
 mod flat;
+mod flat_bounds;
 
+use bounds::plan_day;
+use bounds::show_early;
+use bounds::show_late;
+use bounds::types::PlanAnswer;
 use flat::flat_of;
 use flat::list_in;
+use flat_bounds::joined;
 use list::types::Refusal;
 use list::types::Verdict;
 use list::types::WriteAnswer;
 use narrow::types::NarrowAnswer;
 ghost use mathlib.Core.Path.{_≡_};
-ghost use mathlib.Core.List.{[]};
+ghost use mathlib.Core.List.{[], _++_};
 ghost use Rattle.list.specs.Refusals.{codeOf, verdictOf};
-ghost use Rattle.narrow.specs.Calls.{narrowAnswerOf};
+ghost use Rattle.narrow.specs.Calls.{narrowAnswerOf, narrowedIn};
+ghost use Rattle.bounds.specs.Calls.{settledOr};
 ghost use Rattle.codes.specs.Numbers.{three};
-ghost use Rattle.abi.specs.Calls.{answerWith, ReadCall, WriteCall, OverloadCall, ScheduleCall, NarrowCall, SettleCall, RoundCall};
+ghost use Rattle.abi.specs.Calls.{answerWith, ReadCall, WriteCall, OverloadCall, ScheduleCall, NarrowCall, SettleCall, RoundCall, PlanCall, EarlyCall, LateCall};
 
 // What a call answers: 0 or a refusal's number, and three values, 0 where there are fewer.
 #[repr(C)]
@@ -100,9 +107,9 @@ pub extern "C" fn dock_schedule(fields: &[u32; 450], plan: &mut [u8]) -> Answer
     verdict_as(verdict)
 }
 
-// What narrowing answered: the first value is the moves, and `narrowed` the list, flat; refused, it keeps its values.
-fn give_narrowed(answer: NarrowAnswer, narrowed: &mut [u32; 450]) -> Answer
-    ensures { λ a. ⌜ NarrowCall (narrowAnswerOf answer) (now (narrowed .entry)) a (now (narrowed .exit)) ⌝ }
+// What narrowing answered: the values are the moves and this second one, and `narrowed` is the list, flat; refused, it keeps its values.
+fn give_narrowed(answer: NarrowAnswer, second: u64, narrowed: &mut [u32; 450]) -> Answer
+    ensures { λ a. ⌜ NarrowCall (narrowAnswerOf answer) second (now (narrowed .entry)) a (now (narrowed .exit)) ⌝ }
 {
     let verdict = answer.verdict;
     match verdict {
@@ -111,7 +118,7 @@ fn give_narrowed(answer: NarrowAnswer, narrowed: &mut [u32; 450]) -> Answer
             *narrowed = flat_of(l);
             Answer {
                 number: 0,
-                values: [answer.moves as u64, 0, 0],
+                values: [answer.moves as u64, second, 0],
             }
         }
         Verdict::Refused(x) => refused_as(x),
@@ -123,7 +130,7 @@ fn give_narrowed(answer: NarrowAnswer, narrowed: &mut [u32; 450]) -> Answer
 pub extern "C" fn dock_settle(fields: &[u32; 450], narrowed: &mut [u32; 450]) -> Answer
     ensures { λ a. ⌜ SettleCall (now (fields .entry)) (now (narrowed .entry)) a (now (narrowed .exit)) ⌝ }
 {
-    give_narrowed(narrow::settle(list_in(fields)), narrowed)
+    give_narrowed(narrow::settle(list_in(fields)), 0, narrowed)
 }
 
 // Makes one round of the list value that `fields` says, from its windows as given.
@@ -131,5 +138,65 @@ pub extern "C" fn dock_settle(fields: &[u32; 450], narrowed: &mut [u32; 450]) ->
 pub extern "C" fn dock_round(fields: &[u32; 450], narrowed: &mut [u32; 450]) -> Answer
     ensures { λ a. ⌜ RoundCall (now (fields .entry)) (now (narrowed .entry)) a (now (narrowed .exit)) ⌝ }
 {
-    give_narrowed(narrow::round(list_in(fields)), narrowed)
+    give_narrowed(narrow::round(list_in(fields)), 0, narrowed)
+}
+
+// The bounds that planning answered; refused, `bounds` keeps its values.
+fn give_bounds(answer: PlanAnswer, bounds: &mut [u32; 128])
+    ensures { λ _. ⌜ now (bounds .exit) ≡ settledOr (now (bounds .entry)) (λ _. answer .ends ++ answer .starts) (narrowedIn (answer .narrowed)) ⌝ }
+{
+    let narrowed = answer.narrowed;
+    let verdict = narrowed.verdict;
+    let Verdict::Accepted = verdict else {
+        return;
+    };
+    let ends = answer.ends;
+    let starts = answer.starts;
+    *bounds = joined(ends, starts);
+}
+
+// Plans the list value that `fields` says. Accepted: the values are the moves and the number of broken entries, `narrowed` is the settled
+// list, flat, `bounds` the least ends of the 64 places and then their greatest starts, and `plan` begins with the plan. Refused: each keeps
+// its values.
+#[no_mangle]
+pub extern "C" fn dock_plan(
+    fields: &[u32; 450],
+    plan: &mut [u8],
+    narrowed: &mut [u32; 450],
+    bounds: &mut [u32; 128],
+) -> Answer
+    ensures { λ a. ⌜ PlanCall (now (fields .entry)) (now (plan .entry)) (now (narrowed .entry)) (now (bounds .entry)) a (now (plan .exit)) (now (narrowed .exit)) (now (bounds .exit)) ⌝ }
+{
+    let answer = plan_day(list_in(fields), plan);
+    give_bounds(answer, bounds);
+    give_narrowed(answer.narrowed, answer.broken as u64, narrowed)
+}
+
+// Shows the early plan of a place of the list value that `fields` says. Accepted: the values are the moves and the place's least end,
+// `narrowed` is the settled list, flat, and `plan` begins with the plan. Refused: each keeps its values.
+#[no_mangle]
+pub extern "C" fn dock_early(
+    fields: &[u32; 450],
+    place: u64,
+    plan: &mut [u8],
+    narrowed: &mut [u32; 450],
+) -> Answer
+    ensures { λ a. ⌜ EarlyCall (now (fields .entry)) place (now (plan .entry)) (now (narrowed .entry)) a (now (plan .exit)) (now (narrowed .exit)) ⌝ }
+{
+    let answer = show_early(list_in(fields), place as usize, plan);
+    give_narrowed(answer.narrowed, answer.bound as u64, narrowed)
+}
+
+// Shows the late plan, with the place's greatest start.
+#[no_mangle]
+pub extern "C" fn dock_late(
+    fields: &[u32; 450],
+    place: u64,
+    plan: &mut [u8],
+    narrowed: &mut [u32; 450],
+) -> Answer
+    ensures { λ a. ⌜ LateCall (now (fields .entry)) place (now (plan .entry)) (now (narrowed .entry)) a (now (plan .exit)) (now (narrowed .exit)) ⌝ }
+{
+    let answer = show_late(list_in(fields), place as usize, plan);
+    give_narrowed(answer.narrowed, answer.bound as u64, narrowed)
 }

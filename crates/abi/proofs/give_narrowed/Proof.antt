@@ -1,4 +1,4 @@
--- The list and the moves, or a refusal.
+-- The list, the moves and the second value, or a refusal.
 -- Assumes nothing.
 use borrow.Author.Needs.{needs}
 use Rattle.abi.proofs.CallCases.{narrowed-given, narrowed-refused}
@@ -11,8 +11,8 @@ enum-told c = search needs
 flat-of-requires : tie.Need-flat-of-requires
 flat-of-requires c κs = search needs
 
-cast-t8 : tie.Need-cast-t8
-cast-t8 c = search needs
+cast-t9 : tie.Need-cast-t9
+cast-t9 c = search needs
 
 enum-known-verdict : tie.Need-enum-known-verdict
 enum-known-verdict c = search needs
@@ -21,10 +21,10 @@ refused-as-requires : tie.Need-refused-as-requires
 refused-as-requires c κs = search needs
 
 returns : tie.Need-returns
-returns c = narrowed-given (c .before .before .before .before .before .args .narrowed .now) (c .before .before .before .before .before .args .answer) _ (c .before .before .before .enum-told .given .1) (c .before .flat-of .ensures)
+returns c = narrowed-given (c .before .before .before .before .before .args .narrowed .now) (c .before .before .before .before .before .args .answer) (c .before .before .before .before .before .args .second) _ (c .before .before .before .enum-told .given .1) (c .before .flat-of .ensures)
 
 returns-2 : tie.Need-returns-2
-returns-2 c = narrowed-refused (c .before .before .before .before .args .narrowed .now) (c .before .before .before .before .args .answer) _ _ (c .before .before .verdict .given .1) (c .refused-as .ensures)
+returns-2 c = narrowed-refused (c .before .before .before .before .args .narrowed .now) (c .before .before .before .before .args .answer) (c .before .before .before .before .args .second) _ _ (c .before .before .verdict .given .1) (c .refused-as .ensures)
 
 pub give-narrowed-spec : {M : Type 1} → statement M
 give-narrowed-spec =
@@ -32,7 +32,7 @@ give-narrowed-spec =
     (tie.spec
     enum-told
     flat-of-requires
-    cast-t8
+    cast-t9
     enum-known-verdict
     refused-as-requires
     returns

@@ -1,0 +1,26 @@
+-- Both runs of numbers fill the 128.
+-- Assumes nothing.
+use borrow.Author.Needs.{needs}
+use mathlib.Core.Path.{_≡_}
+use lib.ListN.{length}
+use Rattle.abi.proofs.BoundsCases.{both-stored}
+use Rattle.abi.proofs.flat_bounds.joined.Statement.{statement}
+use Rattle.abi.proofs.flat_bounds.joined.Tie as tie
+
+zeros-requires : tie.Need-zeros-requires
+zeros-requires c κs = search needs
+
+put-places-requires : tie.Need-put-places-requires
+put-places-requires c κs = search needs
+
+put-places-requires-2 : tie.Need-put-places-requires-2
+put-places-requires-2 c κs = search needs
+
+returns : tie.Need-returns
+returns c =
+    let e : length (c .before .before .before .before .before .args .ends) ≡ 64 = search needs in
+    let s : length (c .before .before .before .before .before .args .starts) ≡ 64 = search needs in
+    rw (c .put-places2 .ensures, c .before .before .put-places .ensures) (both-stored (c .before .before .before .before .zeros .result) (c .before .before .before .before .before .args .ends) (c .before .before .before .before .before .args .starts) (rw (c .before .before .before .before .zeros .ensures)) e s)
+
+pub joined-spec : {M : Type 1} → statement M
+joined-spec = tie.close (tie.spec zeros-requires put-places-requires put-places-requires-2 returns)
