@@ -26,7 +26,7 @@ use Rattle.jackson.specs.Mirrors.{mirror, mirrorBytes, MirrorOf}
 use Rattle.jackson.specs.Intervals.{overloadOf}
 use Rattle.jackson.specs.Minutes.{schedule}
 use Rattle.jackson.specs.Testing.{Holds}
-use Rattle.jackson.specs.Planning.{FillsWindows}
+use Rattle.jackson.specs.Planning.{bufferRow, FillsWindows}
 use Rattle.jackson.specs.declared.types.WindowSet.{WindowSet}
 use Rattle.jackson.proofs.ListLaws.{list-few}
 use Rattle.narrow.specs.Searching.{withD}
@@ -49,7 +49,7 @@ use Rattle.bounds.proofs.EndCases.{least-end-kind}
 use Rattle.bounds.proofs.EndSearches.{least-end-range}
 use Rattle.bounds.proofs.MirrorEnds.{start-by-mirror, late-by-mirror}
 use Rattle.bounds.proofs.ShownCases.{stored-long, filled-with, schedule-long, mirror-front}
-use Rattle.bounds.specs.Calls.{PlansWindows, byPlace, settledOr, planned, leastEnds, greatestStarts, brokenOf, earlyOf, lateOf, narrowAfter, beforeNine, bufferRow, placeRow, planChecks, shownChecks}
+use Rattle.bounds.specs.Calls.{PlansWindows, byPlace, settledOr, planned, leastEnds, greatestStarts, brokenOf, earlyOf, lateOf, narrowAfter, beforeNine, placeRow, planChecks, shownChecks}
 
 -- The checks before 9.
 module _ (l : DayList) (v : Verdict) (checked : verdictOf v ≡ checkOf l) where
@@ -58,11 +58,11 @@ module _ (l : DayList) (v : Verdict) (checked : verdictOf v ≡ checkOf l) where
 
   pub plan-failed : (x : Refusal) → v ≡ Refused x → (room : ℕ) → verdictOf v ≡ planChecks l room
   unfolding planChecks
-  plan-failed x e room = check-failed x e (bufferRow l room ∷ [])
+  plan-failed x e room = check-failed x e (bufferRow (l .frame .h) room ∷ [])
 
   pub shown-failed : (x : Refusal) → v ≡ Refused x → (k room : ℕ) → verdictOf v ≡ shownChecks l k room
   unfolding shownChecks
-  shown-failed x e k room = check-failed x e (placeRow l k ∷ bufferRow l room ∷ [])
+  shown-failed x e k room = check-failed x e (placeRow l k ∷ bufferRow (l .frame .h) room ∷ [])
 
   module _ (room : ℕ) (e : v ≡ Accepted) where
     passed : checkOf l ≡ answered tt
@@ -83,7 +83,7 @@ module _ (l : DayList) (v : Verdict) (checked : verdictOf v ≡ checkOf l) where
 
       pub place-known : k < l .n → (u : Verdict) → verdictOf u ≡ planChecks l room → verdictOf u ≡ shownChecks l k room
       unfolding planChecks shownChecks
-      place-known h u q = let z : verdictOf u ≡ firstOf (bufferRow l room ∷ []) (answered tt) = rw passed at q in rw (passed, lt-leb (l .n) k h) z
+      place-known h u q = let z : verdictOf u ≡ firstOf (bufferRow (l .frame .h) room ∷ []) (answered tt) = rw passed at q in rw (passed, lt-leb (l .n) k h) z
 
 -- what they say where they are passed
 abbrev RowsPassed : List Row → Type 0
@@ -104,16 +104,16 @@ module _ (l : DayList) where
 
   pub plan-formed : (room : ℕ) → planChecks l room ≡ answered tt → WellFormed l
   unfolding planChecks
-  plan-formed room e = rows-passed (bufferRow l room ∷ []) e .0
+  plan-formed room e = rows-passed (bufferRow (l .frame .h) room ∷ []) e .0
 
   pub plan-room : (room : ℕ) → planChecks l room ≡ answered tt → l .frame .h ≤ room
   unfolding planChecks
-  plan-room room e = ltb-false _ _ (row-passed _ _ _ (rows-passed (bufferRow l room ∷ []) e .1) .0)
+  plan-room room e = ltb-false _ _ (row-passed _ _ _ (rows-passed (bufferRow (l .frame .h) room ∷ []) e .1) .0)
 
   pub shown-plan : (k room : ℕ) → shownChecks l k room ≡ answered tt → (k < l .n) × (planChecks l room ≡ answered tt)
   unfolding planChecks shownChecks
   shown-plan k room e =
-      let z = rows-passed (placeRow l k ∷ bufferRow l room ∷ []) e in
+      let z = rows-passed (placeRow l k ∷ bufferRow (l .frame .h) room ∷ []) e in
       let q = row-passed _ _ _ (z .1) in
       (leb-false _ _ (q .0), rw (z .0) (q .1))
 

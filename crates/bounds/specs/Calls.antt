@@ -15,6 +15,7 @@ use Rattle.jackson.specs.Windows.{Windows, windowsOf}
 use Rattle.jackson.specs.Plans.{placesIn, PlanBytes}
 use Rattle.jackson.specs.Intervals.{overloadOf}
 use Rattle.jackson.specs.Minutes.{schedule}
+use Rattle.jackson.specs.Planning.{bufferRow}
 use Rattle.narrow.specs.Searching.{put}
 use Rattle.narrow.specs.Rounds.{Narrowed, narrowing}
 use Rattle.narrow.specs.Calls.{wholeIn, narrowedIn, AnswersAs, HoldsAnswer}
@@ -31,20 +32,16 @@ use Rattle.bounds.specs.declared.types.ShownAnswer.{ShownAnswer}
 abbrev pub beforeNine : DayList → List Row → Outcome (Unit {0})
 beforeNine l rows = andThen (checkOf l) (λ _. firstOf rows (answered tt))
 
--- "plan buffer under H bytes", which carries H
-abbrev pub bufferRow : DayList → ℕ → Row
-bufferRow l room = row 11 (ltb room (l .frame .h)) (l .frame .h)
-
 -- "place asked is n or more", which carries that place
 abbrev pub placeRow : DayList → ℕ → Row
 placeRow l k = row 13 (leb (l .n) k) k
 
 -- the rows above 9 for a plan buffer of this length, and for a place k beside it
 unfoldable pub planChecks : DayList → ℕ → Outcome (Unit {0})
-planChecks l room = beforeNine l (bufferRow l room ∷ [])
+planChecks l room = beforeNine l (bufferRow (l .frame .h) room ∷ [])
 
 unfoldable pub shownChecks : DayList → ℕ → ℕ → Outcome (Unit {0})
-shownChecks l k room = beforeNine l (placeRow l k ∷ bufferRow l room ∷ [])
+shownChecks l k room = beforeNine l (placeRow l k ∷ bufferRow (l .frame .h) room ∷ [])
 
 -- then rows 9 and 10, and the settled windows with their moves
 abbrev pub narrowAfter : Outcome (Unit {0}) → DayList → Outcome Narrowed
