@@ -23,7 +23,7 @@ use Rattle.jackson.proofs.Sums.{le-or-lt, same-cases, same-ne}
 use Rattle.narrow.specs.Searching.{failedStarts, failedEnds, leastStart, greatestEnd}
 use Rattle.narrow.specs.Rounds.{Narrowed, narrowSide, visit, visits, rounds, narrowing}
 use Rattle.narrow.specs.Calls.{wholeIn, entriesWith, listWith, settleOf, roundOf, listed}
-use Rattle.bounds.specs.Ends.{failedLimits, failedReleases, leastEnd, greatestStart}
+use Rattle.bounds.specs.Ends.{failedDeadlines, failedReleases, leastEnd, greatestStart}
 use Rattle.bounds.specs.Calls.{settledOr, planChecks, planOf, leastEnds, greatestStarts}
 
 -- entries without a seal, by serial, r, d and p
@@ -222,7 +222,7 @@ pub examples : Examples
 unfolding readOf bodyOf entriesFrom checkOf headerFault entriesFault entryFault
     sum firstBelow best listOf work leftEnd rightEnd overloadOf chosen minuteOf later schedule
     failedStarts failedEnds leastStart greatestEnd narrowSide visit visits rounds narrowing
-    entriesWith listWith settleOf roundOf failedLimits failedReleases leastEnd greatestStart planChecks
+    entriesWith listWith settleOf roundOf failedDeadlines failedReleases leastEnd greatestStart planChecks
 examples =
     record {
       serials = refl;
