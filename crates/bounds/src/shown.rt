@@ -23,7 +23,7 @@ pub(crate) fn store_early(windows: WindowSet, k: usize, whole: bool, plan: &mut 
     end
 }
 
-// Turns the plan of h minutes round: "minute t becomes H-1-t".
+// Mirrors the plan of h minutes in its buffer: "minute t becomes H-1-t".
 pub(crate) fn mirror_plan(h: usize, plan: &mut [u8])
     requires { ⌜ h ≤ length (now plan) ⌝ }
     ensures { λ _. ⌜ now (plan .exit) ≡ mirrorBytes h (now (plan .entry)) ++ drop h (now (plan .entry)) ⌝ }
