@@ -25,7 +25,8 @@ use Rattle.narrow.proofs.OverloadPlanner.{overload-planner}
 use Rattle.narrow.proofs.MirrorSearches.{formed-mirror}
 use Rattle.bounds.specs.Ends.{leastEnd, greatestStart}
 use Rattle.bounds.specs.Calls.{byPlace}
-use Rattle.bounds.specs.Parts.{Bounded, HoldsBounded}
+use Rattle.narrow.specs.Parts.{Searchable}
+use Rattle.bounds.specs.Parts.{HoldsBounded}
 use Rattle.bounds.proofs.EndSearches.{deadline-mono, least-end-whole, least-end-found, least-end-range}
 use Rattle.bounds.proofs.MirrorEnds.{start-by-mirror}
 
@@ -166,7 +167,7 @@ module _ (l : DayList) (s : WindowSet) (has : HoldsBounded l s) where
   pub bounded-few : l .n ≤ 64
   bounded-few = omega (arith, has .count)
 
-  pub bounded-at : (i : ℕ) → i < l .n → Bounded s i
+  pub bounded-at : (i : ℕ) → i < l .n → Searchable s i
   bounded-at i h = record { formed = has .formed; place = omega (arith, has .count, h) }
 
   module _ (t : WindowSet) (turned : MirrorOf s t) where

@@ -8,11 +8,12 @@ ghost use Prim.Native.Nat.{_≤_};
 ghost use lib.ListN.{length, drop};
 ghost use Rattle.jackson.specs.Windows.{windowsIn};
 ghost use Rattle.jackson.specs.Mirrors.{mirrorBytes};
-ghost use Rattle.bounds.specs.Parts.{Bounded, StoresEarly};
+ghost use Rattle.narrow.specs.Parts.{Searchable};
+ghost use Rattle.bounds.specs.Parts.{StoresEarly};
 
 // Stores Jackson's schedule with entry k's d set to its least end, and answers that end.
 pub(crate) fn store_early(windows: WindowSet, k: usize, whole: bool, plan: &mut [u8]) -> u16
-    requires { ⌜ Bounded windows k ⌝ }
+    requires { ⌜ Searchable windows k ⌝ }
     requires { ⌜ windows .h ≤ length (now plan) ⌝ }
     ensures { λ e. ⌜ StoresEarly (λ _. whole) (windowsIn windows) k (now (plan .entry)) e (now (plan .exit)) ⌝ }
 {
