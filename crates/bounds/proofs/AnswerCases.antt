@@ -36,7 +36,8 @@ use Rattle.bounds.specs.ShownPlans.{earlyPlan, latePlan}
 use Rattle.bounds.specs.BrokenEntries.{brokenIn}
 use Rattle.bounds.specs.Demand3.{Told, Demand3}
 use Rattle.bounds.specs.Calls.{planChecks, shownChecks, narrowAfter, byPlace, settledOr, planned, planOf, shownOf, leastEnds, greatestStarts, brokenOf, earlyOf, lateOf, toldByPlan, toldByEarly, toldByLate, PlansWindows, PlansDay, ShowsEarly, ShowsLate}
-use Rattle.bounds.specs.Parts.{Bounded, HoldsBounded, StoresEarly, HoldsPlan, NarrowsAfter}
+use Rattle.narrow.specs.Parts.{Searchable}
+use Rattle.bounds.specs.Parts.{HoldsBounded, StoresEarly, HoldsPlan, NarrowsAfter}
 use Rattle.bounds.specs.declared.types.PlanAnswer.{PlanAnswer}
 use Rattle.bounds.specs.declared.types.ShownAnswer.{ShownAnswer}
 use Rattle.bounds.proofs.Demands.{demand3}
@@ -259,7 +260,7 @@ module _ (l : DayList) (k : ℕ) (old : List ℕ) (checks : Verdict) (are : verd
     shown-buffer : l .frame .h ≤ length old
     shown-buffer = plan-room l (length old) (passed .1)
 
-    pub shown-bounded : Bounded s k
+    pub shown-bounded : Searchable s k
     shown-bounded = bounded-at (a .list) s (settled-bounded l _ a shown-settled s holds) k shown-place
 
     pub shown-room : s .h ≤ length old
@@ -274,7 +275,7 @@ module _ (l : DayList) (k : ℕ) (old : List ℕ) (checks : Verdict) (are : verd
 
       -- in the mirror
       module _ (t : WindowSet) (turned : MirrorOf s t) where
-        pub mirror-bounded : Bounded t k
+        pub mirror-bounded : Searchable t k
         mirror-bounded =
             let has = settled-bounded l _ a shown-settled s holds in
             bounded-at (a .list) t (bounded-mirror (a .list) s has t turned) k shown-place

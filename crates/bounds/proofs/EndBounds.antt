@@ -18,7 +18,7 @@ use Rattle.narrow.proofs.OverloadPlanner.{formed-roomy}
 use Rattle.narrow.proofs.Puts.{place-cases, put-same, with-d, consecutive-fixed, fixed-consecutive}
 use Rattle.bounds.specs.Ends.{leastEnd, Keeping}
 use Rattle.bounds.specs.ShownPlans.{earlyPlan, IsEarly}
-use Rattle.bounds.proofs.EndSearches.{own-limit, limit-widen, limit-formed, limit-exact, least-end-whole, least-end-first, least-end-range}
+use Rattle.bounds.proofs.EndSearches.{own-deadline, deadline-widen, deadline-formed, deadline-exact, least-end-whole, least-end-first, least-end-range}
 
 -- Plans.
 
@@ -33,8 +33,8 @@ module _ (w : Windows) (m : ℕ → ℕ) (plan : Plan w m) (k : ℕ) (place : k 
   end-room some = omega (arith, plan .exact k place, minutes-within (w .h) m k (w .r k) e before-end)
 
   -- and by d
-  end-limit : e ≤ w .d k
-  end-limit =
+  end-deadline : e ≤ w .d k
+  end-deadline =
       let one = end .after-one in
       omega (arith, plan .inside k (e - 1) place (omega (arith, end .within)) (end .minute) .1)
 
@@ -62,7 +62,7 @@ module _ {test : Test} (planner : Planner test) (whole : ℕ → Bool) (w : Wind
       go false is =
           le-or-lt least e (λ l. l)
           (λ l.
-          let found = limit-exact w formed k place planner e room (end-limit w m plan k place e end) .1 (m, ends-plan w m plan k place e end) in
+          let found = deadline-exact w formed k place planner e room (end-deadline w m plan k place e end) .1 (m, ends-plan w m plan k place e end) in
           absurd (true≢false (sym found ∙ least-end-first test whole w formed k place is .none-before e room l)))
 
   -- in particular none that keeps k in one piece
@@ -85,14 +85,14 @@ module _ {test : Test} (planner : Planner test) (whole : ℕ → Bool) (w : Wind
         go false is =
             let first = least-end-first test whole w formed k place is in
             le-or-lt (w .d k) least
-            (λ l. let e : least ≡ w .d k = omega (arith, first .due) in rw (e, own-limit w k) (settled .plan))
-            (λ l. limit-exact w formed k place planner least (first .room) (first .due) .0 (first .passes l))
+            (λ l. let e : least ≡ w .d k = omega (arith, first .due) in rw (e, own-deadline w k) (settled .plan))
+            (λ l. deadline-exact w formed k place planner least (first .room) (first .due) .0 (first .passes l))
 
     -- so the early plan is a plan with that d
-    limit-bytes : PlanBytes (withD w k least) (earlyPlan w k least)
-    limit-bytes =
+    deadline-bytes : PlanBytes (withD w k least) (earlyPlan w k least)
+    deadline-bytes =
         let range = least-end-range test whole w formed k place in
-        let there = limit-formed w formed k place least (range .0) (range .1) in
+        let there = deadline-formed w formed k place least (range .0) (range .1) in
         schedule-law (withD w k least) (formed-roomy _ there) (there .few) .plan .0 least-plan
 
     -- which is a plan of the windows, in one piece if k is whole, with the least end
@@ -105,19 +105,19 @@ module _ {test : Test} (planner : Planner test) (whole : ℕ → Bool) (w : Wind
         bytes : PlanBytes w (earlyPlan w k least)
         bytes =
             record {
-              long = limit-bytes .long;
-              places = limit-bytes .places;
-              plan = rw (own-limit w k) at (limit-widen w k least (w .d k) (least-end-range test whole w formed k place .1) m (limit-bytes .plan));
+              long = deadline-bytes .long;
+              places = deadline-bytes .places;
+              plan = rw (own-deadline w k) at (deadline-widen w k least (w .d k) (least-end-range test whole w formed k place .1) m (deadline-bytes .plan));
             }
 
         unbroken : whole k ≡ true → (s : ℕ) × Consecutive (w .h) m k s (s + w .p k)
         unbroken is =
-            (w .r k, fixed-consecutive w formed k (w .r k) place (formed .room k place) m (rw (whole-fixed is) (limit-bytes .plan)))
+            (w .r k, fixed-consecutive w formed k (w .r k) place (formed .room k place) m (rw (whole-fixed is) (deadline-bytes .plan)))
 
         end : IsEnd (w .h) m k least
         end =
             let some = formed .minutes k place in
             let there = plan-end w m (bytes .plan) k place some in
-            let due = end-due (withD w k least) m (limit-bytes .plan) k place some in
+            let due = end-due (withD w k least) m (deadline-bytes .plan) k place some in
             let e : endOf (w .h) m k ≡ least = omega (arith, put-same k least (w .d), end-least m (bytes .plan) _ there) in
             rw e at there

@@ -24,8 +24,9 @@ use Rattle.narrow.proofs.OverloadPlanner.{overload-planner}
 use Rattle.narrow.proofs.MirrorSearches.{formed-mirror}
 use Rattle.bounds.specs.Ends.{leastEnd, greatestStart}
 use Rattle.bounds.specs.Calls.{byPlace}
-use Rattle.bounds.specs.Parts.{Bounded, HoldsBounded}
-use Rattle.bounds.proofs.EndSearches.{limit-mono, least-end-whole, least-end-found, least-end-range}
+use Rattle.narrow.specs.Parts.{Searchable}
+use Rattle.bounds.specs.Parts.{HoldsBounded}
+use Rattle.bounds.proofs.EndSearches.{deadline-mono, least-end-whole, least-end-found, least-end-range}
 use Rattle.bounds.proofs.MirrorEnds.{start-by-mirror}
 
 -- the kind read from the array is that of the list
@@ -77,17 +78,17 @@ module _ (w : Windows) (formed : Formed w) (k : ℕ) (place : k < w .n) where
           room = omega (arith, so .room, m .0);
           order = omega (arith, m .1);
           due = so .due;
-          none-before = λ e room less. limit-fails e room (omega (arith, less)) (omega (arith, m .1, so .due));
+          none-before = λ e room less. deadline-fails e room (omega (arith, less)) (omega (arith, m .1, so .due));
           passes = so .passes;
         }
       where
         -- a narrower window has no plan either
-        limit-fails : (e : ℕ) → w .r k + w .p k ≤ e → e ≤ middle → middle ≤ w .d k → accepts (overloadOf (withD w k e)) ≡ false
-        limit-fails e room less due = go (accepts (overloadOf (withD w k e))) refl
+        deadline-fails : (e : ℕ) → w .r k + w .p k ≤ e → e ≤ middle → middle ≤ w .d k → accepts (overloadOf (withD w k e)) ≡ false
+        deadline-fails e room less due = go (accepts (overloadOf (withD w k e))) refl
           where
             go : (t : Bool) → accepts (overloadOf (withD w k e)) ≡ t → t ≡ false
             go false q = refl
-            go true q = sym (limit-mono w formed k place overload-planner e middle room less due q) ∙ no-plan
+            go true q = sym (deadline-mono w formed k place overload-planner e middle room less due q) ∙ no-plan
 
   pub halve-done : (whole : Bool) → whole ≡ false → (low high : ℕ) → Halved w k low high → high ≤ low → low ≡ leastEnd overloadOf (λ _. whole) w k
   halve-done whole is low high so end =
@@ -165,7 +166,7 @@ module _ (l : DayList) (s : WindowSet) (has : HoldsBounded l s) where
   pub bounded-few : l .n ≤ 64
   bounded-few = omega (arith, has .count)
 
-  pub bounded-at : (i : ℕ) → i < l .n → Bounded s i
+  pub bounded-at : (i : ℕ) → i < l .n → Searchable s i
   bounded-at i h = record { formed = has .formed; place = omega (arith, has .count, h) }
 
   module _ (t : WindowSet) (turned : MirrorOf s t) where

@@ -17,31 +17,31 @@ use Rattle.narrow.proofs.Planners.{Planner}
 use Rattle.narrow.proofs.Puts.{place-cases, put-back}
 use Rattle.narrow.proofs.Keeping.{formed-inside}
 use Rattle.narrow.proofs.Exact.{accepted-answered}
-use Rattle.bounds.specs.Ends.{spare, failedLimits, leastEnd}
+use Rattle.bounds.specs.Ends.{spare, failedDeadlines, leastEnd}
 
 -- Another d of one entry.
 
 -- its own changes nothing
-pub own-limit : (w : Windows) (k : ℕ) → withD w k (w .d k) ≡ w
-own-limit w k = ap (withWindows w (w .r)) (put-back k (w .d))
+pub own-deadline : (w : Windows) (k : ℕ) → withD w k (w .d k) ≡ w
+own-deadline w k = ap (withWindows w (w .r)) (put-back k (w .d))
 
 -- one lies inside a greater one
-pub limit-inside : (w : Windows) (k e x : ℕ) → e ≤ x → Inside (withD w k e) (withD w k x)
-limit-inside w k e x less =
+pub deadline-inside : (w : Windows) (k e x : ℕ) → e ≤ x → Inside (withD w k e) (withD w k x)
+deadline-inside w k e x less =
     record {
       r = λ i _. omega arith;
       d = λ i _. place-cases (λ t. cond t e (w .d i) ≤ cond t x (w .d i)) i k (λ _. less) (λ _. omega arith);
     }
 
 -- so a plan for it is one for the greater
-pub limit-widen : (w : Windows) (k e x : ℕ) → e ≤ x → (m : ℕ → ℕ) → Plan (withD w k e) m → Plan (withD w k x) m
-limit-widen w k e x less m = widen (withD w k x) _ _ m (limit-inside w k e x less)
+pub deadline-widen : (w : Windows) (k e x : ℕ) → e ≤ x → (m : ℕ → ℕ) → Plan (withD w k e) m → Plan (withD w k x) m
+deadline-widen w k e x less m = widen (withD w k x) _ _ m (deadline-inside w k e x less)
 
 module _ (w : Windows) (formed : Formed w) (k : ℕ) (place : k < w .n) where
   -- windows with room have it with another d that leaves room
-  pub limit-formed : (e : ℕ) → w .r k + w .p k ≤ e → e ≤ w .d k → Formed (withD w k e)
-  limit-formed e room due =
-      formed-inside w formed _ _ (rw (own-limit w k) at (limit-inside w k e (w .d k) due))
+  pub deadline-formed : (e : ℕ) → w .r k + w .p k ≤ e → e ≤ w .d k → Formed (withD w k e)
+  deadline-formed e room due =
+      formed-inside w formed _ _ (rw (own-deadline w k) at (deadline-inside w k e (w .d k) due))
       (λ i below.
       place-cases (λ t. w .r i + w .p i ≤ cond t e (w .d i)) i k
       (λ q. omega (arith, ap (w .r) q, ap (w .p) q))
@@ -49,17 +49,17 @@ module _ (w : Windows) (formed : Formed w) (k : ℕ) (place : k < w .n) where
 
   module _ {test : Test} (planner : Planner test) where
     -- the test of an end asks whether a plan exists
-    pub limit-exact : (e : ℕ) → w .r k + w .p k ≤ e → e ≤ w .d k → (accepts (test (withD w k e)) ≡ true) ↔ Plannable (withD w k e)
-    limit-exact e room due =
-        let exact = planner .exact (withD w k e) (limit-formed e room due) in
+    pub deadline-exact : (e : ℕ) → w .r k + w .p k ≤ e → e ≤ w .d k → (accepts (test (withD w k e)) ≡ true) ↔ Plannable (withD w k e)
+    deadline-exact e room due =
+        let exact = planner .exact (withD w k e) (deadline-formed e room due) in
         (λ q. exact .1 (accepted-answered _ q), λ plan. ap accepts (exact .0 plan))
 
     -- and what it accepts of an end it accepts of a greater one
-    pub limit-mono : (e x : ℕ) → w .r k + w .p k ≤ e → e ≤ x → x ≤ w .d k
+    pub deadline-mono : (e x : ℕ) → w .r k + w .p k ≤ e → e ≤ x → x ≤ w .d k
         → accepts (test (withD w k e)) ≡ true → accepts (test (withD w k x)) ≡ true
-    limit-mono e x room less due q =
-        let plan = limit-exact e room (omega arith) .0 q in
-        limit-exact x (omega arith) due .1 (plan .0, limit-widen w k e x less (plan .0) (plan .1))
+    deadline-mono e x room less due q =
+        let plan = deadline-exact e room (omega arith) .0 q in
+        deadline-exact x (omega arith) due .1 (plan .0, deadline-widen w k e x less (plan .0) (plan .1))
 
 -- Least ends.
 
@@ -69,25 +69,25 @@ unfolding leastEnd
 least-end-whole test whole w k is = rw is
 
 pub least-end-pause : (test : Test) (whole : ℕ → Bool) (w : Windows) (k : ℕ) → whole k ≡ false
-    → leastEnd test whole w k ≡ w .r k + w .p k + failedLimits test w k
+    → leastEnd test whole w k ≡ w .r k + w .p k + failedDeadlines test w k
 unfolding leastEnd
 least-end-pause test whole w k is = rw is
 
 -- of a pause entry, the first end that the test accepts, or d
-pub record IsFirstLimit (test : Test) (w : Windows) (k x : ℕ) : Type 0 where
+pub record IsFirstDeadline (test : Test) (w : Windows) (k x : ℕ) : Type 0 where
   pub room : w .r k + w .p k ≤ x
   pub due : x ≤ w .d k
   pub none-before : (e : ℕ) → w .r k + w .p k ≤ e → e < x → accepts (test (withD w k e)) ≡ false
   pub passes : x < w .d k → accepts (test (withD w k x)) ≡ true
 
 -- there is only one such end
-one-limit : (test : Test) (w : Windows) (k x y : ℕ) → IsFirstLimit test w k x → IsFirstLimit test w k y → x ≡ y
-one-limit test w k x y a b =
+one-deadline : (test : Test) (w : Windows) (k x y : ℕ) → IsFirstDeadline test w k x → IsFirstDeadline test w k y → x ≡ y
+one-deadline test w k x y a b =
     le-or-lt x y
     (λ l. le-or-lt y x (λ m. omega arith) (λ m. absurd (before x y a b m)))
     (λ l. absurd (before y x b a l))
   where
-    before : (x y : ℕ) → IsFirstLimit test w k x → IsFirstLimit test w k y → x < y → ⊥
+    before : (x y : ℕ) → IsFirstDeadline test w k x → IsFirstDeadline test w k y → x < y → ⊥
     before x y a b less =
         let due = b .due in
         true≢false (sym (a .passes (omega arith)) ∙ b .none-before x (a .room) less)
@@ -99,8 +99,8 @@ not-passed false h = refl
 
 module _ (test : Test) (whole : ℕ → Bool) (w : Windows) (formed : Formed w) (k : ℕ) (place : k < w .n) where
   -- what the search answers
-  pub least-end-first : whole k ≡ false → IsFirstLimit test w k (leastEnd test whole w k)
-  unfolding failedLimits
+  pub least-end-first : whole k ≡ false → IsFirstDeadline test w k (leastEnd test whole w k)
+  unfolding failedDeadlines
   least-end-first is =
       rw (least-end-pause test whole w k is)
       (record {
@@ -110,10 +110,10 @@ module _ (test : Test) (whole : ℕ → Bool) (w : Windows) (formed : Formed w) 
         passes = λ l. first .passes (omega arith);
       })
     where
-      first : First (spare w k) (λ j. accepts (test (withD w k (w .r k + w .p k + j)))) (failedLimits test w k)
+      first : First (spare w k) (λ j. accepts (test (withD w k (w .r k + w .p k + j)))) (failedDeadlines test w k)
       first = first-below (spare w k) _
 
-      before : (e : ℕ) → w .r k + w .p k ≤ e → e < w .r k + w .p k + failedLimits test w k → accepts (test (withD w k e)) ≡ false
+      before : (e : ℕ) → w .r k + w .p k ≤ e → e < w .r k + w .p k + failedDeadlines test w k → accepts (test (withD w k e)) ≡ false
       before e room less =
           let j = e - (w .r k + w .p k) in
           let same : w .r k + w .p k + j ≡ e = omega arith in
@@ -125,7 +125,7 @@ module _ (test : Test) (whole : ℕ → Bool) (w : Windows) (formed : Formed w) 
       → (x < w .d k → accepts (test (withD w k x)) ≡ true)
       → leastEnd test whole w k ≡ x
   least-end-found is x room due none passes =
-      one-limit test w k _ x (least-end-first is) (record { room = room; due = due; none-before = none; passes = passes })
+      one-deadline test w k _ x (least-end-first is) (record { room = room; due = due; none-before = none; passes = passes })
 
   -- it lies in the window, with room for the entry's minutes
   pub least-end-range : (w .r k + w .p k ≤ leastEnd test whole w k) × (leastEnd test whole w k ≤ w .d k)

@@ -23,7 +23,7 @@ use Rattle.jackson.proofs.Sums.{le-or-lt, same-cases, same-ne}
 use Rattle.narrow.specs.Searching.{failedStarts, failedEnds, leastStart, greatestEnd}
 use Rattle.narrow.specs.Rounds.{Narrowed, narrowSide, visit, visits, rounds, narrowing}
 use Rattle.narrow.specs.Calls.{wholeIn, entriesWith, listWith, settleOf, roundOf, listed}
-use Rattle.bounds.specs.Ends.{failedLimits, failedReleases, leastEnd, greatestStart}
+use Rattle.bounds.specs.Ends.{failedDeadlines, failedReleases, leastEnd, greatestStart}
 use Rattle.bounds.specs.Calls.{settledOr, planChecks, planOf, leastEnds, greatestStarts}
 
 -- entries without a seal, by serial, r, d and p
@@ -44,8 +44,8 @@ serialsOf l = map (λ (e : Entry). e .serial) (entriesOf l)
 abbrev pub planning : DayList → Outcome Narrowed
 planning l = planOf l (l .frame .h)
 
-abbrev pub bytesOf : DayList → List ℕ
-bytesOf l = settledOr [] schedule (planning l)
+abbrev pub plannedBytes : DayList → List ℕ
+plannedBytes l = settledOr [] schedule (planning l)
 
 -- narrowing the list, and planning it, give o: the list with the settled windows and the moves, or a refusal
 pub record Gives (l : DayList) (o : Outcome (DayList × ℕ)) : Type 0 where
@@ -127,14 +127,14 @@ pub record Examples : Type 0 where
   pub e-refused : Gives listE (refused (code 10 (0 ∷ [])))
   -- "(f) H 6, pause [1,6) p 2, pause [0,6) p 3: place 1 has minutes 0 to 2, place 0 has 3 and 4."
   pub f-accepted : Gives listF (answered (listF, 0))
-  pub f-plan : bytesOf listF ≡ 1 ∷ 1 ∷ 1 ∷ 0 ∷ 0 ∷ 255 ∷ []
+  pub f-plan : plannedBytes listF ≡ 1 ∷ 1 ∷ 1 ∷ 0 ∷ 0 ∷ 255 ∷ []
   -- "(g) as (f), place 0 with d 5: place 1 at 0, place 0 at 1 and 2, place 1 at 3 and 4."
   pub g-accepted : Gives listG (answered (listG, 0))
-  pub g-plan : bytesOf listG ≡ 1 ∷ 0 ∷ 0 ∷ 1 ∷ 1 ∷ 255 ∷ []
+  pub g-plan : plannedBytes listG ≡ 1 ∷ 0 ∷ 0 ∷ 1 ∷ 1 ∷ 255 ∷ []
   -- "(h) `01 00 00`: accepted, one idle minute."
   pub h-read : readOf bytesH ≡ answered listH
   pub h-accepted : Gives listH (answered (listH, 0))
-  pub h-plan : bytesOf listH ≡ 255 ∷ []
+  pub h-plan : plannedBytes listH ≡ 255 ∷ []
 
 -- (b) over all plans: the four minutes are all given to an entry, and minute 3 cannot be place 0's.
 
@@ -222,7 +222,7 @@ pub examples : Examples
 unfolding readOf bodyOf entriesFrom checkOf headerFault entriesFault entryFault
     sum firstBelow best listOf work leftEnd rightEnd overloadOf chosen minuteOf later schedule
     failedStarts failedEnds leastStart greatestEnd narrowSide visit visits rounds narrowing
-    entriesWith listWith settleOf roundOf failedLimits failedReleases leastEnd greatestStart planChecks
+    entriesWith listWith settleOf roundOf failedDeadlines failedReleases leastEnd greatestStart planChecks
 examples =
     record {
       serials = refl;

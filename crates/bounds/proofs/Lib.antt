@@ -11,6 +11,8 @@ pub mod Demands
 -- Lists that are planned alike, and document 01's examples.
 pub mod Alike
 pub mod Examples
+-- The contracts, and demand 3 alone, leave one answer.
+pub mod OneAnswer
 -- What the code's proofs cite, case by case.
 mod EndCases
 mod BrokenCases

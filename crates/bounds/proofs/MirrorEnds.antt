@@ -13,7 +13,7 @@ use Rattle.narrow.proofs.Planners.{Planner}
 use Rattle.narrow.proofs.MirrorSearches.{first-cong, with-r-mirror, planner-in-mirror}
 use Rattle.narrow.proofs.Keeping.{keeps-r}
 use Rattle.narrow.proofs.Exact.{in-mirror}
-use Rattle.bounds.specs.Ends.{spare, failedLimits, failedReleases, leastEnd, greatestStart}
+use Rattle.bounds.specs.Ends.{spare, failedDeadlines, failedReleases, leastEnd, greatestStart}
 use Rattle.bounds.specs.ShownPlans.{earlyPlan, latePlan}
 
 module _ {test : Test} (planner : Planner test) (w : Windows) (formed : Formed w) (k : ℕ) (place : k < w .n) where
@@ -32,13 +32,13 @@ module _ {test : Test} (planner : Planner test) (w : Windows) (formed : Formed w
       rw (e, with-r-mirror w k place s)
       (sym (planner-in-mirror planner .accepted (withR w k s) (keeps-r w formed k place s (from, room) .formed)))
 
-  releases-mirror : failedReleases test w k ≡ failedLimits test (mirror w) k
-  unfolding failedReleases failedLimits
+  releases-mirror : failedReleases test w k ≡ failedDeadlines test (mirror w) k
+  unfolding failedReleases failedDeadlines
   releases-mirror = rw spare-mirror (first-cong (spare w k) _ _ release-mirror)
 
   pub start-by-mirror : (whole : ℕ → Bool) → greatestStart test whole w k ≡ w .h - leastEnd test whole (mirror w) k
   unfolding greatestStart leastEnd
-  start-by-mirror whole = rw releases-mirror (go (whole k) (failedLimits test (mirror w) k))
+  start-by-mirror whole = rw releases-mirror (go (whole k) (failedDeadlines test (mirror w) k))
     where
       go : (t : Bool) (j : ℕ) → cond t (w .d k - w .p k) (w .d k - w .p k - j)
           ≡ w .h - cond t (mirror w .r k + w .p k) (mirror w .r k + w .p k + j)

@@ -8,7 +8,7 @@ use Rattle.jackson.specs.Windows.{Windows}
 use Rattle.jackson.specs.Plans.{minutesOf, startOf, endOf}
 use Rattle.narrow.specs.Settling.{Consecutive}
 
--- entry i is whole and has not all the minutes from its start to its end
+-- entry i is whole and does not have all the minutes from its start to its end
 abbrev pub isBroken : (ℕ → Bool) → ℕ → (ℕ → ℕ) → ℕ → Bool
 isBroken whole h m i = whole i && not (eqb (startOf h m i + minutesOf h m i) (endOf h m i))
 

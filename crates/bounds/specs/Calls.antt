@@ -89,8 +89,8 @@ toldByPlan a =
       late = λ k. latePlan w k (getD (a .starts) k 0);
     }
 
--- the plan's bytes in the windows w: "The plan equals, minute for minute, Jackson's schedule of the narrowed windows"; it is a plan, and the
--- entries counted as broken are the whole ones whose minutes are not consecutive
+-- demand 2 of bytes in the narrowed windows w: they equal, minute for minute, Jackson's schedule of these windows; they are a plan, and
+-- the entries counted as broken are the whole ones whose minutes are not consecutive
 pub record PlansWindows (whole : ℕ → Bool) (w : Windows) (bytes : List ℕ) (broken : ℕ) : Type 0 where
   pub minutes : bytes ≡ schedule w
   pub plan : PlanBytes w bytes
@@ -159,8 +159,8 @@ toldByLate whole k a bytes =
       late = λ i. cond (eqb i k) bytes (told .late i);
     }
 
--- what showing a plan of place k of the list l answers, and leaves in a plan buffer that held old, where b is the bound and m the
--- plan in the settled windows, and this is what the call tells
+-- what showing a plan of place k of the list l answers, and leaves in a plan buffer that held old, where b gives the bound and m the
+-- plan in the settled windows, and told is what the call tells by its answer and the plan's bytes
 pub record ShowsPlan (l : DayList) (k : ℕ) (old : List ℕ) (b : Windows → ℕ) (m : Windows → List ℕ)
     (told : ShownAnswer → List ℕ → Told) (a : ShownAnswer) (new : List ℕ) : Type 0 where
   pub outcome : AnswersAs l (shownOf l k (length old)) (a .narrowed)

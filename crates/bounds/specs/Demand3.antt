@@ -21,7 +21,7 @@ pub record Told : Type 0 where
   pub early : ℕ → List ℕ
   pub late : ℕ → List ℕ
 
--- The given windows w, of which `whole` says the whole entries, are told the truth.
+-- Demand 3 of the given windows w, where `whole` says which entries are whole, and of what a call tells.
 pub record Demand3 (whole : ℕ → Bool) (w : Windows) (told : Told) : Type 0 where
   -- The windows answered are settled, inside those given and the widest; refused by 9 or 10, with what they carry, exactly when no settled
   -- set exists inside; what 9 shows; searches find what document 01 says of plans; the claims on lists of steps; unbroken plans; moves.

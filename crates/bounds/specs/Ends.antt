@@ -12,18 +12,19 @@ use Rattle.narrow.specs.Settling.{Consecutive}
 abbrev pub spare : Windows → ℕ → ℕ
 spare w k = w .d k - (w .r k + w .p k)
 
--- how many ends, from r + p up and below d, have no plan when entry k's d is that end; d itself needs no test, since the windows have a plan
-unfoldable pub failedLimits : Test → Windows → ℕ → ℕ
-failedLimits test w k = firstBelow (spare w k) (λ j. accepts (test (withD w k (w .r k + w .p k + j))))
+-- how many ends, from r + p up, come before the first that has a plan when it is entry k's d; d itself needs no test, since the windows
+-- have a plan
+unfoldable pub failedDeadlines : Test → Windows → ℕ → ℕ
+failedDeadlines test w k = firstBelow (spare w k) (λ j. accepts (test (withD w k (w .r k + w .p k + j))))
 
--- how many starts, from d - p down and above r, have no plan when entry k's r is that start
+-- how many starts, from d - p down, come before the first that has a plan when it is entry k's r; nor does r itself need one
 unfoldable pub failedReleases : Test → Windows → ℕ → ℕ
 failedReleases test w k = firstBelow (spare w k) (λ j. accepts (test (withR w k (w .d k - w .p k - j))))
 
 -- "a pause entry has its least end .. over all plans. A whole entry has r + p": that it is over all plans is `end-bound` and `early-is` of
 -- Demand3.antt
 unfoldable pub leastEnd : Test → (ℕ → Bool) → Windows → ℕ → ℕ
-leastEnd test whole w k = cond (whole k) (w .r k + w .p k) (w .r k + w .p k + failedLimits test w k)
+leastEnd test whole w k = cond (whole k) (w .r k + w .p k) (w .r k + w .p k + failedDeadlines test w k)
 
 -- "a pause entry has its .. greatest start over all plans. A whole entry has .. d - p": `start-bound` and `late-is`
 unfoldable pub greatestStart : Test → (ℕ → Bool) → Windows → ℕ → ℕ

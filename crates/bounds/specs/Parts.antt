@@ -1,5 +1,5 @@
--- What private functions ask of each other. No public promise cites these.
-use Prim.Native.Nat.{ℕ, _<_, _≤_}
+-- What private functions ask of each other, beside `Searchable` of the crate narrow. No public promise cites these.
+use Prim.Native.Nat.{ℕ, _≤_}
 use mathlib.Core.Path.{_≡_}
 use mathlib.Core.Bool.{Bool}
 use mathlib.Core.List.{List, _++_}
@@ -15,11 +15,6 @@ use Rattle.narrow.specs.Calls.{AnswersAs, HoldsAnswer}
 use Rattle.narrow.specs.declared.types.NarrowAnswer.{NarrowAnswer}
 use Rattle.bounds.specs.Ends.{leastEnd}
 use Rattle.bounds.specs.Calls.{narrowAfter, earlyOf}
-
--- arrays with windows that have room, and an entry
-pub record Bounded (s : WindowSet) (k : ℕ) : Type 0 where
-  pub formed : Formed (windowsIn s)
-  pub place : k < windowsIn s .n
 
 -- arrays with windows that have room, one for each entry of the list
 pub record HoldsBounded (l : DayList) (s : WindowSet) : Type 0 where

@@ -41,7 +41,7 @@ fn end_in(plan: &[u8], h: usize, k: u8) -> usize
     t
 }
 
-// 1 for a broken entry, 0 for another: a whole entry that has fewer minutes than lie from its start to its end.
+// 1 for a broken entry, that is a whole one that has fewer minutes than lie from its start to its end; 0 for another.
 fn one_broken(list: DayList, h: usize, plan: &[u8], k: usize) -> u8
     requires { ⌜ HoldsPlan list h (now plan) ⌝ }
     requires { ⌜ k < list .n ⌝ }

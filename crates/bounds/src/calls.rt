@@ -108,7 +108,7 @@ pub fn show_early(list: DayList, k: usize, plan: &mut [u8]) -> ShownAnswer
     }
 }
 
-// Shows the late plan of place k: as the early one, but in the mirror, and the plan is turned back.
+// Shows the late plan of place k: as the early one, but in the mirror, and the plan is mirrored in turn.
 pub fn show_late(list: DayList, k: usize, plan: &mut [u8]) -> ShownAnswer
     ensures { λ a. ⌜ ShowsLate list k (now (plan .entry)) a (now (plan .exit)) ⌝ }
 {

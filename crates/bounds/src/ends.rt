@@ -13,9 +13,10 @@ ghost use Rattle.jackson.specs.Windows.{windowsIn};
 ghost use Rattle.jackson.specs.Intervals.{overloadOf};
 ghost use Rattle.narrow.specs.Searching.{accepts, withD};
 ghost use Rattle.narrow.specs.Calls.{wholeIn};
+ghost use Rattle.narrow.specs.Parts.{Searchable};
 ghost use Rattle.bounds.specs.Ends.{leastEnd, greatestStart};
 ghost use Rattle.bounds.specs.Calls.{byPlace};
-ghost use Rattle.bounds.specs.Parts.{Bounded, HoldsBounded};
+ghost use Rattle.bounds.specs.Parts.{HoldsBounded};
 
 // Whether the entry at place k is whole.
 pub(crate) fn whole_at(list: DayList, k: usize) -> bool
@@ -41,7 +42,7 @@ fn has_plan_by(windows: WindowSet, k: usize, e: u16) -> bool
 // The least end of entry k. That of a pause entry is found by halving, since a wider window keeps its plans: all ends below low have no
 // plan, and high is its d or has one.
 pub(crate) fn least_end(windows: WindowSet, k: usize, whole: bool) -> u16
-    requires { ⌜ Bounded windows k ⌝ }
+    requires { ⌜ Searchable windows k ⌝ }
     ensures { λ e. ⌜ e ≡ leastEnd overloadOf (λ _. whole) (windowsIn windows) k ⌝ }
 {
     let r = windows.r[k];

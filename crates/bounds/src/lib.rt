@@ -1,7 +1,8 @@
 // Least ends, greatest starts and shown plans, and the calls that narrow (document 01, "Least ends, greatest starts, shown plans").
 // Promises: `plan_day` plans a list, `show_early` and `show_late` show a plan of one of its places. Each is total: its contract states the
 // answer and what the lent plan buffer holds by equality with definitions of specs/, for every value, and beside that demand 3
-// (specs/Demand3.antt) of what the call itself answers. Uses the crates list, jackson and narrow by their stated answers and laws.
+// (specs/Demand3.antt), and for planning demand 2, of what the call itself answers. Uses the crates list, jackson and narrow by their
+// stated answers and laws.
 mod broken;
 mod calls;
 mod ends;

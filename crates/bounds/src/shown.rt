@@ -8,11 +8,12 @@ ghost use Prim.Native.Nat.{_≤_};
 ghost use lib.ListN.{length, drop};
 ghost use Rattle.jackson.specs.Windows.{windowsIn};
 ghost use Rattle.jackson.specs.Mirrors.{mirrorBytes};
-ghost use Rattle.bounds.specs.Parts.{Bounded, StoresEarly};
+ghost use Rattle.narrow.specs.Parts.{Searchable};
+ghost use Rattle.bounds.specs.Parts.{StoresEarly};
 
 // Stores Jackson's schedule with entry k's d set to its least end, and answers that end.
 pub(crate) fn store_early(windows: WindowSet, k: usize, whole: bool, plan: &mut [u8]) -> u16
-    requires { ⌜ Bounded windows k ⌝ }
+    requires { ⌜ Searchable windows k ⌝ }
     requires { ⌜ windows .h ≤ length (now plan) ⌝ }
     ensures { λ e. ⌜ StoresEarly (λ _. whole) (windowsIn windows) k (now (plan .entry)) e (now (plan .exit)) ⌝ }
 {
@@ -23,7 +24,7 @@ pub(crate) fn store_early(windows: WindowSet, k: usize, whole: bool, plan: &mut 
     end
 }
 
-// Turns the plan of h minutes round: "minute t becomes H-1-t".
+// Mirrors the plan of h minutes in its buffer: "minute t becomes H-1-t".
 pub(crate) fn mirror_plan(h: usize, plan: &mut [u8])
     requires { ⌜ h ≤ length (now plan) ⌝ }
     ensures { λ _. ⌜ now (plan .exit) ≡ mirrorBytes h (now (plan .entry)) ++ drop h (now (plan .entry)) ⌝ }

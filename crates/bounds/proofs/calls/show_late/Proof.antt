@@ -1,4 +1,4 @@
--- The checks and narrowing may refuse; else the early plan in the mirror is stored and turned round.
+-- The checks and narrowing may refuse; else the early plan in the mirror is stored and mirrored.
 -- Assumes nothing.
 use borrow.Author.Needs.{needs}
 use mathlib.Core.Path.{_≡_, sym, _∙_}

@@ -1,0 +1,156 @@
+-- Demand 3 leaves one outcome, and of each place one least end, greatest start, early plan and late plan. Each call's contract leaves one
+-- answer and one buffer, and the same for lists that are equal by document 01's rule.
+-- Assumes nothing.
+use mathlib.Core.Path.{_≡_, refl, sym, ap, _∙_}
+use mathlib.Core.Bool.{Bool, cond}
+use mathlib.Core.List.{List}
+use Prim.Native.Nat.{ℕ, _<_}
+use native.Mathlib.Omega.{arith}
+use lib.Dec.{eqb}
+use lib.ListN.{length, getD}
+use Rattle.list.specs.Outcomes.{Code, Outcome, answered}
+use Rattle.list.specs.Refusals.{codeOf, outcomeOf}
+use Rattle.list.specs.DayLists.{SameList}
+use Rattle.list.specs.declared.types.Refusal.{Refusal}
+use Rattle.list.specs.declared.types.Refusal.the-variants.{BytesMissing, BadDayLength, TooManyEntries, BadMapByte, DefaultWritten, NoMinutes, BadWindow, BytesLeftOver, Overloaded, NoPlace, PlanBufferShort, ListBufferShort, UnknownPlace}
+use Rattle.list.specs.declared.types.Verdict.{Verdict}
+use Rattle.list.specs.declared.types.Verdict.the-variants.{Accepted, Refused}
+use Rattle.list.specs.declared.types.DayList.{DayList}
+use Rattle.jackson.specs.Windows.{Windows}
+use Rattle.narrow.specs.Rounds.{Narrowed}
+use Rattle.narrow.specs.Calls.{listed, narrowAnswerOf, standing, AnswersAs}
+use Rattle.narrow.specs.declared.types.NarrowAnswer.{NarrowAnswer}
+use Rattle.narrow.proofs.RoundsEnd.{answered-refused}
+use Rattle.narrow.proofs.OneOutcome.{one-outcome}
+use Rattle.narrow.proofs.Alike.{same-times}
+use Rattle.bounds.specs.ShownPlans.{earlyPlan, latePlan}
+use Rattle.bounds.specs.Demand3.{Told, Demand3}
+use Rattle.bounds.specs.Calls.{shownOf, PlansDay, ShowsEarly, ShowsLate}
+use Rattle.bounds.specs.declared.types.PlanAnswer.{PlanAnswer}
+use Rattle.bounds.specs.declared.types.ShownAnswer.{ShownAnswer}
+use Rattle.bounds.proofs.Alike.{times-ends, times-starts, times-broken, times-plan, times-least-end, times-greatest-start, times-early, times-late, same-planned, same-shown}
+
+-- Two answers of which demand 3 holds.
+module _ {whole : ℕ → Bool} {w : Windows} (s t : Told) (a : Demand3 whole w s) (b : Demand3 whole w t) where
+  pub one-told : s .outcome ≡ t .outcome
+  one-told = one-outcome (s .outcome) (t .outcome) (a .narrowing) (b .narrowing)
+
+  -- each bound is reached by the other's shown plan
+  module _ (v : Narrowed) (e : s .outcome ≡ answered v) (k : ℕ) (place : k < w .n) where
+    too : t .outcome ≡ answered v
+    too = sym one-told ∙ e
+
+    same-h : v .windows .h ≡ w .h
+    same-h = ap (λ (u : Windows). u .h) (a .narrowing .widest v e .entries)
+
+    pub one-end : s .end k ≡ t .end k
+    one-end =
+        let x = a .early-is v e k place in
+        let y = b .early-is v too k place in
+        omega (
+          arith,
+          a .end-bound v e k place _ (y .keeping) (t .end k) (rw (← same-h) (y .end)),
+          b .end-bound v too k place _ (x .keeping) (s .end k) (rw (← same-h) (x .end)),
+        )
+
+    pub one-start : s .start k ≡ t .start k
+    one-start =
+        let x = a .late-is v e k place in
+        let y = b .late-is v too k place in
+        omega (
+          arith,
+          a .start-bound v e k place _ (y .keeping) (t .start k) (rw (← same-h) (y .start)),
+          b .start-bound v too k place _ (x .keeping) (s .start k) (rw (← same-h) (x .start)),
+        )
+
+    pub one-early : s .early k ≡ t .early k
+    one-early = a .early-is v e k place .rule ∙ ap (earlyPlan (v .windows) k) one-end ∙ sym (b .early-is v too k place .rule)
+
+    pub one-late : s .late k ≡ t .late k
+    one-late = a .late-is v e k place .rule ∙ ap (latePlan (v .windows) k) one-start ∙ sym (b .late-is v too k place .rule)
+
+-- the refusal with these number and values
+abbrev refusalOf : Code → Refusal
+refusalOf k =
+    let n = k .number in
+    let x = getD (k .carries) 0 0 in
+    cond (eqb n 1) (BytesMissing x)
+    (cond (eqb n 2) BadDayLength
+    (cond (eqb n 3) (TooManyEntries x)
+    (cond (eqb n 4) (BadMapByte x)
+    (cond (eqb n 5) (DefaultWritten x)
+    (cond (eqb n 6) (NoMinutes x)
+    (cond (eqb n 7) (BadWindow x)
+    (cond (eqb n 8) (BytesLeftOver x)
+    (cond (eqb n 9) (Overloaded x (getD (k .carries) 1 0) (getD (k .carries) 2 0))
+    (cond (eqb n 10) (NoPlace x)
+    (cond (eqb n 11) (PlanBufferShort x)
+    (cond (eqb n 12) (ListBufferShort x) (UnknownPlace x))))))))))))
+
+refusal-is : (x : Refusal) → refusalOf (codeOf x) ≡ x
+refusal-is (BytesMissing x) = refl
+refusal-is BadDayLength = refl
+refusal-is (TooManyEntries x) = refl
+refusal-is (BadMapByte x) = refl
+refusal-is (DefaultWritten x) = refl
+refusal-is (NoMinutes x) = refl
+refusal-is (BadWindow x) = refl
+refusal-is (BytesLeftOver x) = refl
+refusal-is (Overloaded a b x) = refl
+refusal-is (NoPlace x) = refl
+refusal-is (PlanBufferShort x) = refl
+refusal-is (ListBufferShort x) = refl
+refusal-is (UnknownPlace x) = refl
+
+-- number and values tell one verdict
+one-verdict : {A : Type 0} (u v : Verdict) (x y : A) → outcomeOf u x ≡ outcomeOf v y → u ≡ v
+one-verdict Accepted Accepted x y e = refl
+one-verdict Accepted (Refused k) x y e = absurd (answered-refused refl e)
+one-verdict (Refused j) Accepted x y e = absurd (answered-refused refl (sym e))
+one-verdict (Refused j) (Refused k) x y e =
+    let codes : codeOf j ≡ codeOf k = cc e in
+    let same : j ≡ k = sym (refusal-is j) ∙ ap refusalOf codes ∙ refusal-is k in
+    ap Refused same
+
+-- Lists that are equal by document 01's rule, a list and itself among them, and two answers of each call.
+module _ {a b : DayList} (s : SameList a b) where
+  one-narrowed : (o u : Outcome Narrowed) → listed a o ≡ listed b u → (x y : NarrowAnswer) → AnswersAs a o x → AnswersAs b u y → x ≡ y
+  one-narrowed o u same x y p q =
+      let outcomes : narrowAnswerOf x ≡ narrowAnswerOf y = p .outcome ∙ same ∙ sym (q .outcome) in
+      let verdicts = one-verdict (x .verdict) (y .verdict) _ _ outcomes in
+      let beside : _≡_ {A = DayList × ℕ} (x .list, x .moves) (y .list, y .moves) = p .beside ∙ ap standing same ∙ sym (q .beside) in
+      λ i. record { verdict = verdicts i; list = beside i .0; moves = beside i .1 }
+
+  pub one-plan : (old : List ℕ) (x y : PlanAnswer) (new other : List ℕ) → PlansDay a old x new → PlansDay b old y other
+      → (x ≡ y) × (new ≡ other)
+  one-plan old x y new other p q =
+      let room = length old in
+      let times = same-times s in
+      let narrowed = one-narrowed _ _ (same-planned s room) (x .narrowed) (y .narrowed) (p .outcome) (q .outcome) in
+      let broken : x .broken ≡ y .broken = p .broken ∙ times-broken times room ∙ sym (q .broken) in
+      let ends : x .ends ≡ y .ends = p .ends ∙ times-ends times room ∙ sym (q .ends) in
+      let starts : x .starts ≡ y .starts = p .starts ∙ times-starts times room ∙ sym (q .starts) in (
+        λ i. record { narrowed = narrowed i; broken = broken i; ends = ends i; starts = starts i },
+        p .buffer ∙ times-plan times old ∙ sym (q .buffer),
+      )
+
+  module _ (k : ℕ) (old : List ℕ) (x y : ShownAnswer) (new other : List ℕ) where
+    one-shown : AnswersAs a (shownOf a k (length old)) (x .narrowed) → AnswersAs b (shownOf b k (length old)) (y .narrowed)
+        → x .bound ≡ y .bound → x ≡ y
+    one-shown p q bound =
+        let narrowed = one-narrowed _ _ (same-shown s k (length old)) (x .narrowed) (y .narrowed) p q in
+        λ i. record { narrowed = narrowed i; bound = bound i }
+
+    pub one-early-shown : ShowsEarly a k old x new → ShowsEarly b k old y other → (x ≡ y) × (new ≡ other)
+    one-early-shown p q =
+        let times = same-times s in (
+          one-shown (p .outcome) (q .outcome) (p .bound ∙ times-least-end times k (length old) ∙ sym (q .bound)),
+          p .buffer ∙ times-early times k old ∙ sym (q .buffer),
+        )
+
+    pub one-late-shown : ShowsLate a k old x new → ShowsLate b k old y other → (x ≡ y) × (new ≡ other)
+    one-late-shown p q =
+        let times = same-times s in (
+          one-shown (p .outcome) (q .outcome) (p .bound ∙ times-greatest-start times k (length old) ∙ sym (q .bound)),
+          p .buffer ∙ times-late times k old ∙ sym (q .buffer),
+        )
