@@ -1,26 +1,20 @@
 -- Demand 3 leaves one outcome, and of each place one least end, greatest start, early plan and late plan. Each call's contract leaves one
 -- answer and one buffer, and the same for lists that are equal by document 01's rule.
 -- Assumes nothing.
-use mathlib.Core.Path.{_≡_, refl, sym, ap, _∙_}
-use mathlib.Core.Bool.{Bool, cond}
+use mathlib.Core.Path.{_≡_, sym, ap, _∙_}
+use mathlib.Core.Bool.{Bool}
 use mathlib.Core.List.{List}
 use Prim.Native.Nat.{ℕ, _<_}
 use native.Mathlib.Omega.{arith}
-use lib.Dec.{eqb}
-use lib.ListN.{length, getD}
-use Rattle.list.specs.Outcomes.{Code, Outcome, answered}
-use Rattle.list.specs.Refusals.{codeOf, outcomeOf}
+use lib.ListN.{length}
+use Rattle.list.specs.Outcomes.{Outcome, answered}
 use Rattle.list.specs.DayLists.{SameList}
-use Rattle.list.specs.declared.types.Refusal.{Refusal}
-use Rattle.list.specs.declared.types.Refusal.the-variants.{BytesMissing, BadDayLength, TooManyEntries, BadMapByte, DefaultWritten, NoMinutes, BadWindow, BytesLeftOver, Overloaded, NoPlace, PlanBufferShort, ListBufferShort, UnknownPlace}
-use Rattle.list.specs.declared.types.Verdict.{Verdict}
-use Rattle.list.specs.declared.types.Verdict.the-variants.{Accepted, Refused}
 use Rattle.list.specs.declared.types.DayList.{DayList}
 use Rattle.jackson.specs.Windows.{Windows}
 use Rattle.narrow.specs.Rounds.{Narrowed}
 use Rattle.narrow.specs.Calls.{listed, narrowAnswerOf, standing, AnswersAs}
 use Rattle.narrow.specs.declared.types.NarrowAnswer.{NarrowAnswer}
-use Rattle.narrow.proofs.RoundsEnd.{answered-refused}
+use Rattle.list.proofs.OneVerdict.{one-verdict}
 use Rattle.narrow.proofs.OneOutcome.{one-outcome}
 use Rattle.narrow.proofs.Alike.{same-times}
 use Rattle.bounds.specs.ShownPlans.{earlyPlan, latePlan}
@@ -68,49 +62,6 @@ module _ {whole : ℕ → Bool} {w : Windows} (s t : Told) (a : Demand3 whole w 
 
     pub one-late : s .late k ≡ t .late k
     one-late = a .late-is v e k place .rule ∙ ap (latePlan (v .windows) k) one-start ∙ sym (b .late-is v too k place .rule)
-
--- the refusal with these number and values
-abbrev refusalOf : Code → Refusal
-refusalOf k =
-    let n = k .number in
-    let x = getD (k .carries) 0 0 in
-    cond (eqb n 1) (BytesMissing x)
-    (cond (eqb n 2) BadDayLength
-    (cond (eqb n 3) (TooManyEntries x)
-    (cond (eqb n 4) (BadMapByte x)
-    (cond (eqb n 5) (DefaultWritten x)
-    (cond (eqb n 6) (NoMinutes x)
-    (cond (eqb n 7) (BadWindow x)
-    (cond (eqb n 8) (BytesLeftOver x)
-    (cond (eqb n 9) (Overloaded x (getD (k .carries) 1 0) (getD (k .carries) 2 0))
-    (cond (eqb n 10) (NoPlace x)
-    (cond (eqb n 11) (PlanBufferShort x)
-    (cond (eqb n 12) (ListBufferShort x) (UnknownPlace x))))))))))))
-
-refusal-is : (x : Refusal) → refusalOf (codeOf x) ≡ x
-refusal-is (BytesMissing x) = refl
-refusal-is BadDayLength = refl
-refusal-is (TooManyEntries x) = refl
-refusal-is (BadMapByte x) = refl
-refusal-is (DefaultWritten x) = refl
-refusal-is (NoMinutes x) = refl
-refusal-is (BadWindow x) = refl
-refusal-is (BytesLeftOver x) = refl
-refusal-is (Overloaded a b x) = refl
-refusal-is (NoPlace x) = refl
-refusal-is (PlanBufferShort x) = refl
-refusal-is (ListBufferShort x) = refl
-refusal-is (UnknownPlace x) = refl
-
--- number and values tell one verdict
-one-verdict : {A : Type 0} (u v : Verdict) (x y : A) → outcomeOf u x ≡ outcomeOf v y → u ≡ v
-one-verdict Accepted Accepted x y e = refl
-one-verdict Accepted (Refused k) x y e = absurd (answered-refused refl e)
-one-verdict (Refused j) Accepted x y e = absurd (answered-refused refl (sym e))
-one-verdict (Refused j) (Refused k) x y e =
-    let codes : codeOf j ≡ codeOf k = cc e in
-    let same : j ≡ k = sym (refusal-is j) ∙ ap refusalOf codes ∙ refusal-is k in
-    ap Refused same
 
 -- Lists that are equal by document 01's rule, a list and itself among them, and two answers of each call.
 module _ {a b : DayList} (s : SameList a b) where

@@ -1,0 +1,60 @@
+-- Number and values tell one verdict.
+-- Assumes nothing.
+use mathlib.Core.Path.{_≡_, refl, sym, ap, _∙_}
+use mathlib.Core.Bool.{cond}
+use Prim.Native.Nat.{ℕ}
+use native.Mathlib.Omega.{arith}
+use lib.Dec.{eqb}
+use lib.ListN.{getD}
+use Rattle.list.specs.Outcomes.{Code, answered, refused}
+use Rattle.list.specs.Refusals.{codeOf, outcomeOf}
+use Rattle.list.specs.declared.types.Refusal.{Refusal}
+use Rattle.list.specs.declared.types.Refusal.the-variants.{BytesMissing, BadDayLength, TooManyEntries, BadMapByte, DefaultWritten, NoMinutes, BadWindow, BytesLeftOver, Overloaded, NoPlace, PlanBufferShort, ListBufferShort, UnknownPlace}
+use Rattle.list.specs.declared.types.Verdict.{Verdict}
+use Rattle.list.specs.declared.types.Verdict.the-variants.{Accepted, Refused}
+
+-- the refusal with these number and values
+abbrev refusalOf : Code → Refusal
+refusalOf k =
+    let n = k .number in
+    let x = getD (k .carries) 0 0 in
+    cond (eqb n 1) (BytesMissing x)
+    (cond (eqb n 2) BadDayLength
+    (cond (eqb n 3) (TooManyEntries x)
+    (cond (eqb n 4) (BadMapByte x)
+    (cond (eqb n 5) (DefaultWritten x)
+    (cond (eqb n 6) (NoMinutes x)
+    (cond (eqb n 7) (BadWindow x)
+    (cond (eqb n 8) (BytesLeftOver x)
+    (cond (eqb n 9) (Overloaded x (getD (k .carries) 1 0) (getD (k .carries) 2 0))
+    (cond (eqb n 10) (NoPlace x)
+    (cond (eqb n 11) (PlanBufferShort x)
+    (cond (eqb n 12) (ListBufferShort x) (UnknownPlace x))))))))))))
+
+refusal-is : (x : Refusal) → refusalOf (codeOf x) ≡ x
+refusal-is (BytesMissing x) = refl
+refusal-is BadDayLength = refl
+refusal-is (TooManyEntries x) = refl
+refusal-is (BadMapByte x) = refl
+refusal-is (DefaultWritten x) = refl
+refusal-is (NoMinutes x) = refl
+refusal-is (BadWindow x) = refl
+refusal-is (BytesLeftOver x) = refl
+refusal-is (Overloaded a b x) = refl
+refusal-is (NoPlace x) = refl
+refusal-is (PlanBufferShort x) = refl
+refusal-is (ListBufferShort x) = refl
+refusal-is (UnknownPlace x) = refl
+
+-- an answer is no refusal
+apart : {A : Type 0} {a : A} {k : Code} → answered a ≡ refused k → ⊥
+apart e = let z : _≡_ {A = ℕ} 0 1 = cc e in omega arith
+
+pub one-verdict : {A : Type 0} (u v : Verdict) (x y : A) → outcomeOf u x ≡ outcomeOf v y → u ≡ v
+one-verdict Accepted Accepted x y e = refl
+one-verdict Accepted (Refused k) x y e = absurd (apart e)
+one-verdict (Refused j) Accepted x y e = absurd (apart (sym e))
+one-verdict (Refused j) (Refused k) x y e =
+    let codes : codeOf j ≡ codeOf k = cc e in
+    let same : j ≡ k = sym (refusal-is j) ∙ ap refusalOf codes ∙ refusal-is k in
+    ap Refused same
