@@ -97,7 +97,7 @@ pub plan-said : (xs oldPlan newPlan oldFields newFields oldBounds newBounds : Li
 plan-said xs oldPlan newPlan oldFields newFields oldBounds newBounds l p a b w bounds given =
     let f : PlansDay (valueOf xs) oldPlan a newPlan = subst (λ (k : DayList). PlansDay k oldPlan a newPlan) p w in
     record {
-      narrowed = rw (← (f .outcome .outcome), ← (f .broken)) given;
+      narrowed = rw (← (f .answers .outcome), ← (f .broken)) given;
       plan = f .buffer;
       bounds = rw (← (f .ends), ← (f .starts), ← (f .holds .narrowed)) bounds;
     }
@@ -108,7 +108,7 @@ shown-said : {l : DayList} {k : ℕ} {oldPlan newPlan oldFields newFields : List
     → ShowsPlan l k oldPlan s m told a newPlan
     → NarrowCall (narrowAnswerOf (a .narrowed)) (a .bound) oldFields b newFields
     → ShownSaid l s m (shownOf l k (length oldPlan)) oldPlan oldFields b newPlan newFields
-shown-said w given = record { narrowed = rw (← (w .outcome .outcome), ← (w .bound)) given; plan = w .buffer }
+shown-said w given = record { narrowed = rw (← (w .answers .outcome), ← (w .bound)) given; plan = w .buffer }
 
 -- of the list value that xs say
 module _ (xs : List ℕ) (k : ℕ) (oldPlan newPlan oldFields newFields : List ℕ) (l : DayList) (p : l ≡ valueOf xs) (a : ShownAnswer) (b : Answer)

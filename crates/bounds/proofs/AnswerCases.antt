@@ -95,7 +95,7 @@ module _ (l : DayList) (old : List ℕ) (a : PlanAnswer) (new : List ℕ) (after
   pub plans-day : PlansDay l old a new
   plans-day =
       record {
-        outcome = after .answers;
+        answers = after .answers;
         holds = after .holds;
         broken = broken;
         ends = ends;
@@ -146,7 +146,7 @@ module _ (l : DayList) (k : ℕ) (old : List ℕ) (a : ShownAnswer) (new : List 
       → new ≡ planned (earlyOf whole k) old (shownOf l k (length old)) → ShowsEarly l k old a new
   shows-early bound buffer =
       record {
-        outcome = after .answers;
+        answers = after .answers;
         holds = after .holds;
         bound = bound;
         buffer = buffer;
@@ -169,7 +169,7 @@ module _ (l : DayList) (k : ℕ) (old : List ℕ) (a : ShownAnswer) (new : List 
       → new ≡ planned (lateOf whole k) old (shownOf l k (length old)) → ShowsLate l k old a new
   shows-late bound buffer =
       record {
-        outcome = after .answers;
+        answers = after .answers;
         holds = after .holds;
         bound = bound;
         buffer = buffer;

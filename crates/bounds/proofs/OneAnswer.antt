@@ -77,7 +77,7 @@ module _ {a b : DayList} (s : SameList a b) where
   one-plan old x y new other p q =
       let room = length old in
       let times = same-times s in
-      let narrowed = one-narrowed _ _ (same-planned s room) (x .narrowed) (y .narrowed) (p .outcome) (q .outcome) in
+      let narrowed = one-narrowed _ _ (same-planned s room) (x .narrowed) (y .narrowed) (p .answers) (q .answers) in
       let broken : x .broken ≡ y .broken = p .broken ∙ times-broken times room ∙ sym (q .broken) in
       let ends : x .ends ≡ y .ends = p .ends ∙ times-ends times room ∙ sym (q .ends) in
       let starts : x .starts ≡ y .starts = p .starts ∙ times-starts times room ∙ sym (q .starts) in (
@@ -95,13 +95,13 @@ module _ {a b : DayList} (s : SameList a b) where
     pub one-early-shown : ShowsEarly a k old x new → ShowsEarly b k old y other → (x ≡ y) × (new ≡ other)
     one-early-shown p q =
         let times = same-times s in (
-          one-shown (p .outcome) (q .outcome) (p .bound ∙ times-least-end times k (length old) ∙ sym (q .bound)),
+          one-shown (p .answers) (q .answers) (p .bound ∙ times-least-end times k (length old) ∙ sym (q .bound)),
           p .buffer ∙ times-early times k old ∙ sym (q .buffer),
         )
 
     pub one-late-shown : ShowsLate a k old x new → ShowsLate b k old y other → (x ≡ y) × (new ≡ other)
     one-late-shown p q =
         let times = same-times s in (
-          one-shown (p .outcome) (q .outcome) (p .bound ∙ times-greatest-start times k (length old) ∙ sym (q .bound)),
+          one-shown (p .answers) (q .answers) (p .bound ∙ times-greatest-start times k (length old) ∙ sym (q .bound)),
           p .buffer ∙ times-late times k old ∙ sym (q .buffer),
         )

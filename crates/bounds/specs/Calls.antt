@@ -99,7 +99,7 @@ pub record PlansWindows (whole : ℕ → Bool) (w : Windows) (bytes : List ℕ) 
 
 -- what planning the list l answers, and leaves in a plan buffer that held old
 pub record PlansDay (l : DayList) (old : List ℕ) (a : PlanAnswer) (new : List ℕ) : Type 0 where
-  pub outcome : AnswersAs l (planOf l (length old)) (a .narrowed)
+  pub answers : AnswersAs l (planOf l (length old)) (a .narrowed)
   pub holds : HoldsAnswer l (planOf l (length old)) (a .narrowed)
   pub broken : a .broken ≡ brokenOf (wholeIn l) (planOf l (length old))
   pub ends : a .ends ≡ leastEnds (wholeIn l) (planOf l (length old))
@@ -163,7 +163,7 @@ toldByLate whole k a bytes =
 -- plan in the settled windows, and told is what the call tells by its answer and the plan's bytes
 pub record ShowsPlan (l : DayList) (k : ℕ) (old : List ℕ) (b : Windows → ℕ) (m : Windows → List ℕ)
     (told : ShownAnswer → List ℕ → Told) (a : ShownAnswer) (new : List ℕ) : Type 0 where
-  pub outcome : AnswersAs l (shownOf l k (length old)) (a .narrowed)
+  pub answers : AnswersAs l (shownOf l k (length old)) (a .narrowed)
   pub holds : HoldsAnswer l (shownOf l k (length old)) (a .narrowed)
   pub bound : a .bound ≡ settledOr 0 b (shownOf l k (length old))
   pub buffer : new ≡ planned m old (shownOf l k (length old))

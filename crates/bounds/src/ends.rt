@@ -3,12 +3,12 @@ use jackson::mirrored;
 use jackson::places_held;
 use jackson::types::WindowSet;
 use jackson::untested_overload;
+use jackson::zeros;
 use list::types::DayList;
 use narrow::is_accepted;
 use narrow::is_whole;
 ghost use mathlib.Core.Path.{_≡_};
 ghost use Prim.Native.Nat.{_-_, _<_, _≤_};
-ghost use lib.ListN.{replicate};
 ghost use Rattle.jackson.specs.Windows.{windowsIn};
 ghost use Rattle.jackson.specs.Intervals.{overloadOf};
 ghost use Rattle.narrow.specs.Searching.{accepts, withD};
@@ -62,13 +62,6 @@ pub(crate) fn least_end(windows: WindowSet, k: usize, whole: bool) -> u16
         }
     }
     low
-}
-
-// A 0 for each place.
-pub(crate) fn zeros() -> [u16; 64]
-    ensures { λ xs. ⌜ xs ≡ replicate 64 0 ⌝ }
-{
-    [0; 64]
 }
 
 // The least ends of the list's entries in these windows. Places from n on are 0.

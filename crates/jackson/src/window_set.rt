@@ -14,7 +14,8 @@ pub fn places_held(n: u8) -> usize
     if n < 64 { n as usize } else { 64 }
 }
 
-fn zeros() -> [u16; 64]
+// A 0 for each place.
+pub fn zeros() -> [u16; 64]
     ensures { λ xs. ⌜ xs ≡ replicate 64 0 ⌝ }
 {
     [0; 64]
