@@ -163,7 +163,7 @@ module _ (l : DayList) (checks : Outcome (Unit {0})) (a : NarrowAnswer) (after :
 
 -- Of the settled list: its day, its windows in arrays, and what is answered of them.
 module _ (l : DayList) (checks : Outcome (Unit {0})) (a : NarrowAnswer) (settled : IsSettled l checks a) where
-  pub settled-formed : Formed (windowsOf (a .list))
+  settled-formed : Formed (windowsOf (a .list))
   settled-formed = list-formed (a .list) (settled .formed)
 
   pub settled-few : windowsOf (a .list) .n ≤ 64

@@ -138,7 +138,7 @@ module _ (f : ℕ → ℕ) where
           (λ a. rw (lt-ltb t i a, lt-ltb t (i + 1) (omega arith))))
 
 -- only the places below n count
-pub by-place-same : (n : ℕ) (f g : ℕ → ℕ) → ((i : ℕ) → i < n → f i ≡ g i) → byPlace n f ≡ byPlace n g
+by-place-same : (n : ℕ) (f g : ℕ → ℕ) → ((i : ℕ) → i < n → f i ≡ g i) → byPlace n f ≡ byPlace n g
 by-place-same n f g e = list-is 64 _ 0 (byPlace n g) (list-length 64 _) (λ t h. go t ∙ sym (by-place-at g n t h))
   where
     go : (t : ℕ) → cond (ltb t n) (f t) 0 ≡ cond (ltb t n) (g t) 0
