@@ -15,6 +15,7 @@ use Rattle.list.specs.Checks.{WellFormed}
 use Rattle.list.specs.declared.types.Verdict.{Verdict}
 use Rattle.list.specs.declared.types.Verdict.the-variants.{Accepted, Refused}
 use Rattle.list.specs.declared.types.DayList.{DayList}
+use Rattle.list.proofs.Inversion.{answered-same, answered-refused}
 use Rattle.jackson.specs.Windows.{Windows, windowsOf, windowsIn}
 use Rattle.jackson.specs.Plans.{placesIn}
 use Rattle.jackson.specs.Mirrors.{mirrorBytes, MirrorOf}
@@ -29,7 +30,6 @@ use Rattle.narrow.specs.Searching.{withD}
 use Rattle.narrow.specs.Rounds.{Narrowed}
 use Rattle.narrow.specs.Calls.{wholeIn, narrowedIn}
 use Rattle.narrow.specs.declared.types.NarrowAnswer.{NarrowAnswer}
-use Rattle.narrow.proofs.RoundsEnd.{answered-same, answered-refused}
 use Rattle.narrow.proofs.CallCases.{list-formed}
 use Rattle.bounds.specs.Ends.{leastEnd, greatestStart}
 use Rattle.bounds.specs.ShownPlans.{earlyPlan, latePlan}

@@ -6,7 +6,7 @@ pub mod Puts
 pub mod MirrorSearches
 pub mod Keeping
 pub mod Costs
-pub mod RoundsEnd
+mod RoundsEnd
 -- Searches are exact, settled sets are settled in the mirror and stay inside, and the law of narrowing. The crates above are to cite NarrowLaws.
 pub mod Exact
 pub mod MirrorSettled
