@@ -44,6 +44,28 @@ impl Random {
     }
 }
 
+/// A count of days by what is answered of them.
+pub trait Count: Default {
+    fn count(&mut self, day: &Day);
+}
+
+/// Makes so many random days, holds each against this check, and counts them.
+pub fn each_of<S: Count, T>(
+    days: usize,
+    seed: u64,
+    make: impl Fn(&mut Random) -> Day,
+    check: impl Fn(&Day) -> T,
+) -> S {
+    let mut random = Random::new(seed);
+    let mut seen = S::default();
+    for _ in 0..days {
+        let day = make(&mut random);
+        check(&day);
+        seen.count(&day);
+    }
+    seen
+}
+
 /// A well-formed list of at most `most` entries.
 pub fn day(random: &mut Random, most: usize) -> Day {
     let any = random.within(1, LONGEST_DAY);

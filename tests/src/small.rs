@@ -37,3 +37,8 @@ pub fn days_of_both_kinds(h: u16, n: u32) -> impl Iterator<Item = Day> {
 pub fn days_up_to(h: u16, n: u32) -> impl Iterator<Item = Day> {
     (1..=h).flat_map(move |h| (0..=n).flat_map(move |n| days_of_both_kinds(h, n)))
 }
+
+/// How many of the days of at most 4 minutes and 3 entries are settled, refused with 9 and refused with 10.
+pub const SETTLED: usize = 16_766;
+pub const OVERLOADED: usize = 57_448;
+pub const NO_PLACE: usize = 448;

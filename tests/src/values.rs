@@ -3,8 +3,9 @@
 //! 2, 3, then 6 and 7 per entry; 2 and 3 then carry 0, 6 and 7 the entry's place."
 
 use crate::day::MOST_ENTRIES;
-use crate::flat::{Fields, SIZE, WIDTH};
+use crate::flat::{self, Fields, SIZE, WIDTH};
 use crate::random::{self, Random};
+use crate::samples::boxes;
 use std::panic::{self, AssertUnwindSafe};
 
 /// Holds a call against the values that it must refuse: `check` gets each of them with the number and the
@@ -202,6 +203,19 @@ fn too_large(refused: Refused) {
     for n in [65, 256, 257, 256 + 3, 65_536 + 3, 0xFFFF_FF03] {
         refused(list(100, n, &[[0, 100, 4]]), 3, 0);
     }
+}
+
+/// A value for each refusal of the value check, with its number: a list of three entries that has a plan, but
+/// for one number.
+pub fn wrong() -> [(u64, Fields); 6] {
+    let right = flat::of_day(&boxes(12, "p[0,12)4 w[2,8)3 p[3,6)2"));
+    let last = 2 + 2 * WIDTH;
+    let wrong = [(2, 0, 0), (2, 0, 1441), (3, 1, 65), (6, last + 5, 0), (7, last + 4, 4), (7, last + 4, 13)];
+    wrong.map(|(number, at, instead)| {
+        let mut fields = right;
+        fields[at] = instead;
+        (number, fields)
+    })
 }
 
 /// How often each number was answered, 0 for a success.

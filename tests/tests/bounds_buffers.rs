@@ -1,6 +1,6 @@
 //! What is lent to the calls that plan. "In a longer buffer the bytes after H keep their values." "A refusal
-//! writes nothing to any lent buffer." The narrowed list and the bounds are written whole: from n on they
-//! have zeros.
+//! writes nothing to any lent buffer." The narrowed list and the bounds are written in full: from n on
+//! they have zeros.
 
 use dock_tests::abi::{self, Call, Lent};
 use dock_tests::check_bounds::{ask, calls, refused};
@@ -8,7 +8,7 @@ use dock_tests::day::{Day, LONGEST_DAY, MOST_ENTRIES};
 use dock_tests::flat::{self, Fields, SIZE, WIDTH};
 use dock_tests::random::{self, Random};
 use dock_tests::samples::{self, boxes, plan};
-use dock_tests::{check, small};
+use dock_tests::{check, small, values};
 
 /// Days that are planned, from the smallest on, with moves and without.
 fn planned_days() -> Vec<Day> {
@@ -88,23 +88,8 @@ fn a_buffer_is_not_measured_by_its_lowest_bytes() {
 
 /// A value for each refusal, with a place that the list has.
 fn refused_values() -> Vec<(u64, Fields)> {
-    let right = flat::of_day(&boxes(12, "p[0,12)4 w[2,8)3 p[3,6)2"));
-    let last = 2 + 2 * WIDTH;
-    let with = |at: usize, number: u32| {
-        let mut fields = right;
-        fields[at] = number;
-        fields
-    };
-    let wrong = [
-        (2, with(0, 0)),
-        (2, with(0, 1441)),
-        (3, with(1, 65)),
-        (6, with(last + 5, 0)),
-        (7, with(last + 4, 4)),
-        (7, with(last + 4, 13)),
-    ];
     let days = refused_days().into_iter().map(|(number, day)| (number, flat::of_day(&day)));
-    wrong.into_iter().chain(days).collect()
+    values::wrong().into_iter().chain(days).collect()
 }
 
 /// What may stand in the lent buffers: zeros, ones, the largest numbers, a list with its plan.
@@ -151,13 +136,7 @@ fn a_wrong_place_or_a_short_buffer_leaves_every_number_as_it_was() {
             (13, day.h - 1, vec![Call::Early(n), Call::Late(n)]),
             (11, day.h - 1, calls(day.entries.len())),
         ] {
-            for (call, before) in
-                calls.iter().flat_map(|&call| contents(room.into()).into_iter().map(move |c| (call, c)))
-            {
-                let mut lent = before.clone();
-                assert_eq!(abi::ask_into(call, &fields, &mut lent).number, number, "{call:?} of {day:?}");
-                assert!(lent == before, "changed by refusal {number}, {call:?} of {day:?}");
-            }
+            calls.into_iter().for_each(|call| keeps_all(call, &fields, room.into(), number));
         }
     }
 }

@@ -170,7 +170,7 @@ fn sample() -> Fields {
 /// `day 12 entries 3 moves 1 broken 0`; of place 0 `0 12 4 9 8`, of place 1 `5 8 3 8 5`, of place 2 `3 6 2 5
 /// 3`; then `0 3 0`, `3 5 2`, `5 8 1`, `8 9 0`.
 #[test]
-fn the_report_of_the_sample_input() {
+fn the_sample_input_has_the_numbers_of_its_report() {
     let (answer, lent) = abi::ask(Call::Plan, &sample(), 12);
     assert_eq!((answer.number, answer.values), (0, [1, 0, 0]));
     assert_eq!(lent.narrowed[..2], [12, 3]);
@@ -200,7 +200,7 @@ fn the_plans_shown_of_the_sample_input() {
     }
 }
 
-/// "The entry that had the minute before": one that was interrupted has no privilege.
+/// "The entry that had the minute before": one that was interrupted earlier is not that.
 #[test]
 fn an_interrupted_entry_does_not_go_on() {
     let day = boxes(9, "p[0,9)3 p[0,9)2 p[1,4)2");
@@ -217,7 +217,7 @@ fn the_tie_rule_of_an_early_plan() {
 }
 
 /// In a late plan the rule is that of the mirrored day: the entry that has the minute after goes on, and the
-/// lowest place among equals is taken from the evening back.
+/// lowest place among equals is taken from the last minute back.
 #[test]
 fn the_tie_rule_of_a_late_plan_is_that_of_the_mirror() {
     let day = boxes(4, "w[1,4)2 w[1,4)1 w[0,1)1");

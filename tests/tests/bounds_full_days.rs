@@ -1,4 +1,4 @@
-//! Full days, 1,440 minutes and 64 entries, against the second planner. Narrowing a full day takes its time,
+//! Full days, 1,440 minutes and 64 entries, against the second planner. Narrowing a full day takes long,
 //! so there are not many of each sort; where many plans are shown, it is in windows that are settled already.
 
 use dock_tests::abi::{Call, Lent};
@@ -8,7 +8,7 @@ use dock_tests::flat::{self, Fields};
 use dock_tests::random::{self, Random};
 use dock_tests::samples::{whole, windows};
 
-/// The longest day in bytes.
+/// The bytes of the longest day's plan.
 const LONGEST: usize = LONGEST_DAY as usize;
 
 /// Plans a full day, and has the plans of every eighth place shown in the windows that it then has. Gives what
@@ -127,7 +127,7 @@ fn long_block() -> Day {
 }
 
 /// The plans of such a day: the block, then the place shown and the others by place, then idle minutes; and
-/// late the same from the evening back.
+/// late the same from the last minute back.
 #[track_caller]
 fn around_the_block(fields: &Fields, place: u8) {
     let others = (1..64).filter(|&other| other != place);

@@ -4,7 +4,7 @@
 use dock_tests::abi::{self, Call, Lent};
 use dock_tests::check_bounds::{ask, ask_all, by_trying_everything};
 use dock_tests::day::{Day, MOST_ENTRIES};
-use dock_tests::random::{self, Random};
+use dock_tests::random::{self, each_of, Count, Random};
 use dock_tests::{flat, mirror};
 
 /// A day of at most `most` minutes and `n` entries: one of those on which narrowing is tried, one with as many
@@ -23,8 +23,8 @@ fn day(random: &mut Random, most: u16, n: usize) -> Day {
     day
 }
 
-/// How often each number was answered, and how often days were planned with moves, with broken entries, with
-/// a pause entry that cannot have its first minutes or its last ones.
+/// How often each number was answered, and how often days were planned with moves, with broken entries, and
+/// with a pause entry that cannot have the first minutes of its window or the last ones.
 #[derive(Debug, Default)]
 struct Seen {
     numbers: [usize; 14],
@@ -33,7 +33,7 @@ struct Seen {
     held_up: usize,
 }
 
-impl Seen {
+impl Count for Seen {
     fn count(&mut self, day: &Day) {
         let (answer, lent) = abi::ask(Call::Plan, &flat::of_day(day), day.h.into());
         self.numbers[answer.number as usize] += 1;
@@ -50,41 +50,29 @@ impl Seen {
     }
 }
 
-/// Makes so many random days, holds each against this check, and counts them.
-fn each_of<T>(days: usize, seed: u64, make: impl Fn(&mut Random) -> Day, check: impl Fn(&Day) -> T) -> Seen {
-    let mut random = Random::new(seed);
-    let mut seen = Seen::default();
-    for _ in 0..days {
-        let day = make(&mut random);
-        check(&day);
-        seen.count(&day);
-    }
-    seen
-}
-
 #[test]
 fn ten_thousand_small_days_against_trying_everything() {
-    let seen = each_of(10_000, 131, |random| day(random, 7, 4), by_trying_everything);
+    let seen: Seen = each_of(10_000, 131, |random| day(random, 7, 4), by_trying_everything);
     assert!(seen.moved > 1_000 && seen.broken > 20 && seen.held_up > 500, "{seen:?}");
     assert!(seen.numbers[9] > 1_000 && seen.numbers[10] > 50, "{seen:?}");
 }
 
 #[test]
 fn late_refusals_against_trying_everything() {
-    let seen = each_of(1_000, 132, random::crossed_day, by_trying_everything);
+    let seen: Seen = each_of(1_000, 132, random::crossed_day, by_trying_everything);
     assert!(seen.numbers[0] > 200 && seen.numbers[10] > 100, "{seen:?}");
 }
 
 #[test]
 fn five_thousand_days_of_up_to_12_minutes_against_the_second_planner() {
-    let seen = each_of(5_000, 133, |random| day(random, 12, 6), ask_all);
+    let seen: Seen = each_of(5_000, 133, |random| day(random, 12, 6), ask_all);
     assert!(seen.moved > 500 && seen.broken > 50 && seen.held_up > 500, "{seen:?}");
     assert!(seen.numbers[9] > 500 && seen.numbers[10] > 50, "{seen:?}");
 }
 
 #[test]
 fn one_thousand_days_of_up_to_60_minutes_against_the_second_planner() {
-    let seen = each_of(1_000, 134, |random| day(random, 60, 12), ask_all);
+    let seen: Seen = each_of(1_000, 134, |random| day(random, 60, 12), ask_all);
     assert!(seen.moved > 100 && seen.broken > 100 && seen.held_up > 100, "{seen:?}");
     assert!(seen.numbers[9] > 100 && seen.numbers[10] > 20, "{seen:?}");
 }
@@ -102,11 +90,11 @@ fn through_the_mirror(call: Call, day: &Day) -> Option<(u64, Vec<u8>, Day)> {
     (answer.number == 0).then(|| (h - answer.values[1], mirror::plan(&lent.plan), mirror::day(&narrowed)))
 }
 
-/// "Late: the mirror of Jackson's schedule of the mirrored list": the late plan of a day is the mirror of the
+/// "Late: the mirror .. of Jackson's schedule of the mirrored list": the late plan of a day is the mirror of the
 /// mirrored day's early plan, the early plan the mirror of its late plan, and the bounds are mirrored too.
 #[test]
 fn shown_plans_of_the_mirror_are_the_mirrored_ones() {
-    let seen = each_of(
+    let seen: Seen = each_of(
         3_000,
         135,
         |random| day(random, 20, 8),
@@ -129,7 +117,7 @@ fn shown_plans_of_the_mirror_are_the_mirrored_ones() {
 /// Planning answers the mirrored bounds, and as many moves.
 #[test]
 fn bounds_of_the_mirror_are_the_mirrored_ones() {
-    let seen = each_of(
+    let seen: Seen = each_of(
         3_000,
         136,
         |random| day(random, 20, 8),
@@ -154,7 +142,7 @@ fn bounds_of_the_mirror_are_the_mirrored_ones() {
 /// Planning and showing say the same bounds, windows and moves.
 #[test]
 fn planning_and_showing_agree() {
-    let seen = each_of(
+    let seen: Seen = each_of(
         2_000,
         137,
         |random| day(random, 30, 8),
@@ -183,7 +171,7 @@ fn planning_and_showing_agree() {
 /// The settled list answered is settled: planned once more it gives the same without a move.
 #[test]
 fn a_settled_list_is_planned_alike() {
-    let seen = each_of(
+    let seen: Seen = each_of(
         2_000,
         138,
         |random| day(random, 30, 8),

@@ -4,13 +4,8 @@
 use dock_tests::day::{Day, Refusal};
 use dock_tests::narrow::{self, Narrowed};
 use dock_tests::settled::{self, Plans, Windows};
-use dock_tests::small::days_up_to as days;
+use dock_tests::small::{days_up_to as days, NO_PLACE, OVERLOADED, SETTLED};
 use dock_tests::{abi, brute, check, check_narrow, flat, jackson, small};
-
-/// How many of the days are settled, refused with 9 and refused with 10.
-const SETTLED: usize = 16_766;
-const OVERLOADED: usize = 57_448;
-const NO_PLACE: usize = 448;
 
 /// A day of h minutes can have 1, 4, 10 and 20 different entries, of two kinds each. With 0 to 2 of them in a
 /// row that makes 2,142 days, and with 3 of them 72,520 more.

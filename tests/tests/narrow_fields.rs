@@ -7,7 +7,7 @@ use dock_tests::day::{Day, Entry};
 use dock_tests::flat::{self, Fields, SIZE, WIDTH};
 use dock_tests::random::{self, Random};
 use dock_tests::samples::{self, boxes};
-use dock_tests::{check, writer};
+use dock_tests::{check, values, writer};
 
 /// Both calls, by name.
 type Call = fn(&Fields, &mut Fields) -> Answer;
@@ -15,24 +15,12 @@ const CALLS: [(&str, Call); 2] = [("settling", abi::settle_into), ("one round", 
 
 /// A value for each refusal, and whether one round gives it too.
 fn refused_values() -> Vec<(u64, Fields, bool)> {
-    let right = flat::of_day(&boxes(12, "p[0,12)4 w[2,8)3 p[3,6)2"));
-    let last = 2 + 2 * WIDTH;
-    let with = |at: usize, number: u32| {
-        let mut fields = right;
-        fields[at] = number;
-        fields
-    };
-    vec![
-        (2, with(0, 0), true),
-        (2, with(0, 1441), true),
-        (3, with(1, 65), true),
-        (6, with(last + 5, 0), true),
-        (7, with(last + 4, 4), true),
-        (7, with(last + 4, 13), true),
+    let days = [
         (9, flat::of_day(&boxes(12, "w[0,12)12 p[11,12)1")), false),
         (10, flat::of_day(&boxes(6, "w[0,6)3 p[2,4)2")), true),
         (10, flat::of_day(&boxes(7, "w[0,7)2 p[4,6)1 w[0,7)3 p[1,3)1")), false),
-    ]
+    ];
+    values::wrong().map(|(number, fields)| (number, fields, true)).into_iter().chain(days).collect()
 }
 
 /// Fields to be lent: zeros, ones, a list, what no list has.

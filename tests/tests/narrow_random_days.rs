@@ -3,7 +3,7 @@
 
 use dock_tests::check_narrow::{by_trying_everything, round, settle, settled_by_rounds};
 use dock_tests::day::{Day, Refusal};
-use dock_tests::random::{self, Random};
+use dock_tests::random::{self, each_of, Count, Random};
 use dock_tests::{abi, flat, mirror, narrow};
 
 /// How often days were settled without moves, in so many rounds with moves (5 or more counted as 5), refused
@@ -16,7 +16,7 @@ struct Seen {
     no_place_later: usize,
 }
 
-impl Seen {
+impl Count for Seen {
     fn count(&mut self, day: &Day) {
         if abi::overload(&flat::of_day(day)).number == 9 {
             self.overloaded += 1;
@@ -35,34 +35,22 @@ fn up_to(most: u16, n: usize) -> impl Fn(&mut Random) -> Day {
     move |random| random::mixed_day(random, most, n)
 }
 
-/// Makes so many random days, holds each against this check, and counts them.
-fn each_of<T>(days: usize, seed: u64, make: impl Fn(&mut Random) -> Day, check: impl Fn(&Day) -> T) -> Seen {
-    let mut random = Random::new(seed);
-    let mut seen = Seen::default();
-    for _ in 0..days {
-        let day = make(&mut random);
-        check(&day);
-        seen.count(&day);
-    }
-    seen
-}
-
 #[test]
 fn ten_thousand_small_days_against_trying_everything() {
-    let seen = each_of(10_000, 101, up_to(6, 4), by_trying_everything);
+    let seen: Seen = each_of(10_000, 101, up_to(6, 4), by_trying_everything);
     assert!(seen.rounds[0] > 3_000 && seen.rounds[1] > 1_000 && seen.rounds[2] > 50, "{seen:?}");
     assert!(seen.overloaded > 1_000 && seen.no_place > 100, "{seen:?}");
 }
 
 #[test]
 fn late_refusals_against_trying_everything() {
-    let seen = each_of(2_000, 102, random::crossed_day, by_trying_everything);
+    let seen: Seen = each_of(2_000, 102, random::crossed_day, by_trying_everything);
     assert!(seen.no_place > 100 && seen.no_place_later > 10, "{seen:?}");
 }
 
 #[test]
 fn ten_thousand_days_of_up_to_12_minutes_against_the_second_narrowing() {
-    let seen = each_of(10_000, 103, up_to(12, 6), |day| {
+    let seen: Seen = each_of(10_000, 103, up_to(12, 6), |day| {
         let settled = settle(&flat::of_day(day));
         let round = round(&flat::of_day(day));
         assert!(settled.is_err() || round.is_ok(), "{day:?}");
@@ -73,7 +61,7 @@ fn ten_thousand_days_of_up_to_12_minutes_against_the_second_narrowing() {
 
 #[test]
 fn three_thousand_days_of_up_to_60_minutes_against_the_second_narrowing() {
-    let seen = each_of(3_000, 104, up_to(60, 12), |day| {
+    let seen: Seen = each_of(3_000, 104, up_to(60, 12), |day| {
         let settled = settle(&flat::of_day(day));
         if !matches!(settled, Err(Refusal::Overloaded(_))) {
             settled_by_rounds(&flat::of_day(day));
@@ -88,7 +76,7 @@ fn three_thousand_days_of_up_to_60_minutes_against_the_second_narrowing() {
 /// overloaded.
 #[test]
 fn the_mirror_of_a_day_is_settled_alike() {
-    let seen = each_of(5_000, 105, up_to(20, 8), |day| {
+    let seen: Seen = each_of(5_000, 105, up_to(20, 8), |day| {
         let turned = settle(&flat::of_day(&mirror::day(day)));
         match settle(&flat::of_day(day)) {
             Ok(narrowed) => {

@@ -4,9 +4,10 @@
 use dock_tests::abi::{self, Answer};
 use dock_tests::check::{self, not_planned, schedule};
 use dock_tests::day::{Day, Refusal, LONGEST_DAY};
-use dock_tests::flat::{self, Fields, WIDTH};
+use dock_tests::flat::{self, Fields};
 use dock_tests::random::{self, Random};
 use dock_tests::samples::{self, plan, windows};
+use dock_tests::values;
 
 /// Days that have a plan, from the smallest to a full one.
 fn planned_days() -> Vec<Day> {
@@ -146,23 +147,9 @@ fn a_buffer_is_not_measured_by_its_lowest_bytes() {
 
 /// A value for each refusal of planning but 11, which has its tests above.
 fn refused_values() -> Vec<(u64, Fields)> {
-    let right = flat::of_day(&windows(12, &[(0, 12, 4), (2, 8, 3), (3, 6, 2)]));
-    let (middle, last) = (2 + WIDTH, 2 + 2 * WIDTH);
-    let with = |at: usize, number: u32| {
-        let mut fields = right;
-        fields[at] = number;
-        fields
-    };
-    vec![
-        (2, with(0, 0)),
-        (2, with(0, 1441)),
-        (3, with(1, 65)),
-        (6, with(last + 5, 0)),
-        (7, with(last + 4, 4)),
-        (7, with(last + 4, 13)),
-        (9, with(middle + 5, 5)),
-        (9, flat::of_day(&windows(12, &[(0, 12, 12), (11, 12, 1)]))),
-    ]
+    let overloaded =
+        [windows(12, &[(0, 12, 4), (2, 8, 5), (3, 6, 2)]), windows(12, &[(0, 12, 12), (11, 12, 1)])];
+    values::wrong().into_iter().chain(overloaded.map(|day| (9, flat::of_day(&day)))).collect()
 }
 
 #[test]

@@ -1,3 +1,4 @@
-pub mod FlatCases
-pub mod CallCases
-pub mod BoundsCases
+-- What the code's proofs cite, case by case.
+mod FlatCases
+mod CallCases
+mod BoundsCases

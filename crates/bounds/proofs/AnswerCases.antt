@@ -15,6 +15,7 @@ use Rattle.list.specs.Checks.{WellFormed}
 use Rattle.list.specs.declared.types.Verdict.{Verdict}
 use Rattle.list.specs.declared.types.Verdict.the-variants.{Accepted, Refused}
 use Rattle.list.specs.declared.types.DayList.{DayList}
+use Rattle.list.proofs.Inversion.{answered-same, answered-refused}
 use Rattle.jackson.specs.Windows.{Windows, windowsOf, windowsIn}
 use Rattle.jackson.specs.Plans.{placesIn}
 use Rattle.jackson.specs.Mirrors.{mirrorBytes, MirrorOf}
@@ -29,7 +30,6 @@ use Rattle.narrow.specs.Searching.{withD}
 use Rattle.narrow.specs.Rounds.{Narrowed}
 use Rattle.narrow.specs.Calls.{wholeIn, narrowedIn}
 use Rattle.narrow.specs.declared.types.NarrowAnswer.{NarrowAnswer}
-use Rattle.narrow.proofs.RoundsEnd.{answered-same, answered-refused}
 use Rattle.narrow.proofs.CallCases.{list-formed}
 use Rattle.bounds.specs.Ends.{leastEnd, greatestStart}
 use Rattle.bounds.specs.ShownPlans.{earlyPlan, latePlan}
@@ -83,7 +83,7 @@ module _ (l : DayList) (checks : Outcome (Unit {0})) (a : NarrowAnswer) (after :
           let count : windowsOf (a .list) .n ≡ v .windows .n = ap (λ (w : Windows). w .n) (same v e) in
           at (is-settled l checks a after (windows-told a v (sym is ∙ e) .0) formed) k (omega (arith, count, h))
 
-  pub refused-so : (x : Refusal) → a .verdict ≡ Refused x → narrowAfter checks l ≡ refused (codeOf x)
+  refused-so : (x : Refusal) → a .verdict ≡ Refused x → narrowAfter checks l ≡ refused (codeOf x)
   refused-so x e = sym (after .holds .narrowed) ∙ ap (λ (v : Verdict). outcomeOf v (record { windows = windowsOf (a .list); moves = a .moves })) e
 
 -- Planning.
@@ -92,7 +92,7 @@ module _ (l : DayList) (old : List ℕ) (a : PlanAnswer) (new : List ℕ) (after
     (ends : a .ends ≡ leastEnds (wholeIn l) (planOf l (length old)))
     (starts : a .starts ≡ greatestStarts (wholeIn l) (planOf l (length old)))
     (buffer : new ≡ planned schedule old (planOf l (length old))) where
-  pub plans-day : PlansDay l old a new
+  plans-day : PlansDay l old a new
   plans-day =
       record {
         answers = after .answers;
@@ -142,7 +142,7 @@ module _ (l : DayList) (k : ℕ) (old : List ℕ) (a : ShownAnswer) (new : List 
       → IsSettled l (shownChecks l k (length old)) (a .narrowed) → take (l .frame .h) new ≡ m (windowsOf (a .narrowed .list))
   front m long buffer settled = rw (buffer, settled .outcome) (take-at (m (windowsOf (a .narrowed .list))) _ _ (long _ ∙ settled-day l _ (a .narrowed) settled))
 
-  pub shows-early : a .bound ≡ settledOr 0 (λ w. leastEnd overloadOf whole w k) (shownOf l k (length old))
+  shows-early : a .bound ≡ settledOr 0 (λ w. leastEnd overloadOf whole w k) (shownOf l k (length old))
       → new ≡ planned (earlyOf whole k) old (shownOf l k (length old)) → ShowsEarly l k old a new
   shows-early bound buffer =
       record {
@@ -165,7 +165,7 @@ module _ (l : DayList) (k : ℕ) (old : List ℕ) (a : ShownAnswer) (new : List 
             late = refl;
           }
 
-  pub shows-late : a .bound ≡ settledOr 0 (λ w. greatestStart overloadOf whole w k) (shownOf l k (length old))
+  shows-late : a .bound ≡ settledOr 0 (λ w. greatestStart overloadOf whole w k) (shownOf l k (length old))
       → new ≡ planned (lateOf whole k) old (shownOf l k (length old)) → ShowsLate l k old a new
   shows-late bound buffer =
       record {

@@ -24,7 +24,7 @@ use Rattle.bounds.specs.BrokenEntries.{isBroken, brokenIn}
 use Rattle.bounds.specs.Parts.{HoldsPlan}
 
 -- the first that passes is the only such one
-pub one-first : (n : ℕ) (f : ℕ → Bool) (s t : ℕ) → First n f s → First n f t → s ≡ t
+one-first : (n : ℕ) (f : ℕ → Bool) (s t : ℕ) → First n f s → First n f t → s ≡ t
 one-first n f s t a b =
     le-or-lt s t
     (λ l. le-or-lt t s (λ m. omega arith) (λ m. absurd (b .none-before s m (a .passes (omega (arith, b .within))))))

@@ -19,6 +19,7 @@ use Rattle.list.specs.declared.types.Verdict.the-variants.{Accepted, Refused}
 use Rattle.list.specs.declared.types.DayList.{DayList}
 use Rattle.list.specs.Refusals.{outcomeOf}
 use Rattle.list.proofs.Sound.{sound-list}
+use Rattle.list.proofs.Inversion.{answered-refused}
 use Rattle.jackson.specs.Windows.{Windows, windowsOf, windowsIn}
 use Rattle.jackson.specs.Plans.{placesIn}
 use Rattle.jackson.specs.Mirrors.{mirror, mirrorBytes, MirrorOf}
@@ -34,7 +35,6 @@ use Rattle.narrow.specs.Settling.{Widest}
 use Rattle.narrow.specs.Calls.{wholeIn, settleOf, Settles}
 use Rattle.narrow.specs.declared.types.NarrowAnswer.{NarrowAnswer}
 use Rattle.narrow.proofs.OverloadPlanner.{overload-planner}
-use Rattle.narrow.proofs.RoundsEnd.{answered-refused}
 use Rattle.narrow.proofs.NarrowLaws.{narrow-law}
 use Rattle.narrow.proofs.MirrorSearches.{formed-mirror}
 use Rattle.narrow.proofs.CallCases.{list-formed, answers-refused, holds-answer}
@@ -163,7 +163,7 @@ module _ (l : DayList) (checks : Outcome (Unit {0})) (a : NarrowAnswer) (after :
 
 -- Of the settled list: its day, its windows in arrays, and what is answered of them.
 module _ (l : DayList) (checks : Outcome (Unit {0})) (a : NarrowAnswer) (settled : IsSettled l checks a) where
-  pub settled-formed : Formed (windowsOf (a .list))
+  settled-formed : Formed (windowsOf (a .list))
   settled-formed = list-formed (a .list) (settled .formed)
 
   pub settled-few : windowsOf (a .list) .n ≤ 64

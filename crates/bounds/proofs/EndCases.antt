@@ -16,7 +16,7 @@ use Rattle.jackson.specs.Mirrors.{MirrorOf, mirror}
 use Rattle.jackson.specs.Intervals.{overloadOf}
 use Rattle.jackson.specs.declared.types.WindowSet.{WindowSet}
 use Rattle.jackson.proofs.Sums.{le-or-lt, same-cases}
-use Rattle.jackson.proofs.Listed.{list-is, list-at, list-length}
+use Rattle.jackson.proofs.Listed.{list-is, list-same, list-at, list-length}
 use Rattle.narrow.specs.Searching.{accepts, withD}
 use Rattle.narrow.specs.Laws.{Formed}
 use Rattle.narrow.specs.Calls.{isWhole, wholeIn}
@@ -138,11 +138,8 @@ module _ (f : ℕ → ℕ) where
           (λ a. rw (lt-ltb t i a, lt-ltb t (i + 1) (omega arith))))
 
 -- only the places below n count
-pub by-place-same : (n : ℕ) (f g : ℕ → ℕ) → ((i : ℕ) → i < n → f i ≡ g i) → byPlace n f ≡ byPlace n g
-by-place-same n f g e = list-is 64 _ 0 (byPlace n g) (list-length 64 _) (λ t h. go t ∙ sym (by-place-at g n t h))
-  where
-    go : (t : ℕ) → cond (ltb t n) (f t) 0 ≡ cond (ltb t n) (g t) 0
-    go t = le-or-lt n t (λ a. rw (le-ltb t n a)) (λ a. rw (lt-ltb t n a) (e t a))
+by-place-same : (n : ℕ) (f g : ℕ → ℕ) → ((i : ℕ) → i < n → f i ≡ g i) → byPlace n f ≡ byPlace n g
+by-place-same n f g e = list-same 64 _ _ (λ t _. le-or-lt n t (λ a. rw (le-ltb t n a)) (λ a. rw (lt-ltb t n a) (e t a)))
 
 -- the numbers of the first i of n places are stored
 pub record Placed (f : ℕ → ℕ) (n : ℕ) (xs : List ℕ) (i : ℕ) : Type 0 where

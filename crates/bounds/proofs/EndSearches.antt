@@ -26,7 +26,7 @@ pub own-deadline : (w : Windows) (k : ℕ) → withD w k (w .d k) ≡ w
 own-deadline w k = ap (withWindows w (w .r)) (put-back k (w .d))
 
 -- one lies inside a greater one
-pub deadline-inside : (w : Windows) (k e x : ℕ) → e ≤ x → Inside (withD w k e) (withD w k x)
+deadline-inside : (w : Windows) (k e x : ℕ) → e ≤ x → Inside (withD w k e) (withD w k x)
 deadline-inside w k e x less =
     record {
       r = λ i _. omega arith;
@@ -68,7 +68,7 @@ pub least-end-whole : (test : Test) (whole : ℕ → Bool) (w : Windows) (k : �
 unfolding leastEnd
 least-end-whole test whole w k is = rw is
 
-pub least-end-pause : (test : Test) (whole : ℕ → Bool) (w : Windows) (k : ℕ) → whole k ≡ false
+least-end-pause : (test : Test) (whole : ℕ → Bool) (w : Windows) (k : ℕ) → whole k ≡ false
     → leastEnd test whole w k ≡ w .r k + w .p k + failedDeadlines test w k
 unfolding leastEnd
 least-end-pause test whole w k is = rw is

@@ -1,11 +1,11 @@
 -- What the search for a least end finds, and the search for a greatest start as one in the mirror.
-pub mod EndSearches
-pub mod MirrorEnds
+mod EndSearches
+mod MirrorEnds
 -- In settled windows these are bounds over all plans, and the plans shown have them.
 pub mod EndBounds
 pub mod StartBounds
 -- Entries counted as broken are those whose minutes are not consecutive.
-pub mod BrokenFacts
+mod BrokenFacts
 -- Demand 3 of what is told by these definitions, and demand 2 of Jackson's schedule. The crates above are to cite this.
 pub mod Demands
 -- Lists that are planned alike, and document 01's examples.

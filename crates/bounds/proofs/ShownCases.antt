@@ -18,7 +18,7 @@ use Rattle.jackson.specs.Intervals.{overloadOf}
 use Rattle.jackson.specs.Minutes.{schedule}
 use Rattle.jackson.specs.Planning.{FillsWindows}
 use Rattle.jackson.proofs.Sums.{le-or-lt, same-cases}
-use Rattle.jackson.proofs.Listed.{list-is, list-at, list-length}
+use Rattle.jackson.proofs.Listed.{list-is, list-same, list-at, list-length}
 use Rattle.narrow.specs.Searching.{withD}
 use Rattle.bounds.specs.Ends.{leastEnd}
 use Rattle.bounds.specs.Parts.{StoresEarly}
@@ -37,10 +37,6 @@ pub stored-early : (whole : ℕ → Bool) (w u : Windows) (k e : ℕ) (old : Lis
     → FillsWindows u old v new → w .h ≤ length old → e ≡ leastEnd overloadOf whole w k → StoresEarly whole w k old e new
 stored-early whole w u k e old v new same fills room bound =
     record { bound = bound; buffer = rw (← bound) (filled-with (withD w k e) old v new (rw same at fills) room) }
-
--- lists of the same values
-list-same : (n : ℕ) (f g : ℕ → ℕ) → ((t : ℕ) → t < n → f t ≡ g t) → listOf n f ≡ listOf n g
-list-same n f g e = list-is n f 0 (listOf n g) (list-length n g) (λ t h. e t h ∙ sym (list-at n g 0 t h))
 
 -- the mirror looks at the plan's own bytes alone
 pub mirror-front : (h : ℕ) (xs ys : List ℕ) → length xs ≡ h → mirrorBytes h (xs ++ ys) ≡ mirrorBytes h xs

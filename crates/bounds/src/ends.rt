@@ -1,6 +1,5 @@
 // Least ends and greatest starts.
 use jackson::mirrored;
-use jackson::places_held;
 use jackson::types::WindowSet;
 use jackson::untested_overload;
 use jackson::zeros;
@@ -8,7 +7,7 @@ use list::types::DayList;
 use narrow::is_accepted;
 use narrow::is_whole;
 ghost use mathlib.Core.Path.{_≡_};
-ghost use Prim.Native.Nat.{_-_, _<_, _≤_};
+ghost use Prim.Native.Nat.{_<_, _≤_};
 ghost use Rattle.jackson.specs.Windows.{windowsIn};
 ghost use Rattle.jackson.specs.Intervals.{overloadOf};
 ghost use Rattle.narrow.specs.Searching.{accepts, withD};

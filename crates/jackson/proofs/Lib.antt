@@ -19,7 +19,7 @@ pub mod Law
 pub mod ListLaws
 -- Lists that are planned alike.
 pub mod Alike
--- What the code's proofs cite, case by case; of crates above HeldWindows.
+-- What the code's proofs cite, case by case. Those of the crates above cite HeldWindows too.
 pub mod HeldWindows
 mod ScanSteps
 mod MinuteCases

@@ -5,7 +5,7 @@ use mathlib.Core.List.{List, [], _∷_}
 use Prim.Native.Nat.{ℕ, zero, suc, _<_, _≤_}
 use native.Mathlib.Omega.{arith}
 use lib.Dec.{ltb}
-use lib.ListN.{length, getD, length-take, List·getD-eq-default}
+use lib.ListN.{length, getD, length-take}
 use Rattle.list.specs.Outcomes.{Code, Outcome, answered, refused, andThen}
 use Rattle.list.specs.Checks.{checkOf, WellFormed}
 use Rattle.list.specs.DayLists.{entriesOf, blank}
@@ -15,15 +15,12 @@ use Rattle.list.proofs.Inversion.{Says, by-row}
 use Rattle.list.proofs.Sound.{Sound, Every, SoundList, check-says, sound-list}
 use Rattle.jackson.specs.Windows.{windowsOf, Roomy}
 use Rattle.jackson.specs.Plans.{PlanBytes, placesIn}
-use Rattle.jackson.specs.Mirrors.{mirror}
 use Rattle.jackson.specs.Intervals.{ShowsOverload, overloadOf}
 use Rattle.jackson.specs.Existence.{Plannable, PlanLaw}
 use Rattle.jackson.specs.Minutes.{schedule}
 use Rattle.jackson.specs.Rules.{ScheduleLaw}
 use Rattle.jackson.specs.Testing.{testOf, Decides}
 use Rattle.jackson.specs.Planning.{fillOf}
-use Rattle.jackson.proofs.Sums.{le-or-lt}
-use Rattle.jackson.proofs.PlanFacts.{mirror-mirror}
 use Rattle.jackson.proofs.Law.{plan-law, schedule-law}
 
 -- what holds of every entry holds of the one at any place
@@ -31,10 +28,6 @@ every-at : (P : Entry → Type 0) (es : List Entry) → Every P es → (i : ℕ)
 every-at P [] all i h = absurd (omega arith)
 every-at P (e ∷ es) all zero h = all .0
 every-at P (e ∷ es) all (suc i) h = every-at P es (all .1) i (omega arith)
-
--- past the entries that count all is blank
-past-end : (l : DayList) (i : ℕ) → length (entriesOf l) ≤ i → getD (entriesOf l) i blank ≡ blank
-past-end l i h = List·getD-eq-default (entriesOf l) blank h
 
 module _ (l : DayList) (formed : WellFormed l) where
   sound-at : (i : ℕ) → i < windowsOf l .n → Sound (l .frame) (getD (entriesOf l) i blank)
@@ -51,17 +44,6 @@ module _ (l : DayList) (formed : WellFormed l) where
   -- each needs some minutes
   pub list-minutes : (i : ℕ) → i < windowsOf l .n → 1 ≤ windowsOf l .p i
   list-minutes i h = sound-at i h .some-minutes
-
-  -- every window, those past the entries too, lies in the day
-  pub list-in-day : (i : ℕ) → (windowsOf l .r i ≤ windowsOf l .h) × (windowsOf l .d i ≤ windowsOf l .h)
-  list-in-day i =
-      le-or-lt (windowsOf l .n) i
-      (λ h. rw (past-end l i h) (omega arith))
-      (λ h. let s = sound-at i h in (omega arith, s .in-day))
-
-  -- so the windows are the mirror of their mirror
-  pub list-mirror : mirror (mirror (windowsOf l)) ≡ windowsOf l
-  list-mirror = mirror-mirror (windowsOf l) (λ i _. list-in-day i .0) (λ i _. list-in-day i .1)
 
   -- the law holds of them
   pub list-law : PlanLaw (windowsOf l)

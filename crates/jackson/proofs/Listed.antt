@@ -29,3 +29,7 @@ pub list-is : (n : ℕ) (f : ℕ → ℕ) (z : ℕ) (xs : List ℕ) → length x
 list-is n f z xs long each =
     ext-getD z (listOf n f) xs (list-length n f ∙ sym long)
     (λ t h. let below : t < n = omega (arith, list-length n f) in list-at n f z t below ∙ each t below)
+
+-- and lists of the same values are the same
+pub list-same : (n : ℕ) (f g : ℕ → ℕ) → ((t : ℕ) → t < n → f t ≡ g t) → listOf n f ≡ listOf n g
+list-same n f g e = list-is n f 0 (listOf n g) (list-length n g) (λ t h. e t h ∙ sym (list-at n g 0 t h))

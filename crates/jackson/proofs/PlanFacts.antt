@@ -7,14 +7,13 @@ use Prim.Native.Nat.{ℕ, suc, _+_, _-_, _<_, _≤_}
 use native.Mathlib.Omega.{arith}
 use borrow.Author.Tests.{eqb-true, eq-eqb, lt-ltb, le-ltb}
 use lib.Dec.{eqb, leb, ltb}
-use lib.ListN.{length}
 use Rattle.jackson.specs.Counting.{same}
-use Rattle.jackson.specs.Windows.{Windows, Roomy, Inside, withWindows}
+use Rattle.jackson.specs.Windows.{Windows, Inside, withWindows}
 use Rattle.jackson.specs.Plans.{minutesOf, Plan, startOf, endOf, IsStart, IsEnd, idle, placesIn, PlanBytes}
 use Rattle.jackson.specs.Mirrors.{mirror, mirrorPlan, mirrorBytes}
 use Rattle.jackson.proofs.Sums.{le-or-lt, same-cases, same-ne, between-is}
 use Rattle.jackson.proofs.Sums.{sum-le, sum-lt, sum-cong, sum-zero, sum-reverse, count-between}
-use Rattle.jackson.proofs.Listed.{list-length, list-at, list-is}
+use Rattle.jackson.proofs.Listed.{list-length, list-at}
 use Rattle.jackson.proofs.Searches.{First, first-below, last-below, last-first, first-last, turn-back}
 
 -- Mirrors.
@@ -56,14 +55,6 @@ mirror-mirror w release deadline =
 -- and so is a plan, in the day's minutes
 pub mirror-twice : (h : ℕ) (m : ℕ → ℕ) (t : ℕ) → t < h → mirrorPlan h (mirrorPlan h m) t ≡ m t
 mirror-twice h m t below = ap m (turn-back h t below)
-
--- windows with room have it in the mirror
-pub mirror-roomy : (w : Windows) → Roomy w → Roomy (mirror w)
-mirror-roomy w roomy =
-    record {
-      in-day = λ i place some. rw (lt-ltb i (w .n) place) (omega arith);
-      room = λ i place some. rw (lt-ltb i (w .n) place) (omega (arith, roomy .in-day i place some, roomy .room i place some));
-    }
 
 -- starts and ends change places
 pub mirror-end : (h : ℕ) (m : ℕ → ℕ) (i : ℕ) → endOf h (mirrorPlan h m) i ≡ h - startOf h m i
@@ -159,11 +150,6 @@ module _ (w : Windows) (m : ℕ → ℕ) (plan : Plan w m) (i : ℕ) (place : i 
   filled full in-day =
       minutes-fill (w .h) m i (w .r i) (w .d i) (λ t. plan .inside i t place) in-day (omega (arith, plan .exact i place))
 
-  -- an entry whose start plus p is its end has its minutes one after another
-  pub consecutive : (s e : ℕ) → IsStart (w .h) m i s → IsEnd (w .h) m i e → s + w .p i ≡ e → (t : ℕ) → s ≤ t → t < e → m t ≡ i
-  consecutive s e start end full =
-      minutes-fill (w .h) m i s e (start-to-end (w .h) m i s e start end) (end .within) (omega (arith, plan .exact i place))
-
   module _ (some : 1 ≤ w .p i) where
     -- a window in a plan has room for its entry's minutes
     pub plan-room : w .r i + w .p i ≤ w .d i
@@ -200,8 +186,3 @@ mirror-bytes w bs bytes =
       places = λ t below. rw (mirror-at (w .h) bs t below) (bytes .places (w .h - suc t) (omega arith));
       plan = plan-same (mirror w) _ _ (mirror-at (w .h) bs) (mirror-plan w (placesIn bs) (bytes .plan));
     }
-
--- and its own mirror is those bytes
-pub mirror-bytes-twice : (h : ℕ) (bs : List ℕ) → length bs ≡ h → mirrorBytes h (mirrorBytes h bs) ≡ bs
-mirror-bytes-twice h bs long =
-    list-is h _ idle bs long (λ t below. mirror-at h bs (h - suc t) (omega arith) ∙ mirror-twice h (placesIn bs) t below)

@@ -4,8 +4,16 @@ use mathlib.Core.Path.{_≡_, refl}
 use mathlib.Core.Bool.{Bool, true, false, cond, _||_, true≢false}
 use mathlib.Core.List.{[], _∷_}
 use Prim.Native.Nat.{ℕ, _<_}
+use native.Mathlib.Omega.{arith}
 use Rattle.list.specs.Reading.{PlaceIn}
 use Rattle.list.specs.Outcomes.{Code, code, Outcome, answered, refused, andThen}
+
+-- an outcome answers one thing, and does not refuse it
+pub answered-same : {A : Type 0} {o : Outcome A} {a b : A} → o ≡ answered a → o ≡ answered b → a ≡ b
+answered-same e f = cc (e, f)
+
+pub answered-refused : {A : Type 0} {o : Outcome A} {a : A} {x : Code} → o ≡ answered a → o ≡ refused x → ⊥
+answered-refused e f = let z : _≡_ {A = ℕ} 0 1 = cc (e, f) in omega arith
 
 -- P of what is answered, R of a refusal
 abbrev pub Says : {A : Type 0} → (A → Type 0) → (Code → Type 0) → Outcome A → Type 0

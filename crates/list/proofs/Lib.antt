@@ -1,4 +1,5 @@
--- What the crates above may cite: what a well-formed list is, inversions of outcomes, the round trips, that number and values tell one verdict, and laws on walks over arrays and on runs of stores. The rest serves this crate alone.
+-- What the crates above may cite: what a well-formed list is, inversions of outcomes, the round trips, that number and values tell one
+-- verdict, and laws on walks over arrays and on runs of stores. The rest serves this crate alone.
 mod Table
 mod MapBytes
 mod Places

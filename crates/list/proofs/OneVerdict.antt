@@ -2,16 +2,15 @@
 -- Assumes nothing.
 use mathlib.Core.Path.{_≡_, refl, sym, ap, _∙_}
 use mathlib.Core.Bool.{cond}
-use Prim.Native.Nat.{ℕ}
-use native.Mathlib.Omega.{arith}
 use lib.Dec.{eqb}
 use lib.ListN.{getD}
-use Rattle.list.specs.Outcomes.{Code, answered, refused}
+use Rattle.list.specs.Outcomes.{Code}
 use Rattle.list.specs.Refusals.{codeOf, outcomeOf}
 use Rattle.list.specs.declared.types.Refusal.{Refusal}
 use Rattle.list.specs.declared.types.Refusal.the-variants.{BytesMissing, BadDayLength, TooManyEntries, BadMapByte, DefaultWritten, NoMinutes, BadWindow, BytesLeftOver, Overloaded, NoPlace, PlanBufferShort, ListBufferShort, UnknownPlace}
 use Rattle.list.specs.declared.types.Verdict.{Verdict}
 use Rattle.list.specs.declared.types.Verdict.the-variants.{Accepted, Refused}
+use Rattle.list.proofs.Inversion.{answered-refused}
 
 -- the refusal with these number and values
 abbrev refusalOf : Code → Refusal
@@ -46,14 +45,10 @@ refusal-is (PlanBufferShort x) = refl
 refusal-is (ListBufferShort x) = refl
 refusal-is (UnknownPlace x) = refl
 
--- an answer is no refusal
-apart : {A : Type 0} {a : A} {k : Code} → answered a ≡ refused k → ⊥
-apart e = let z : _≡_ {A = ℕ} 0 1 = cc e in omega arith
-
 pub one-verdict : {A : Type 0} (u v : Verdict) (x y : A) → outcomeOf u x ≡ outcomeOf v y → u ≡ v
 one-verdict Accepted Accepted x y e = refl
-one-verdict Accepted (Refused k) x y e = absurd (apart e)
-one-verdict (Refused j) Accepted x y e = absurd (apart (sym e))
+one-verdict Accepted (Refused k) x y e = absurd (answered-refused refl e)
+one-verdict (Refused j) Accepted x y e = absurd (answered-refused refl (sym e))
 one-verdict (Refused j) (Refused k) x y e =
     let codes : codeOf j ≡ codeOf k = cc e in
     let same : j ≡ k = sym (refusal-is j) ∙ ap refusalOf codes ∙ refusal-is k in

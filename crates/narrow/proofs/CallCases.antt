@@ -15,6 +15,7 @@ use Rattle.list.specs.declared.types.Refusal.{Refusal}
 use Rattle.list.specs.declared.types.Verdict.{Verdict}
 use Rattle.list.specs.declared.types.Verdict.the-variants.{Accepted, Refused}
 use Rattle.list.proofs.Sound.{SoundList, sound-list}
+use Rattle.list.proofs.Inversion.{answered-refused}
 use Rattle.jackson.specs.Counting.{sum}
 use Rattle.jackson.specs.Windows.{Windows, windowsOf, windowsIn}
 use Rattle.jackson.specs.Intervals.{overloadOf}
@@ -29,7 +30,6 @@ use Rattle.narrow.specs.declared.types.NarrowAnswer.{NarrowAnswer}
 use Rattle.narrow.specs.declared.rounds.VisitAnswer.{VisitAnswer}
 use Rattle.narrow.proofs.Keeping.{Keeps}
 use Rattle.narrow.proofs.Costs.{round-cost, rounds-cost}
-use Rattle.narrow.proofs.RoundsEnd.{answered-refused}
 use Rattle.narrow.proofs.NarrowLaws.{round-law, narrow-law}
 use Rattle.narrow.proofs.OverloadPlanner.{overload-planner}
 use Rattle.narrow.proofs.ListCases.{listed-windows, listed-whole, listed-formed}

@@ -6,8 +6,8 @@ pub mod Puts
 pub mod MirrorSearches
 pub mod Keeping
 pub mod Costs
-pub mod RoundsEnd
--- Searches are exact, settled sets are settled in the mirror and stay inside, and the law of narrowing. The crates above are to cite NarrowLaws.
+mod RoundsEnd
+-- Searches are exact, settled sets are settled in the mirror and stay inside, and the law of narrowing: NarrowLaws.
 pub mod Exact
 pub mod MirrorSettled
 mod SettledSteps
@@ -20,7 +20,7 @@ mod VisitOrder
 pub mod MirrorRounds
 pub mod SingleRounds
 pub mod Alike
--- What the code's proofs cite, case by case; those of the crates above too ArrayCases and CallCases.
+-- What the code's proofs cite, case by case. Those of the crates above cite ArrayCases and CallCases too.
 pub mod ArrayCases
 mod SearchCases
 mod EndCases

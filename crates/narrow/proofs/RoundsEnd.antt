@@ -6,19 +6,13 @@ use Prim.Native.Nat.{ℕ, zero, suc, _<_}
 use native.Mathlib.Omega.{arith}
 use borrow.Author.Tests.{eqb-true, eqb-false}
 use lib.Dec.{eqb}
-use Rattle.list.specs.Outcomes.{Code, Outcome, answered, refused, andThen}
+use Rattle.list.specs.Outcomes.{Outcome, answered, refused, andThen}
+use Rattle.list.proofs.Inversion.{answered-same, answered-refused}
 use Rattle.narrow.specs.Searching.{Test}
 use Rattle.narrow.specs.Rounds.{Narrowed, round}
 use Rattle.narrow.specs.Rounds.{RoundsGive, last, next, stopped, rounds, slack}
 use Rattle.narrow.specs.Laws.{Formed}
 use Rattle.narrow.proofs.Costs.{Costs, by-test, round-cost}
-
--- an outcome answers one thing, and does not refuse it
-pub answered-same : {A : Type 0} {o : Outcome A} {a b : A} → o ≡ answered a → o ≡ answered b → a ≡ b
-answered-same e f = cc (e, f)
-
-pub answered-refused : {A : Type 0} {o : Outcome A} {a : A} {x : Code} → o ≡ answered a → o ≡ refused x → ⊥
-answered-refused e f = let z : _≡_ {A = ℕ} 0 1 = cc (e, f) in omega arith
 
 module _ (test : Test) (whole : ℕ → Bool) where
   -- each round but the last cuts a minute, so that this many are enough

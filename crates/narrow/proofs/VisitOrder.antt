@@ -4,7 +4,7 @@ use mathlib.Core.Path.{_≡_, refl, sym, ap, _∙_}
 use Prim.Native.Nat.{ℕ, _+_, _-_, _<_, _≤_}
 use native.Mathlib.Omega.{arith}
 use Rattle.list.specs.Outcomes.{Outcome, answered, refused, andThen}
-use Rattle.list.proofs.Inversion.{Says}
+use Rattle.list.proofs.Inversion.{Says, answered-same, answered-refused}
 use Rattle.jackson.specs.Windows.{Windows}
 use Rattle.jackson.proofs.Sums.{le-or-lt}
 use Rattle.narrow.specs.Searching.{Test, put, withR, withD, leastStart, greatestEnd, IsLeastStart, NoStart, IsGreatestEnd, NoEnd}
@@ -14,7 +14,6 @@ use Rattle.narrow.proofs.Planners.{Planner}
 use Rattle.narrow.proofs.Puts.{put-same, fixed-up-to, window-after-r, window-after-d}
 use Rattle.narrow.proofs.Keeping.{Keeps, RefusedAt, keeps-r, step-says}
 use Rattle.narrow.proofs.Costs.{moved-same}
-use Rattle.narrow.proofs.RoundsEnd.{answered-same, answered-refused}
 use Rattle.narrow.proofs.Exact.{SearchSays, start-searched, end-searched, search-law}
 
 module _ (w : Windows) (k s : ℕ) (start : IsLeastStart w k s) where
