@@ -11,15 +11,15 @@ use lib.Seq.{drop-cons, sets, sets-eq}
 use Rattle.list.proofs.Stores.{sets-append}
 
 -- i of the numbers xs were stored from place at on, over what was there
-pub record StoredSoFar (old : List ℕ) (at : ℕ) (xs now : List ℕ) (i : ℕ) : Type 0 where
+pub record PlacesSoFar (old : List ℕ) (at : ℕ) (xs now : List ℕ) (i : ℕ) : Type 0 where
   pub passed : i ≤ 64
   pub rest : sets now (at + i) (drop i xs) ≡ sets old at xs
 
-pub stored-start : (old : List ℕ) (at : ℕ) (xs : List ℕ) → StoredSoFar old at xs old 0
+pub stored-start : (old : List ℕ) (at : ℕ) (xs : List ℕ) → PlacesSoFar old at xs old 0
 stored-start old at xs = record { passed = omega arith; rest = rw (add-zero at) }
 
-module _ {old : List ℕ} {at : ℕ} {xs now : List ℕ} {i : ℕ} (s : StoredSoFar old at xs now i) (k : length xs ≡ 64) where
-  pub stored-next : (x₀ : ℕ) → i < 64 → StoredSoFar old at xs (set now (at + i) (getD xs i x₀)) (i + 1)
+module _ {old : List ℕ} {at : ℕ} {xs now : List ℕ} {i : ℕ} (s : PlacesSoFar old at xs now i) (k : length xs ≡ 64) where
+  pub stored-next : (x₀ : ℕ) → i < 64 → PlacesSoFar old at xs (set now (at + i) (getD xs i x₀)) (i + 1)
   stored-next x₀ h =
       let next : drop i xs ≡ getD xs i x₀ ∷ drop (i + 1) xs = rw (add-one i) (drop-cons xs i x₀ (omega (arith, k))) in
       let z : at + i + 1 ≡ at + (i + 1) = omega arith in

@@ -1,15 +1,15 @@
--- The loop's invariant is `StoredSoFar`. The measure is what is left of 64.
+-- The loop's invariant is `PlacesSoFar`. The measure is what is left of 64.
 -- Assumes nothing.
 use borrow.Author.Needs.{needs}
 use mathlib.Core.Path.{_≡_}
 use Prim.Native.Nat.{_-_}
 use lib.ListN.{length}
-use Rattle.abi.proofs.BoundsCases.{StoredSoFar, stored-start, stored-next, stored-done}
+use Rattle.abi.proofs.BoundsCases.{PlacesSoFar, stored-start, stored-next, stored-done}
 use Rattle.abi.proofs.flat_bounds.put_places.Statement.{statement}
 use Rattle.abi.proofs.flat_bounds.put_places.Tie as tie
 
 abbrev Inv-loop : tie.InvT-loop
-Inv-loop bounds₀ at xs i₀ bounds i = StoredSoFar bounds₀ at xs bounds i
+Inv-loop bounds₀ at xs i₀ bounds i = PlacesSoFar bounds₀ at xs bounds i
 
 abbrev μ-loop : tie.MeasureT-loop
 μ-loop bounds₀ at xs i₀ bounds i = 64 - i
