@@ -28,7 +28,7 @@ use Rattle.bounds.specs.declared.types.PlanAnswer.{PlanAnswer}
 use Rattle.bounds.specs.declared.types.ShownAnswer.{ShownAnswer}
 use Rattle.codes.specs.Numbers.{three}
 use Rattle.abi.specs.Flat.{flatOf, valueOf}
-use Rattle.abi.specs.Calls.{answerWith, ReadCall, WriteCall, OverloadCall, ScheduleCall, NarrowCall, PlanCall, ShownSaid, EarlyCall, LateCall}
+use Rattle.abi.specs.Calls.{answerWith, ReadCall, WriteCall, OverloadCall, ScheduleCall, NarrowCall, PlanCall, ShownCall, EarlyCall, LateCall}
 use Rattle.abi.specs.declared.Answer.{Answer}
 
 -- an answer made of a refusal
@@ -107,7 +107,7 @@ shown-said : {l : DayList} {k : ℕ} {oldPlan newPlan oldFields newFields : List
     {told : ShownAnswer → List ℕ → Told} {a : ShownAnswer} {b : Answer}
     → ShowsPlan l k oldPlan s m told a newPlan
     → NarrowCall (narrowAnswerOf (a .narrowed)) (a .bound) oldFields b newFields
-    → ShownSaid l s m (shownOf l k (length oldPlan)) oldPlan oldFields b newPlan newFields
+    → ShownCall l s m (shownOf l k (length oldPlan)) oldPlan oldFields b newPlan newFields
 shown-said w given = record { narrowed = rw (← (w .answers .outcome), ← (w .bound)) given; plan = w .buffer }
 
 -- of the list value that xs say

@@ -68,7 +68,7 @@ RoundCall xs = NarrowCall (listed (valueOf xs) (roundOf (valueOf xs))) 0
 
 -- an answer where planning the list l has the outcome o, with the moves and the number of broken entries, and what it leaves in a plan
 -- buffer, fields and bounds that held the old ones: the bounds are the least ends, then the greatest starts
-pub record PlanSaid (l : DayList) (o : Outcome Narrowed) (oldPlan oldFields oldBounds : List ℕ)
+pub record PlannedCall (l : DayList) (o : Outcome Narrowed) (oldPlan oldFields oldBounds : List ℕ)
     (a : Answer) (newPlan newFields newBounds : List ℕ) : Type 0 where
   pub narrowed : NarrowCall (listed l o) (brokenOf (wholeIn l) o) oldFields a newFields
   pub plan : newPlan ≡ planned schedule oldPlan o
@@ -76,11 +76,11 @@ pub record PlanSaid (l : DayList) (o : Outcome Narrowed) (oldPlan oldFields oldB
 
 -- what `dock_plan` answers of the list value that xs say, and leaves in what is lent
 abbrev pub PlanCall : List ℕ → List ℕ → List ℕ → List ℕ → Answer → List ℕ → List ℕ → List ℕ → Type 0
-PlanCall xs oldPlan = PlanSaid (valueOf xs) (planOf (valueOf xs) (length oldPlan)) oldPlan
+PlanCall xs oldPlan = PlannedCall (valueOf xs) (planOf (valueOf xs) (length oldPlan)) oldPlan
 
 -- an answer where showing a plan of the list l has the outcome o, with the moves and the bound b of the settled windows, and what it
 -- leaves in a plan buffer and fields that held the old ones: m is the plan in the settled windows
-pub record ShownSaid (l : DayList) (b : Windows → ℕ) (m : Windows → List ℕ) (o : Outcome Narrowed) (oldPlan oldFields : List ℕ)
+pub record ShownCall (l : DayList) (b : Windows → ℕ) (m : Windows → List ℕ) (o : Outcome Narrowed) (oldPlan oldFields : List ℕ)
     (a : Answer) (newPlan newFields : List ℕ) : Type 0 where
   pub narrowed : NarrowCall (listed l o) (settledOr 0 b o) oldFields a newFields
   pub plan : newPlan ≡ planned m oldPlan o
@@ -89,9 +89,9 @@ pub record ShownSaid (l : DayList) (b : Windows → ℕ) (m : Windows → List �
 abbrev pub EarlyCall : List ℕ → ℕ → List ℕ → List ℕ → Answer → List ℕ → List ℕ → Type 0
 EarlyCall xs k oldPlan =
     let l = valueOf xs in
-    ShownSaid l (λ w. leastEnd overloadOf (wholeIn l) w k) (earlyOf (wholeIn l) k) (shownOf l k (length oldPlan)) oldPlan
+    ShownCall l (λ w. leastEnd overloadOf (wholeIn l) w k) (earlyOf (wholeIn l) k) (shownOf l k (length oldPlan)) oldPlan
 
 abbrev pub LateCall : List ℕ → ℕ → List ℕ → List ℕ → Answer → List ℕ → List ℕ → Type 0
 LateCall xs k oldPlan =
     let l = valueOf xs in
-    ShownSaid l (λ w. greatestStart overloadOf (wholeIn l) w k) (lateOf (wholeIn l) k) (shownOf l k (length oldPlan)) oldPlan
+    ShownCall l (λ w. greatestStart overloadOf (wholeIn l) w k) (lateOf (wholeIn l) k) (shownOf l k (length oldPlan)) oldPlan

@@ -37,13 +37,13 @@ use Rattle.bounds.specs.BrokenEntries.{brokenIn}
 use Rattle.bounds.specs.Demand3.{Told, Demand3}
 use Rattle.bounds.specs.Calls.{planChecks, shownChecks, narrowAfter, byPlace, settledOr, planned, planOf, shownOf, leastEnds, greatestStarts, brokenOf, earlyOf, lateOf, toldByPlan, toldByEarly, toldByLate, PlansWindows, PlansDay, ShowsEarly, ShowsLate}
 use Rattle.narrow.specs.Parts.{Searchable}
-use Rattle.bounds.specs.Parts.{HoldsBounded, StoresEarly, HoldsPlan, NarrowsAfter}
+use Rattle.bounds.specs.Parts.{HoldsFormed, StoresEarly, HoldsPlan, NarrowsAfter}
 use Rattle.bounds.specs.declared.types.PlanAnswer.{PlanAnswer}
 use Rattle.bounds.specs.declared.types.ShownAnswer.{ShownAnswer}
 use Rattle.bounds.proofs.Demands.{demand3}
-use Rattle.bounds.proofs.EndCases.{by-place, bounded-at, bounded-mirror}
+use Rattle.bounds.proofs.EndCases.{by-place, searchable-at, formed-in-mirror}
 use Rattle.bounds.proofs.ShownCases.{stored-long, schedule-long}
-use Rattle.bounds.proofs.CallCases.{plan-formed, plan-room, shown-plan, IsSettled, is-settled, settled-few, settled-day, settled-plan, settled-bounded, place-in-list, day-is, ends-are, starts-are, plan-is, plan-long, plan-held, broken-is, early-bound, early-stored, end-in-day, late-bound, late-stored}
+use Rattle.bounds.proofs.CallCases.{plan-formed, plan-room, shown-plan, IsSettled, is-settled, settled-few, settled-day, settled-plan, settled-formed-in, place-in-list, day-is, ends-are, starts-are, plan-is, plan-long, plan-held, broken-is, early-bound, early-stored, end-in-day, late-bound, late-stored}
 
 -- what is told of place k in the windows w, by the rules
 record AtPlace (whole : ℕ → Bool) (w : Windows) (told : Told) (k : ℕ) : Type 0 where
@@ -207,8 +207,8 @@ module _ (l : DayList) (old : List ℕ) (checks : Verdict) (are : verdictOf chec
     room : l .frame .h ≤ length old
     room = plan-room l (length old) (plan-settled .passed)
 
-    pub plan-bounded : HoldsBounded (a .list) s
-    plan-bounded = settled-bounded l _ a plan-settled s holds
+    pub plan-formed-in : HoldsFormed (a .list) s
+    plan-formed-in = settled-formed-in l _ a plan-settled s holds
 
     module _ (v : Verdict) (new : List ℕ) (fills : FillsWindows (windowsIn s) old v new) where
       pub plan-holds : HoldsPlan (a .list) (s .h) new
@@ -260,8 +260,8 @@ module _ (l : DayList) (k : ℕ) (old : List ℕ) (checks : Verdict) (are : verd
     shown-buffer : l .frame .h ≤ length old
     shown-buffer = plan-room l (length old) (passed .1)
 
-    pub shown-bounded : Searchable s k
-    shown-bounded = bounded-at (a .list) s (settled-bounded l _ a shown-settled s holds) k shown-place
+    pub shown-searchable : Searchable s k
+    shown-searchable = searchable-at (a .list) s (settled-formed-in l _ a shown-settled s holds) k shown-place
 
     pub shown-room : s .h ≤ length old
     shown-room = omega (arith, day-is l _ a shown-settled s holds, shown-buffer)
@@ -275,10 +275,10 @@ module _ (l : DayList) (k : ℕ) (old : List ℕ) (checks : Verdict) (are : verd
 
       -- in the mirror
       module _ (t : WindowSet) (turned : MirrorOf s t) where
-        pub mirror-bounded : Searchable t k
-        mirror-bounded =
-            let has = settled-bounded l _ a shown-settled s holds in
-            bounded-at (a .list) t (bounded-mirror (a .list) s has t turned) k shown-place
+        pub mirror-searchable : Searchable t k
+        mirror-searchable =
+            let has = settled-formed-in l _ a shown-settled s holds in
+            searchable-at (a .list) t (formed-in-mirror (a .list) s has t turned) k shown-place
 
         mirror-h : t .h ≡ s .h
         mirror-h = ap (λ (w : Windows). w .h) (turned .windows)

@@ -41,7 +41,7 @@ use Rattle.narrow.proofs.CallCases.{list-formed, answers-refused, holds-answer}
 use Rattle.bounds.specs.Ends.{leastEnd, greatestStart}
 use Rattle.bounds.specs.ShownPlans.{earlyPlan, latePlan}
 use Rattle.bounds.specs.BrokenEntries.{brokenIn}
-use Rattle.bounds.specs.Parts.{HoldsBounded, StoresEarly, HoldsPlan, NarrowsAfter}
+use Rattle.bounds.specs.Parts.{HoldsFormed, StoresEarly, HoldsPlan, NarrowsAfter}
 use Rattle.bounds.proofs.Demands.{plans-windows}
 use Rattle.bounds.proofs.EndCases.{least-end-kind}
 use Rattle.bounds.proofs.EndSearches.{least-end-range}
@@ -177,11 +177,11 @@ module _ (l : DayList) (checks : Outcome (Unit {0})) (a : NarrowAnswer) (settled
   settled-plan = plans-windows (wholeIn l) (windowsOf (a .list)) settled-formed (settled .widest .settled .plan)
 
   module _ (s : WindowSet) (holds : Holds (a .list) s) where
-    pub settled-bounded : HoldsBounded (a .list) s
-    settled-bounded = record { formed = rw (holds .windows) settled-formed; count = omega (arith, holds .n, settled .few) }
+    pub settled-formed-in : HoldsFormed (a .list) s
+    settled-formed-in = record { formed = rw (holds .windows) settled-formed; count = omega (arith, holds .n, settled .few) }
 
     count-is : windowsOf (a .list) .n ≡ a .list .n
-    count-is = ap (λ (w : Windows). w .n) (sym (holds .windows)) ∙ settled-bounded .count
+    count-is = ap (λ (w : Windows). w .n) (sym (holds .windows)) ∙ settled-formed-in .count
 
     pub place-in-list : WellFormed l → length (l .entries) ≡ 64 → (k : ℕ) → k < l .n → k < a .list .n
     place-in-list formed long k h =

@@ -25,7 +25,7 @@ use Rattle.narrow.proofs.MirrorSearches.{formed-mirror}
 use Rattle.bounds.specs.Ends.{leastEnd, greatestStart}
 use Rattle.bounds.specs.Calls.{byPlace}
 use Rattle.narrow.specs.Parts.{Searchable}
-use Rattle.bounds.specs.Parts.{HoldsBounded}
+use Rattle.bounds.specs.Parts.{HoldsFormed}
 use Rattle.bounds.proofs.EndSearches.{deadline-mono, least-end-whole, least-end-found, least-end-range}
 use Rattle.bounds.proofs.MirrorEnds.{start-by-mirror}
 
@@ -159,16 +159,16 @@ module _ (f : ℕ → ℕ) (n : ℕ) where
   placed-all xs i so h = let z : i ≡ n = omega (arith, so .passed) in rw (← z) (so .is)
 
 -- the entries of a list and their windows in arrays
-module _ (l : DayList) (s : WindowSet) (has : HoldsBounded l s) where
-  pub bounded-few : l .n ≤ 64
-  bounded-few = omega (arith, has .count)
+module _ (l : DayList) (s : WindowSet) (has : HoldsFormed l s) where
+  pub formed-few : l .n ≤ 64
+  formed-few = omega (arith, has .count)
 
-  pub bounded-at : (i : ℕ) → i < l .n → Searchable s i
-  bounded-at i h = record { formed = has .formed; place = omega (arith, has .count, h) }
+  pub searchable-at : (i : ℕ) → i < l .n → Searchable s i
+  searchable-at i h = record { formed = has .formed; place = omega (arith, has .count, h) }
 
   module _ (t : WindowSet) (turned : MirrorOf s t) where
-    pub bounded-mirror : HoldsBounded l t
-    bounded-mirror =
+    pub formed-in-mirror : HoldsFormed l t
+    formed-in-mirror =
         record { formed = rw (turned .windows) (formed-mirror (windowsIn s) (has .formed)); count = ap (λ (x : ℕ). min x 64) (turned .n) ∙ has .count }
 
     -- the mirrors of the least ends in the mirror
@@ -176,13 +176,13 @@ module _ (l : DayList) (s : WindowSet) (has : HoldsBounded l s) where
       mirror-end : (i : ℕ) → i < l .n → getD ends i 0 ≡ leastEnd overloadOf (wholeIn l) (mirror (windowsIn s)) i
       mirror-end i h =
           ap (λ (xs : List ℕ). getD xs i 0) are
-          ∙ by-place _ (l .n) i bounded-few h
+          ∙ by-place _ (l .n) i formed-few h
           ∙ ap (λ (w : Windows). leastEnd overloadOf (wholeIn l) w i) (turned .windows)
 
       pub mirror-end-in-day : (i : ℕ) → i < l .n → getD ends i 0 ≤ s .h
       mirror-end-in-day i h =
           let formed = formed-mirror (windowsIn s) (has .formed) in
-          let place = bounded-at i h .place in
+          let place = searchable-at i h .place in
           omega (arith, mirror-end i h, least-end-range overloadOf (wholeIn l) (mirror (windowsIn s)) formed i place .1, formed .in-day i place)
 
       pub starts-by-mirror : byPlace (l .n) (λ i. s .h - getD ends i 0) ≡ byPlace (l .n) (greatestStart overloadOf (wholeIn l) (windowsIn s))
@@ -190,4 +190,4 @@ module _ (l : DayList) (s : WindowSet) (has : HoldsBounded l s) where
           by-place-same (l .n) _ _
           (λ i h.
           ap (λ (x : ℕ). s .h - x) (mirror-end i h)
-          ∙ sym (start-by-mirror overload-planner (windowsIn s) (has .formed) i (bounded-at i h .place) (wholeIn l)))
+          ∙ sym (start-by-mirror overload-planner (windowsIn s) (has .formed) i (searchable-at i h .place) (wholeIn l)))

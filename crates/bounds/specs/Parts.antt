@@ -17,7 +17,7 @@ use Rattle.bounds.specs.Ends.{leastEnd}
 use Rattle.bounds.specs.Calls.{narrowAfter, earlyOf}
 
 -- arrays with windows that have room, one for each entry of the list
-pub record HoldsBounded (l : DayList) (s : WindowSet) : Type 0 where
+pub record HoldsFormed (l : DayList) (s : WindowSet) : Type 0 where
   pub formed : Formed (windowsIn s)
   pub count : windowsIn s .n ≡ l .n
 

@@ -15,7 +15,7 @@ ghost use Rattle.narrow.specs.Calls.{wholeIn};
 ghost use Rattle.narrow.specs.Parts.{Searchable};
 ghost use Rattle.bounds.specs.Ends.{leastEnd, greatestStart};
 ghost use Rattle.bounds.specs.Calls.{byPlace};
-ghost use Rattle.bounds.specs.Parts.{HoldsBounded};
+ghost use Rattle.bounds.specs.Parts.{HoldsFormed};
 
 // Whether the entry at place k is whole.
 pub(crate) fn whole_at(list: DayList, k: usize) -> bool
@@ -65,7 +65,7 @@ pub(crate) fn least_end(windows: WindowSet, k: usize, whole: bool) -> u16
 
 // The least ends of the list's entries in these windows. Places from n on are 0.
 pub(crate) fn least_ends(list: DayList, windows: WindowSet) -> [u16; 64]
-    requires { ⌜ HoldsBounded list windows ⌝ }
+    requires { ⌜ HoldsFormed list windows ⌝ }
     ensures { λ xs. ⌜ xs ≡ byPlace (list .n) (leastEnd overloadOf (wholeIn list) (windowsIn windows)) ⌝ }
 {
     let mut ends = zeros();
@@ -80,7 +80,7 @@ pub(crate) fn least_ends(list: DayList, windows: WindowSet) -> [u16; 64]
 
 // The greatest starts: the mirrors of the least ends in the mirror.
 pub(crate) fn greatest_starts(list: DayList, windows: WindowSet) -> [u16; 64]
-    requires { ⌜ HoldsBounded list windows ⌝ }
+    requires { ⌜ HoldsFormed list windows ⌝ }
     ensures { λ xs. ⌜ xs ≡ byPlace (list .n) (greatestStart overloadOf (wholeIn list) (windowsIn windows)) ⌝ }
 {
     let h = windows.h;

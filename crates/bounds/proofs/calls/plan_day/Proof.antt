@@ -4,7 +4,7 @@ use borrow.Author.Needs.{needs}
 use mathlib.Core.Path.{sym, _∙_}
 use lib.ListN.{length}
 use Rattle.bounds.proofs.CallCases.{plan-formed}
-use Rattle.bounds.proofs.AnswerCases.{plan-turned, plan-bounded, plan-holds, plan-same-length, plan-done}
+use Rattle.bounds.proofs.AnswerCases.{plan-turned, plan-formed-in, plan-holds, plan-same-length, plan-done}
 use Rattle.bounds.proofs.calls.plan_day.Statement.{statement}
 use Rattle.bounds.proofs.calls.plan_day.Tie as tie
 
@@ -42,10 +42,10 @@ broken-in-requires : tie.Need-broken-in-requires
 broken-in-requires c κs = plan-holds (c .before .before .before .before .before .before .before .before .before .before .before .before .before .args .list) (c .before .before .before .before .before .before .before .before .before .before .before .before .before .args .plan .now) (c .before .before .before .before .before .before .before .before .before .before .before .plan-checks .result) (c .before .before .before .before .before .before .before .before .before .before .before .plan-checks .ensures) (c .before .before .before .before .before .before .before .before .before .before .settled-after .result) (c .before .before .before .before .before .before .before .before .before .before .settled-after .ensures) (c .before .before .before .before .before .before .before .before .enum-told .given .1) (c .before .before .before .before .before .before .untested-windows .result) (c .before .before .before .before .before .before .untested-windows .ensures) (c .before .before .before .before .untested-schedule .result) _ (c .before .before .before .before .untested-schedule .ensures)
 
 least-ends-requires : tie.Need-least-ends-requires
-least-ends-requires c κs = plan-bounded (c .before .before .before .before .before .before .before .before .before .before .before .before .before .before .args .list) (c .before .before .before .before .before .before .before .before .before .before .before .before .before .before .args .plan .now) (c .before .before .before .before .before .before .before .before .before .before .before .before .plan-checks .result) (c .before .before .before .before .before .before .before .before .before .before .before .before .plan-checks .ensures) (c .before .before .before .before .before .before .before .before .before .before .before .settled-after .result) (c .before .before .before .before .before .before .before .before .before .before .before .settled-after .ensures) (c .before .before .before .before .before .before .before .before .before .enum-told .given .1) (c .before .before .before .before .before .before .before .untested-windows .result) (c .before .before .before .before .before .before .before .untested-windows .ensures)
+least-ends-requires c κs = plan-formed-in (c .before .before .before .before .before .before .before .before .before .before .before .before .before .before .args .list) (c .before .before .before .before .before .before .before .before .before .before .before .before .before .before .args .plan .now) (c .before .before .before .before .before .before .before .before .before .before .before .before .plan-checks .result) (c .before .before .before .before .before .before .before .before .before .before .before .before .plan-checks .ensures) (c .before .before .before .before .before .before .before .before .before .before .before .settled-after .result) (c .before .before .before .before .before .before .before .before .before .before .before .settled-after .ensures) (c .before .before .before .before .before .before .before .before .before .enum-told .given .1) (c .before .before .before .before .before .before .before .untested-windows .result) (c .before .before .before .before .before .before .before .untested-windows .ensures)
 
 greatest-starts-requires : tie.Need-greatest-starts-requires
-greatest-starts-requires c κs = plan-bounded (c .before .before .before .before .before .before .before .before .before .before .before .before .before .before .before .args .list) (c .before .before .before .before .before .before .before .before .before .before .before .before .before .before .before .args .plan .now) (c .before .before .before .before .before .before .before .before .before .before .before .before .before .plan-checks .result) (c .before .before .before .before .before .before .before .before .before .before .before .before .before .plan-checks .ensures) (c .before .before .before .before .before .before .before .before .before .before .before .before .settled-after .result) (c .before .before .before .before .before .before .before .before .before .before .before .before .settled-after .ensures) (c .before .before .before .before .before .before .before .before .before .before .enum-told .given .1) (c .before .before .before .before .before .before .before .before .untested-windows .result) (c .before .before .before .before .before .before .before .before .untested-windows .ensures)
+greatest-starts-requires c κs = plan-formed-in (c .before .before .before .before .before .before .before .before .before .before .before .before .before .before .before .args .list) (c .before .before .before .before .before .before .before .before .before .before .before .before .before .before .before .args .plan .now) (c .before .before .before .before .before .before .before .before .before .before .before .before .before .plan-checks .result) (c .before .before .before .before .before .before .before .before .before .before .before .before .before .plan-checks .ensures) (c .before .before .before .before .before .before .before .before .before .before .before .before .settled-after .result) (c .before .before .before .before .before .before .before .before .before .before .before .before .settled-after .ensures) (c .before .before .before .before .before .before .before .before .before .before .enum-told .given .1) (c .before .before .before .before .before .before .before .before .untested-windows .result) (c .before .before .before .before .before .before .before .before .untested-windows .ensures)
 
 same-length : tie.Need-same-length
 same-length c = plan-same-length (c .before .before .before .before .before .before .before .before .before .before .before .before .before .before .before .before .args .list) (c .before .before .before .before .before .before .before .before .before .before .before .before .before .before .before .before .args .plan .now) (c .before .before .before .before .before .before .before .before .before .before .before .before .before .before .plan-checks .result) (c .before .before .before .before .before .before .before .before .before .before .before .before .before .before .plan-checks .ensures) (c .before .before .before .before .before .before .before .before .before .before .before .before .before .settled-after .result) (c .before .before .before .before .before .before .before .before .before .before .before .before .before .settled-after .ensures) (c .before .before .before .before .before .before .before .before .before .before .before .enum-told .given .1) (c .before .before .before .before .before .before .before .before .before .untested-windows .result) (c .before .before .before .before .before .before .before .before .before .untested-windows .ensures) (c .before .before .before .before .before .before .before .untested-schedule .result) _ (c .before .before .before .before .before .before .before .untested-schedule .ensures)

@@ -5,7 +5,7 @@ use mathlib.Core.Path.{_≡_, sym, _∙_}
 use lib.ListN.{length}
 use Rattle.list.proofs.Walk.{length-mapped}
 use Rattle.bounds.proofs.CallCases.{plan-formed, shown-plan}
-use Rattle.bounds.proofs.AnswerCases.{early-turned, shown-place, shown-few, shown-bounded, shown-room, early-done}
+use Rattle.bounds.proofs.AnswerCases.{early-turned, shown-place, shown-few, shown-searchable, shown-room, early-done}
 use Rattle.bounds.proofs.calls.show_early.Statement.{statement}
 use Rattle.bounds.proofs.calls.show_early.Tie as tie
 
@@ -31,7 +31,7 @@ whole-at-requires : tie.Need-whole-at-requires
 whole-at-requires c κs = let good = c .before .before .before .before .before .before .before .good in let fits = c .before .before .before .before .before .before .before .fits in let len : length (c .before .before .before .before .before .before .before .args .list .entries) ≡ 64 = search (length-mapped, good, fits) in (shown-place (c .before .before .before .before .before .before .before .args .list) (c .before .before .before .before .before .before .before .args .k) (c .before .before .before .before .before .before .before .args .plan .now) (c .before .before .before .before .before .shown-checks .result) (c .before .before .before .before .before .shown-checks .ensures) (c .before .before .before .before .settled-after .result) (c .before .before .before .before .settled-after .ensures) (c .before .before .enum-told .given .1) (c .untested-windows .result) (c .untested-windows .ensures) len, shown-few (c .before .before .before .before .before .before .before .args .list) (c .before .before .before .before .before .before .before .args .k) (c .before .before .before .before .before .before .before .args .plan .now) (c .before .before .before .before .before .shown-checks .result) (c .before .before .before .before .before .shown-checks .ensures) (c .before .before .before .before .settled-after .result) (c .before .before .before .before .settled-after .ensures) (c .before .before .enum-told .given .1) (c .untested-windows .result) (c .untested-windows .ensures) len)
 
 store-early-requires : tie.Need-store-early-requires
-store-early-requires c κs = let good = c .before .before .before .before .before .before .before .before .before .good in let fits = c .before .before .before .before .before .before .before .before .before .fits in let len : length (c .before .before .before .before .before .before .before .before .before .args .list .entries) ≡ 64 = search (length-mapped, good, fits) in (shown-bounded (c .before .before .before .before .before .before .before .before .before .args .list) (c .before .before .before .before .before .before .before .before .before .args .k) (c .before .before .before .before .before .before .before .before .before .args .plan .now) (c .before .before .before .before .before .before .before .shown-checks .result) (c .before .before .before .before .before .before .before .shown-checks .ensures) (c .before .before .before .before .before .before .settled-after .result) (c .before .before .before .before .before .before .settled-after .ensures) (c .before .before .before .before .enum-told .given .1) (c .before .before .untested-windows .result) (c .before .before .untested-windows .ensures) len, shown-room (c .before .before .before .before .before .before .before .before .before .args .list) (c .before .before .before .before .before .before .before .before .before .args .k) (c .before .before .before .before .before .before .before .before .before .args .plan .now) (c .before .before .before .before .before .before .before .shown-checks .result) (c .before .before .before .before .before .before .before .shown-checks .ensures) (c .before .before .before .before .before .before .settled-after .result) (c .before .before .before .before .before .before .settled-after .ensures) (c .before .before .before .before .enum-told .given .1) (c .before .before .untested-windows .result) (c .before .before .untested-windows .ensures) len)
+store-early-requires c κs = let good = c .before .before .before .before .before .before .before .before .before .good in let fits = c .before .before .before .before .before .before .before .before .before .fits in let len : length (c .before .before .before .before .before .before .before .before .before .args .list .entries) ≡ 64 = search (length-mapped, good, fits) in (shown-searchable (c .before .before .before .before .before .before .before .before .before .args .list) (c .before .before .before .before .before .before .before .before .before .args .k) (c .before .before .before .before .before .before .before .before .before .args .plan .now) (c .before .before .before .before .before .before .before .shown-checks .result) (c .before .before .before .before .before .before .before .shown-checks .ensures) (c .before .before .before .before .before .before .settled-after .result) (c .before .before .before .before .before .before .settled-after .ensures) (c .before .before .before .before .enum-told .given .1) (c .before .before .untested-windows .result) (c .before .before .untested-windows .ensures) len, shown-room (c .before .before .before .before .before .before .before .before .before .args .list) (c .before .before .before .before .before .before .before .before .before .args .k) (c .before .before .before .before .before .before .before .before .before .args .plan .now) (c .before .before .before .before .before .before .before .shown-checks .result) (c .before .before .before .before .before .before .before .shown-checks .ensures) (c .before .before .before .before .before .before .settled-after .result) (c .before .before .before .before .before .before .settled-after .ensures) (c .before .before .before .before .enum-told .given .1) (c .before .before .untested-windows .result) (c .before .before .untested-windows .ensures) len)
 
 same-length : tie.Need-same-length
 same-length c = search needs

@@ -5,7 +5,7 @@ use mathlib.Core.Path.{_≡_, sym, _∙_}
 use lib.ListN.{length}
 use Rattle.list.proofs.Walk.{length-mapped}
 use Rattle.bounds.proofs.CallCases.{plan-formed, shown-plan}
-use Rattle.bounds.proofs.AnswerCases.{late-turned, shown-place, shown-few, mirror-bounded, mirror-room, stored-room, late-end, late-done}
+use Rattle.bounds.proofs.AnswerCases.{late-turned, shown-place, shown-few, mirror-searchable, mirror-room, stored-room, late-end, late-done}
 use Rattle.bounds.proofs.calls.show_late.Statement.{statement}
 use Rattle.bounds.proofs.calls.show_late.Tie as tie
 
@@ -34,7 +34,7 @@ whole-at-requires : tie.Need-whole-at-requires
 whole-at-requires c κs = let good = c .before .before .before .before .before .before .before .before .good in let fits = c .before .before .before .before .before .before .before .before .fits in let len : length (c .before .before .before .before .before .before .before .before .args .list .entries) ≡ 64 = search (length-mapped, good, fits) in (shown-place (c .before .before .before .before .before .before .before .before .args .list) (c .before .before .before .before .before .before .before .before .args .k) (c .before .before .before .before .before .before .before .before .args .plan .now) (c .before .before .before .before .before .before .shown-checks .result) (c .before .before .before .before .before .before .shown-checks .ensures) (c .before .before .before .before .before .settled-after .result) (c .before .before .before .before .before .settled-after .ensures) (c .before .before .before .enum-told .given .1) (c .before .untested-windows .result) (c .before .untested-windows .ensures) len, shown-few (c .before .before .before .before .before .before .before .before .args .list) (c .before .before .before .before .before .before .before .before .args .k) (c .before .before .before .before .before .before .before .before .args .plan .now) (c .before .before .before .before .before .before .shown-checks .result) (c .before .before .before .before .before .before .shown-checks .ensures) (c .before .before .before .before .before .settled-after .result) (c .before .before .before .before .before .settled-after .ensures) (c .before .before .before .enum-told .given .1) (c .before .untested-windows .result) (c .before .untested-windows .ensures) len)
 
 store-early-requires : tie.Need-store-early-requires
-store-early-requires c κs = let good = c .before .before .before .before .before .before .before .before .before .before .good in let fits = c .before .before .before .before .before .before .before .before .before .before .fits in let len : length (c .before .before .before .before .before .before .before .before .before .before .args .list .entries) ≡ 64 = search (length-mapped, good, fits) in (mirror-bounded (c .before .before .before .before .before .before .before .before .before .before .args .list) (c .before .before .before .before .before .before .before .before .before .before .args .k) (c .before .before .before .before .before .before .before .before .before .before .args .plan .now) (c .before .before .before .before .before .before .before .before .shown-checks .result) (c .before .before .before .before .before .before .before .before .shown-checks .ensures) (c .before .before .before .before .before .before .before .settled-after .result) (c .before .before .before .before .before .before .before .settled-after .ensures) (c .before .before .before .before .before .enum-told .given .1) (c .before .before .before .untested-windows .result) (c .before .before .before .untested-windows .ensures) len _ (c .before .whole-at .ensures) (c .before .before .mirrored .result) (c .before .before .mirrored .ensures), mirror-room (c .before .before .before .before .before .before .before .before .before .before .args .list) (c .before .before .before .before .before .before .before .before .before .before .args .k) (c .before .before .before .before .before .before .before .before .before .before .args .plan .now) (c .before .before .before .before .before .before .before .before .shown-checks .result) (c .before .before .before .before .before .before .before .before .shown-checks .ensures) (c .before .before .before .before .before .before .before .settled-after .result) (c .before .before .before .before .before .before .before .settled-after .ensures) (c .before .before .before .before .before .enum-told .given .1) (c .before .before .before .untested-windows .result) (c .before .before .before .untested-windows .ensures) len _ (c .before .whole-at .ensures) (c .before .before .mirrored .result) (c .before .before .mirrored .ensures))
+store-early-requires c κs = let good = c .before .before .before .before .before .before .before .before .before .before .good in let fits = c .before .before .before .before .before .before .before .before .before .before .fits in let len : length (c .before .before .before .before .before .before .before .before .before .before .args .list .entries) ≡ 64 = search (length-mapped, good, fits) in (mirror-searchable (c .before .before .before .before .before .before .before .before .before .before .args .list) (c .before .before .before .before .before .before .before .before .before .before .args .k) (c .before .before .before .before .before .before .before .before .before .before .args .plan .now) (c .before .before .before .before .before .before .before .before .shown-checks .result) (c .before .before .before .before .before .before .before .before .shown-checks .ensures) (c .before .before .before .before .before .before .before .settled-after .result) (c .before .before .before .before .before .before .before .settled-after .ensures) (c .before .before .before .before .before .enum-told .given .1) (c .before .before .before .untested-windows .result) (c .before .before .before .untested-windows .ensures) len _ (c .before .whole-at .ensures) (c .before .before .mirrored .result) (c .before .before .mirrored .ensures), mirror-room (c .before .before .before .before .before .before .before .before .before .before .args .list) (c .before .before .before .before .before .before .before .before .before .before .args .k) (c .before .before .before .before .before .before .before .before .before .before .args .plan .now) (c .before .before .before .before .before .before .before .before .shown-checks .result) (c .before .before .before .before .before .before .before .before .shown-checks .ensures) (c .before .before .before .before .before .before .before .settled-after .result) (c .before .before .before .before .before .before .before .settled-after .ensures) (c .before .before .before .before .before .enum-told .given .1) (c .before .before .before .untested-windows .result) (c .before .before .before .untested-windows .ensures) len _ (c .before .whole-at .ensures) (c .before .before .mirrored .result) (c .before .before .mirrored .ensures))
 
 cast-mirror-plan : tie.Need-cast-mirror-plan
 cast-mirror-plan c = search needs

@@ -7,7 +7,7 @@ use Rattle.jackson.specs.Windows.{windowsIn}
 use Rattle.jackson.specs.Intervals.{overloadOf}
 use Rattle.narrow.specs.Calls.{wholeIn}
 use Rattle.bounds.specs.Ends.{leastEnd}
-use Rattle.bounds.proofs.EndCases.{least-end-kind, Placed, placed-none, placed-next, placed-all, bounded-few, bounded-at}
+use Rattle.bounds.proofs.EndCases.{least-end-kind, Placed, placed-none, placed-next, placed-all, formed-few, searchable-at}
 use Rattle.bounds.proofs.ends.least_ends.Statement.{statement}
 use Rattle.bounds.proofs.ends.least_ends.Tie as tie
 
@@ -24,22 +24,22 @@ cast-count : tie.Need-cast-count Inv-loop μ-loop
 cast-count c = search needs
 
 loop-holds : tie.Need-loop-holds Inv-loop μ-loop
-loop-holds c = placed-none _ _ _ (bounded-few _ _ (c .before .before .pre)) (c .before .zeros .ensures)
+loop-holds c = placed-none _ _ _ (formed-few _ _ (c .before .before .pre)) (c .before .zeros .ensures)
 
 whole-at-requires : tie.Need-whole-at-requires Inv-loop μ-loop
-whole-at-requires c κs = (c .loop-test .taken, bounded-few _ _ (c .before .before .before .before .pre))
+whole-at-requires c κs = (c .loop-test .taken, formed-few _ _ (c .before .before .before .before .pre))
 
 least-end-requires : tie.Need-least-end-requires Inv-loop μ-loop
-least-end-requires c κs = bounded-at _ _ (c .before .before .before .before .before .pre) _ (c .before .loop-test .taken)
+least-end-requires c κs = searchable-at _ _ (c .before .before .before .before .before .pre) _ (c .before .loop-test .taken)
 
 mul-ends : tie.Need-mul-ends Inv-loop μ-loop
-mul-ends c = search (needs, bounded-few _ _ (c .before .before .before .before .before .before .pre))
+mul-ends c = search (needs, formed-few _ _ (c .before .before .before .before .before .before .pre))
 
 array-write-ends : tie.Need-array-write-ends Inv-loop μ-loop
-array-write-ends c = search (needs, bounded-few _ _ (c .before .before .before .before .before .before .pre))
+array-write-ends c = search (needs, formed-few _ _ (c .before .before .before .before .before .before .pre))
 
 add-i : tie.Need-add-i Inv-loop μ-loop
-add-i c = search (needs, bounded-few _ _ (c .before .before .before .before .before .before .pre))
+add-i c = search (needs, formed-few _ _ (c .before .before .before .before .before .before .pre))
 
 loop-less : tie.Need-loop-less Inv-loop μ-loop
 loop-less c = search needs
