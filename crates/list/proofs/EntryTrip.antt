@@ -24,6 +24,7 @@ use Rattle.list.specs.declared.types.Frame.{Frame}
 use Rattle.list.specs.declared.types.Verdict.the-variants.{Accepted}
 use Rattle.list.specs.declared.map.Fields.{Fields}
 use Rattle.list.specs.declared.map.MapAnswer.the-variants.{Follow}
+use Rattle.list.proofs.Places.{p-place-small}
 use Rattle.list.proofs.FieldTrip.{past-field, u16-read, u32-read, u32-small, byte-stands, u16-stands, u32-stands}
 use Rattle.list.proofs.MapBytes.{map-form, map-back}
 use Rattle.list.proofs.Inversion.{Says, by-row, by-step, at-end, at-place, neither}
@@ -127,6 +128,7 @@ module _ (f : Frame) (m : Fields) (bs : List ℕ) (r-kept : m .r && eqb (entryAt
 -- what holds of an entry that is taken from the start of the bytes, with its size
 pub record TakenEntry (f : Frame) (bs : List ℕ) (x : Entry × ℕ) : Type 0 where
   pub within : x .1 ≤ length bs
+  pub short : x .1 ≤ 15
   pub sound : Sound f (x .0)
   pub form : Bytes bs → bs ≡ entryBytes f (x .0) ++ drop (x .1) bs
   pub fits : Bytes bs → Fits (x .0)
@@ -147,6 +149,7 @@ module _ (f : Frame) (at : ℕ) (bs : List ℕ) (len : ℕ) (all : at + length b
       let again : fieldsIn f e ≡ m = fields-again f m bs (z .0) (z .1) in
       record {
         within = long;
+        short = omega (arith, p-place-small m);
         sound = s;
         form = λ b.
             let map : mapOf (fieldsIn f e) ≡ getD bs 0 0 = ap mapOf again ∙ map-form (getD bs 0 0) (b 0) legal in

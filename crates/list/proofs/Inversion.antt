@@ -31,6 +31,11 @@ module _ {A : Type 0} (P : A → Type 0) (R : Code → Type 0) where
   by-step Q (answered a) f p q = q a p
   by-step Q (refused k) f p q = p
 
+  -- one step, then two rests that agree on what it answers
+  pub same-after : {B : Type 0} (o : Outcome A) (f g : A → Outcome B) → Says P R o → ((a : A) → P a → f a ≡ g a) → andThen o f ≡ andThen o g
+  same-after (answered a) f g p q = q a p
+  same-after (refused k) f g p q = refl
+
 -- where refusals do not count
 abbrev pub Anything : Code → Type 0
 Anything k = Unit {0}

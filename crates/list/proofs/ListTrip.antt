@@ -3,7 +3,7 @@
 -- Assumes nothing.
 use mathlib.Core.Path.{_≡_, refl, ap, _∙_}
 use mathlib.Core.List.{List, [], _∷_, _++_, append-assoc}
-use Prim.Native.Nat.{ℕ, zero, suc, _+_, _<_}
+use Prim.Native.Nat.{ℕ, zero, suc, _+_, _*_, _≤_, _<_}
 use native.Mathlib.Nat.{add-zero, add-assoc}
 use native.Mathlib.Omega.{arith}
 use lib.ListN.{length, getD, take, drop, replicate, length-append, length-drop}
@@ -57,12 +57,13 @@ pub record TakenEntries (f : Frame) (k : ℕ) (bs : List ℕ) (len : ℕ) (x : L
   pub fits : Bytes bs → Every Fits (x .0)
   pub rest : List ℕ
   pub left : x .1 + length rest ≡ len
+  pub short : length bs ≤ 15 * k + length rest
   pub form : Bytes bs → bs ≡ bytesOfEntries f (x .0) ++ rest
 
 -- what reading k entries says of bs, what is left, from the place at on, of an input of length len
 pub entries-say : (f : Frame) (k at : ℕ) (bs : List ℕ) (len : ℕ) → at + length bs ≡ len → Says (TakenEntries f k bs len) (PlaceIn len) (entriesFrom f k at bs)
 unfolding entriesFrom bytesOfEntries
-entries-say f zero at bs len all = record { count = refl; sound = tt; fits = λ b. tt; rest = bs; left = all; form = λ b. refl }
+entries-say f zero at bs len all = record { count = refl; sound = tt; fits = λ b. tt; rest = bs; left = all; short = omega arith; form = λ b. refl }
 entries-say f (suc k) at bs len all =
     by-step (TakenEntry f bs) (PlaceIn len) (TakenEntries f (suc k) bs len) (entryOf f at bs) _ (entry-says f at bs len all)
     (λ x one.
@@ -76,5 +77,6 @@ entries-say f (suc k) at bs len all =
       fits = λ b. (one .fits b, es .fits (bytes-drop bs (x .1) b));
       rest = es .rest;
       left = es .left;
+      short = omega (arith, length-drop (x .1) bs);
       form = λ b. one .form b ∙ rw (append-assoc, ← es .form (bytes-drop bs (x .1) b));
     }))
