@@ -21,13 +21,19 @@ bytesOfEntries f (e ∷ es) = entryBytes f e ++ bytesOfEntries f es
 unfoldable pub bytesOf : DayList → List ℕ
 bytesOf l = u16Bytes (l .frame .h) ++ (l .n ∷ bytesOfEntries (l .frame) (entriesOf l))
 
+-- row 12 for bytes that are to stand at the start of a buffer of the length given: how many are stored, or how many are needed
+abbrev pub storing : List ℕ → ℕ → Outcome ℕ
+storing bytes room = firstOf (row 12 (ltb room (length bytes)) (length bytes) ∷ []) (answered (length bytes))
+
+-- the buffer afterwards
+abbrev pub stored : Outcome ℕ → List ℕ → List ℕ → List ℕ
+stored (answered n) bytes old = bytes ++ drop n old
+stored (refused k) bytes old = old
+
 -- the number of bytes written to a buffer of the length given, or the first row, 2, 3, 6, 7 and 12, that turns the list back
 unfoldable pub writeOf : DayList → ℕ → Outcome ℕ
-writeOf l room =
-    andThen (checkOf l)
-    (λ _. firstOf (row 12 (ltb room (length (bytesOf l))) (length (bytesOf l)) ∷ []) (answered (length (bytesOf l))))
+writeOf l room = andThen (checkOf l) (λ _. storing (bytesOf l) room)
 
 -- the buffer afterwards
 abbrev pub bufferAfter : Outcome ℕ → DayList → List ℕ → List ℕ
-bufferAfter (answered n) l old = bytesOf l ++ drop n old
-bufferAfter (refused k) l old = old
+bufferAfter o l old = stored o (bytesOf l) old

@@ -1,0 +1,5 @@
+pub mod Text
+pub mod Runs
+pub mod Reports
+pub mod Calls
+pub mod Parts

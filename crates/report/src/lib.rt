@@ -1,0 +1,4 @@
+// The report.
+pub fn nothing() -> u8 {
+    0
+}
