@@ -1,1 +1,4 @@
 mod Example
+mod Texts
+mod Steps
+mod RunCases
