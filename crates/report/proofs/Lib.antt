@@ -1,1 +1,3 @@
+-- Laws of the report's text.
+pub mod Texts
 mod Example
