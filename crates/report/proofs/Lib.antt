@@ -1,3 +1,10 @@
 -- Laws of the report's text.
 pub mod Texts
+-- The runs found are the maximal runs.
+pub mod RunFacts
+-- How long a report is at most.
+mod LineLengths
+mod ReadNumbers
+pub mod Lengths
+-- Document 01's example.
 mod Example
