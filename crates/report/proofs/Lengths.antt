@@ -168,7 +168,8 @@ module _ (l : DayList) (formed : WellFormed l) where
     line-short : (i : ℕ) → i < w .n → length (lineOf i) ≤ 56
     line-short i place =
         let in-list : i < given .n = omega (arith, count) in
-        let stored : getD (entriesOf l) i blank ≡ getD (l .entries) i blank = getD-take (l .n) (l .entries) i blank (omega (arith, length-take (l .n) (l .entries))) in
+        let below : i < l .n = omega (arith, length-take (l .n) (l .entries)) in
+        let stored : getD (entriesOf l) i blank ≡ getD (l .entries) i blank = getD-take (l .n) (l .entries) i blank below in
         let room = there .room i place in
         let in-day = there .in-day i place in
         let same-p : w .p i ≡ given .p i = ap (λ (x : Windows). x .p i) (best .entries) in

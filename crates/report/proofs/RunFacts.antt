@@ -89,7 +89,13 @@ runs-are h m s e k = (there, back)
     there run =
         let below : s < h = omega (arith, run .some, run .within) in
         let is : m s ≡ k = run .minutes s (omega arith) (run .some) in
-        let goes : GoesTo h m s e = record { from = omega (arith, run .some); within = run .within; minutes = λ t l u. run .minutes t l u ∙ sym is; last = λ l q. run .last l (q ∙ is) } in
+        let goes : GoesTo h m s e =
+        record {
+          from = omega (arith, run .some);
+          within = run .within;
+          minutes = λ t l u. run .minutes t l u ∙ sym is;
+          last = λ l q. run .last l (q ∙ is);
+        } in
         let found = end-found h m s (omega arith) in (
           below,
           begins-so m s (λ q. run .entry (sym is ∙ q)) (λ t q r. run .first t q (r ∙ is)),
