@@ -4,7 +4,7 @@ use mathlib.Core.Path.{_≡_, refl, sym, ap, _∙_}
 use mathlib.Core.Logic.{_⊎_, inl, inr}
 use mathlib.Core.Bool.{Bool}
 use mathlib.Core.List.{List, []}
-use Prim.Native.Nat.{ℕ, zero, suc, _+_, _*_, _-_, _<_, _≤_}
+use Prim.Native.Nat.{ℕ, _+_, _*_, _-_, _<_, _≤_}
 use native.Mathlib.Omega.{arith}
 use lib.ListN.{length, getD, take, length-append, length-take}
 use lib.Seq.{getD-take}
@@ -17,12 +17,11 @@ use Rattle.list.specs.declared.types.DayList.{DayList}
 use Rattle.list.proofs.Sound.{sound-list}
 use Rattle.list.proofs.RoundTrip.{read-places, read-well-formed, read-typed}
 use Rattle.list.proofs.FirstBytes.{first-bytes}
-use Rattle.jackson.specs.Counting.{sum}
 use Rattle.jackson.specs.Windows.{Windows, windowsOf}
 use Rattle.jackson.specs.Plans.{idle, placesIn, PlanBytes}
 use Rattle.jackson.specs.Intervals.{work, overloadOf}
 use Rattle.jackson.specs.Minutes.{schedule}
-use Rattle.jackson.proofs.Sums.{same-cases, between-le}
+use Rattle.jackson.proofs.Sums.{same-cases, between-le, sum-most}
 use Rattle.jackson.proofs.ListLaws.{list-few}
 use Rattle.narrow.specs.Settling.{Settled, Widest, minutesCut}
 use Rattle.narrow.specs.Rounds.{Narrowed, narrowing}
@@ -46,17 +45,10 @@ use Rattle.report.proofs.LineLengths.{head-short, entry-short, run-shor
 use Rattle.report.proofs.RunFacts.{begins-entry, run-in-day}
 use Rattle.report.proofs.ReadNumbers.{read-number}
 
--- Sums of terms that are small enough.
-
-sum-short : (n k : ℕ) (f : ℕ → ℕ) → ((i : ℕ) → i < n → f i ≤ k) → sum n f ≤ n * k
-unfolding sum
-sum-short zero k f h = omega arith
-sum-short (suc n) k f h = omega (arith, sum-short n k f (λ i l. h i (omega arith)), h n (omega arith))
-
 broken-few : (whole : ℕ → Bool) (w : Windows) (m : ℕ → ℕ) → brokenIn whole w m ≤ w .n
 unfolding brokenIn
 broken-few whole w m =
-    omega (arith, sum-short (w .n) 1 _ (λ i _. by-test (λ (x : ℕ). x ≤ 1) (isBroken whole (w .h) m i) 1 0 (λ _. omega arith) (λ _. omega arith)))
+    omega (arith, sum-most (w .n) 1 _ (λ i _. by-test (λ (x : ℕ). x ≤ 1) (isBroken whole (w .h) m i) 1 0 (λ _. omega arith) (λ _. omega arith)))
 
 -- A day of at most 1,440 minutes with at most 64 entries.
 module _ (w : Windows) (formed : Formed w) (day : w .h ≤ 1440) (few : w .n ≤ 64) where
@@ -69,7 +61,7 @@ module _ (w : Windows) (formed : Formed w) (day : w .h ≤ 1440) (few : w .n ≤
   work-small a b =
       omega (
         arith,
-        sum-short (w .n) 1440 _
+        sum-most (w .n) 1440 _
             (λ i place.
             between-le a b (w .r i) (w .d i) (w .p i) 1440 (λ _ _. omega (arith, formed .room i place, deadline-small i place))),
       )
@@ -153,7 +145,7 @@ module _ (l : DayList) (formed : WellFormed l) where
     -- each move cuts a minute
     moves-small : v .moves ≤ 184320
     moves-small =
-        let cut : minutesCut given w ≤ given .n * 2880 = sum-short (given .n) 2880 _ each in
+        let cut : minutesCut given w ≤ given .n * 2880 = sum-most (given .n) 2880 _ each in
         omega (arith, law .moves-cut v e, list-few l formed)
       where
         each : (i : ℕ) → i < given .n → (w .r i - given .r i) + (given .d i - w .d i) ≤ 2880
