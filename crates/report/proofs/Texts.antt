@@ -1,13 +1,13 @@
--- Laws of numbers in base ten and of texts one after the other, as the code's proofs cite them.
+-- Laws of numbers in base ten, of lines and of texts one after the other, as the code's proofs cite them.
 -- Assumes nothing.
 use mathlib.Core.Path.{_≡_, refl}
 use mathlib.Core.List.{List, [], _∷_, _++_}
-use Prim.Native.Nat.{ℕ, zero, suc, _+_, _*_, _/_, _%_, _<_, _≤_}
+use Prim.Native.Nat.{ℕ, zero, suc, _+_, _*_, _/_, _%_, _^_, _<_, _≤_}
 use native.Mathlib.Omega.{arith}
 use borrow.Author.Tests.{lt-ltb, le-ltb}
 use lib.ListN.{length, length-append}
 use Rattle.jackson.proofs.Sums.{le-or-lt}
-use Rattle.report.specs.Text.{digits, decimal, texts}
+use Rattle.report.specs.Text.{ascii, digits, decimal, line, texts}
 
 -- Numbers.
 
@@ -35,6 +35,24 @@ decimal-one x h = rw (lt-ltb x 10 h)
 pub decimal-more : (x : ℕ) → 10 ≤ x → decimal x ≡ decimal (x / 10) ++ ((48 + x % 10) ∷ [])
 unfolding decimal digits
 decimal-more x h = rw (le-ltb x 10 h, digits-enough x (x / 10) (omega arith))
+
+-- a number below 10 ^ k has at most k digits
+pub decimal-short : (k x : ℕ) → x < 10 ^ k → 1 ≤ k → length (decimal x) ≤ k
+decimal-short zero x h some = absurd (omega arith)
+decimal-short (suc zero) x h some = rw (decimal-one x h) (omega arith)
+decimal-short (suc (suc k)) x h some =
+    le-or-lt 10 x
+    (λ more. rw (decimal-more x more) (simp length-append (omega (arith, decimal-short (suc k) (x / 10) (omega arith) (omega arith)))))
+    (λ less. rw (decimal-one x less) (omega arith))
+
+-- Lines: each field has one byte after it, a space or the newline.
+pub line-last : (f : List ℕ) → length (line (f ∷ [])) ≡ length f + 1
+unfolding line ascii
+line-last f = length-append f _
+
+pub line-more : (f g : List ℕ) (fs : List (List ℕ)) → length (line (f ∷ g ∷ fs)) ≡ length f + 1 + length (line (g ∷ fs))
+unfolding line ascii
+line-more f g fs = simp length-append (omega arith)
 
 -- Texts.
 
