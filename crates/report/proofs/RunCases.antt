@@ -52,13 +52,13 @@ module _ (plan : List ℕ) (t : ℕ) where
         let j = e - t in
         let back : t + j ≡ e = omega (arith, so .begun) in
         let found : j ≡ _ =
-            one-first (length plan - t) (λ i. not (eqb (placesIn plan (t + i)) (placesIn plan t))) j _
-            (record {
-              within = omega (arith, so .within);
-              passes = λ l. rw back (simp (ne-eqb _ _ (stops (omega (arith, so .begun)))));
-              none-before = λ i l q. eqb-false _ _ (not-true _ q) (so .same (t + i) (omega arith) (omega arith));
-            })
-            (first-below (length plan - t) _) in
+        one-first (length plan - t) (λ i. not (eqb (placesIn plan (t + i)) (placesIn plan t))) j _
+        (record {
+          within = omega (arith, so .within);
+          passes = λ l. rw back (simp (ne-eqb _ _ (stops (omega (arith, so .begun)))));
+          none-before = λ i l q. eqb-false _ _ (not-true _ q) (so .same (t + i) (omega arith) (omega arith));
+        })
+        (first-below (length plan - t) _) in
         omega (arith, back, found)
 
     pub ends-day : length plan ≤ e → e ≡ runEnd (length plan) (placesIn plan) t
