@@ -14,3 +14,5 @@ pub mod Example
 mod Steps
 mod RunCases
 mod CallCases
+mod DayCases
+mod Promised

@@ -1,42 +1,35 @@
+-- `report` meets its contract.
+-- Assumes nothing.
 use borrow.Author.Needs.{needs}
+use mathlib.Core.Path.{refl, sym}
+use lib.Seq.{length-take-le}
+use Rattle.report.proofs.Promised.{size-fits, short-promised, whole-promised}
 use Rattle.report.proofs.report.Statement.{statement}
 use Rattle.report.proofs.report.Tie as tie
-use Rattle.report.proofs.report.Reads as reads
-use Rattle.report.proofs.report.Lts as lts
-use Rattle.report.proofs.day.put_report.Reads as put-report-reads
-use Rattle.report.proofs.text.put_bytes.Reads as put-bytes-reads
 
--- src/lib.rt:24:34
 slice-aggregate-put-report : tie.Need-slice-aggregate-put-report
 slice-aggregate-put-report c = search needs
 
--- src/lib.rt:24:9
 put-report-requires : tie.Need-put-report-requires
 put-report-requires c κs = search needs
 
--- src/lib.rt:26:9
 returns : tie.Need-returns
-returns c = ?
+returns c = short-promised (c .before .before .before .before .before .before .args .input .now) (λ i. c .before .before .before .before .before .shared-slice-known .given i .fits) _ _ refl (c .before .before .put-report .result) (c .before .before .put-report .ensures) (c .before .before .before .before .before .before .args .out .now) (c .if1 .taken)
 
--- src/lib.rt:28:23
 array-share-prefix-text : tie.Need-array-share-prefix-text
-array-share-prefix-text c = ?
+array-share-prefix-text c = size-fits (c .before .before .before .before .before .before .before .args .input .now) (λ i. c .before .before .before .before .before .before .shared-slice-known .given i .fits) _ _ refl (c .before .before .before .put-report .result) (c .before .before .before .put-report .ensures)
 
--- src/lib.rt:28:23
 slice-aggregate-put-bytes : tie.Need-slice-aggregate-put-bytes
-slice-aggregate-put-bytes c = ?
+slice-aggregate-put-bytes c = sym (length-take-le _ _ (size-fits (c .before .before .before .before .before .before .before .before .args .input .now) (λ i. c .before .before .before .before .before .before .before .shared-slice-known .given i .fits) _ _ refl (c .before .before .before .before .put-report .result) (c .before .before .before .before .put-report .ensures)))
 
--- src/lib.rt:28:5
 put-bytes-requires : tie.Need-put-bytes-requires
 put-bytes-requires c κs = search needs
 
--- src/lib.rt:20:1
 same-length : tie.Need-same-length
 same-length c = search needs
 
--- src/lib.rt:20:1
 returns-2 : tie.Need-returns-2
-returns-2 c = ?
+returns-2 c = whole-promised (c .before .before .before .before .before .before .before .before .before .before .before .args .input .now) (λ i. c .before .before .before .before .before .before .before .before .before .before .shared-slice-known .given i .fits) _ _ refl (c .before .before .before .before .before .before .before .put-report .result) (c .before .before .before .before .before .before .before .put-report .ensures) (c .before .before .before .before .before .before .before .before .before .before .before .args .out .now) _ _ (c .before .before .before .before .before .if1 .left) (c .before .before .put-bytes .ensures)
 
 pub report-spec : {M : Type 1} → statement M
 report-spec =

@@ -1,63 +1,49 @@
+-- `day::put_planned` meets its contract.
+-- Assumes nothing.
 use borrow.Author.Needs.{needs}
+use mathlib.Core.Path.{refl}
+use Rattle.report.proofs.DayCases.{list-few, bytes-long, bytes-room, answered-put, refused-put}
 use Rattle.report.proofs.day.put_planned.Statement.{statement}
 use Rattle.report.proofs.day.put_planned.Tie as tie
-use Rattle.report.proofs.day.put_planned.Reads as reads
-use Rattle.report.proofs.day.put_planned.Lts as lts
-use Rattle.bounds.proofs.plan_day.Reads as plan-day-reads
-use Rattle.report.proofs.day.put_day.Reads as put-day-reads
-use Rattle.report.proofs.lines.put_refusal.Reads as put-refusal-reads
 
--- src/day.rt:57:33
 slice-aggregate-plan-day : tie.Need-slice-aggregate-plan-day
 slice-aggregate-plan-day c = search needs
 
--- src/day.rt:57:9
 plan-day-requires : tie.Need-plan-day-requires
 plan-day-requires c κs = search needs
 
--- src/day.rt:62:21
 enum-told : tie.Need-enum-told
 enum-told c = search needs
 
--- src/day.rt:62:21
 cast-h : tie.Need-cast-h
 cast-h c = search needs
 
--- src/day.rt:63:34
 array-share-prefix-plan : tie.Need-array-share-prefix-plan
-array-share-prefix-plan c = ?
+array-share-prefix-plan c = bytes-room (c .before .before .before .before .before .before .before .before .before .args .list) (c .before .before .before .before .before .before .before .before .before .pre) _ refl (c .before .before .before .before .before .before .plan-day .result) _ (c .before .before .before .before .before .before .plan-day .ensures) (c .before .before .enum-told .given .1)
 
--- src/day.rt:63:34
 slice-aggregate-put-day : tie.Need-slice-aggregate-put-day
-slice-aggregate-put-day c = ?
+slice-aggregate-put-day c = bytes-long (c .before .before .before .before .before .before .before .before .before .before .args .list) (c .before .before .before .before .before .before .before .before .before .before .pre) _ refl (c .before .before .before .before .before .before .before .plan-day .result) _ (c .before .before .before .before .before .before .before .plan-day .ensures) (c .before .before .before .enum-told .given .1)
 
--- src/day.rt:63:13
 put-day-requires : tie.Need-put-day-requires
-put-day-requires c κs = ?
+put-day-requires c κs = list-few (c .before .before .before .before .before .before .before .before .before .before .args .list) (c .before .before .before .before .before .before .before .before .before .before .pre) _ refl (c .before .before .before .before .before .before .before .plan-day .result) _ (c .before .before .before .before .before .before .before .plan-day .ensures) (c .before .before .before .enum-told .given .1)
 
--- src/day.rt:65:26
 enum-known-verdict : tie.Need-enum-known-verdict
 enum-known-verdict c = search needs
 
--- src/day.rt:65:32
 put-refusal-requires : tie.Need-put-refusal-requires
 put-refusal-requires c κs = search needs
 
--- src/day.rt:52:1
 same-length : tie.Need-same-length
 same-length c = search needs
 
--- src/day.rt:52:1
 returns : tie.Need-returns
-returns c = ?
+returns c = answered-put (c .before .before .before .before .before .before .before .before .before .before .before .before .before .args .list) (c .before .before .before .before .before .before .before .before .before .before .before .before .before .pre) _ refl (c .before .before .before .before .before .before .before .before .before .before .plan-day .result) _ (c .before .before .before .before .before .before .before .before .before .before .plan-day .ensures) (c .before .before .before .before .before .before .enum-told .given .1) (c .before .before .put-day .ensures)
 
--- src/day.rt:52:1
 same-length-2 : tie.Need-same-length-2
 same-length-2 c = search needs
 
--- src/day.rt:52:1
 returns-2 : tie.Need-returns-2
-returns-2 c = ?
+returns-2 c = refused-put (c .before .before .before .before .before .before .before .before .before .before .before .before .args .list) (c .before .before .before .before .before .before .before .before .before .before .before .before .pre) _ refl (c .before .before .before .before .before .before .before .before .before .plan-day .result) _ (c .before .before .before .before .before .before .before .before .before .plan-day .ensures) _ (c .before .before .before .before .before .verdict .given .1) (c .before .before .put-refusal .ensures)
 
 pub put-planned-spec : {M : Type 1} → statement M
 put-planned-spec =

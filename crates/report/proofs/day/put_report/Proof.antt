@@ -1,47 +1,36 @@
+-- `day::put_report` meets its contract.
+-- Assumes nothing.
 use borrow.Author.Needs.{needs}
+use Rattle.report.proofs.DayCases.{read-formed, read-put, unread-put}
 use Rattle.report.proofs.day.put_report.Statement.{statement}
 use Rattle.report.proofs.day.put_report.Tie as tie
-use Rattle.report.proofs.day.put_report.Reads as reads
-use Rattle.report.proofs.day.put_report.Lts as lts
-use Rattle.list.proofs.read.Reads as read-reads
-use Rattle.report.proofs.day.put_planned.Reads as put-planned-reads
-use Rattle.report.proofs.lines.put_refusal.Reads as put-refusal-reads
 
--- src/day.rt:73:9
 read-requires : tie.Need-read-requires
 read-requires c κs = search needs
 
--- src/day.rt:77:17
 enum-told : tie.Need-enum-told
 enum-told c = search needs
 
--- src/day.rt:78:13
 put-planned-requires : tie.Need-put-planned-requires
-put-planned-requires c κs = ?
+put-planned-requires c κs = read-formed (c .before .before .before .before .before .before .before .args .input .now) (c .before .before .before .before .read .result) (c .before .before .before .before .read .ensures) (c .before .before .enum-told .given .1)
 
--- src/day.rt:80:26
 enum-known-verdict : tie.Need-enum-known-verdict
 enum-known-verdict c = search needs
 
--- src/day.rt:80:32
 put-refusal-requires : tie.Need-put-refusal-requires
 put-refusal-requires c κs = search needs
 
--- src/day.rt:70:1
 same-length : tie.Need-same-length
 same-length c = search needs
 
--- src/day.rt:70:1
 returns : tie.Need-returns
-returns c = ?
+returns c = read-put (c .before .before .before .before .before .before .before .before .before .before .args .input .now) (c .before .before .before .before .before .before .before .read .result) (c .before .before .before .before .before .before .before .read .ensures) (c .before .before .before .before .before .enum-told .given .1) (c .before .before .put-planned .ensures)
 
--- src/day.rt:70:1
 same-length-2 : tie.Need-same-length-2
 same-length-2 c = search needs
 
--- src/day.rt:70:1
 returns-2 : tie.Need-returns-2
-returns-2 c = ?
+returns-2 c = unread-put (c .before .before .before .before .before .before .before .before .before .before .args .input .now) (c .before .before .before .before .before .before .before .read .result) (c .before .before .before .before .before .before .before .read .ensures) _ (c .before .before .before .before .before .verdict .given .1) (c .before .before .put-refusal .ensures)
 
 pub put-report-spec : {M : Type 1} → statement M
 put-report-spec =
