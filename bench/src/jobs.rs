@@ -21,7 +21,7 @@ pub struct Job {
     pub name: &'static str,
     /// Whether it is done with lists that are refused, too.
     of_refused: bool,
-    /// Whether all that is lent is set to 0 before each call.
+    /// Whether all that is lent is set to 0 before each call, inside the timed part.
     cleared: bool,
     proved: Call,
     plain: Call,

@@ -16,9 +16,11 @@ use table::Row;
 fn main() {
     println!("{}", table::text());
     let mut rows = vec![];
-    for FullDay { name: day, about, list } in days::all() {
+    for FullDay { name: day, about, number, list } in days::all() {
         let fields = flat::of_day(&list);
-        println!("\n{day}: {about}\n  {}", outcome(&fields));
+        let (answered, outcome) = outcome(&fields);
+        assert_eq!(answered, number, "{day}");
+        println!("\n{day}: {about}\n  {outcome}");
         for job in jobs::ALL.iter().filter(|job| job.is_for(&fields)) {
             let row = Row { day, job: job.name, times: job.compare(&fields) };
             println!("{row}");
@@ -28,12 +30,12 @@ fn main() {
     println!("\n{}", table::worst(&rows));
 }
 
-/// What narrowing makes of a list, in words.
-fn outcome(fields: &Fields) -> String {
+/// The number that narrowing answers, and what it makes of a list, in words.
+fn outcome(fields: &Fields) -> (u64, String) {
     let test = abi::overload(fields);
     if test.number != 0 {
         let [a, b, work] = test.values;
-        return format!("refused by 9, from {a} to {b} work {work}");
+        return (test.number, format!("refused, from {a} to {b} work {work}"));
     }
     let mut windows = *fields;
     let (mut rounds, mut moves) = (0, 0);
@@ -42,9 +44,9 @@ fn outcome(fields: &Fields) -> String {
         let answer = abi::round_into(&given, &mut windows);
         rounds += 1;
         match (answer.number, answer.values[0]) {
-            (0, 0) => return format!("settled in {rounds} rounds with {moves} moves"),
+            (0, 0) => return (0, format!("settled, rounds {rounds}, moves {moves}")),
             (0, more) => moves += more,
-            (number, place) => return format!("refused by {number}, entry {place}, in round {rounds}"),
+            (number, place) => return (number, format!("refused, entry {place}, in round {rounds}")),
         }
     }
 }

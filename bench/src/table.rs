@@ -17,8 +17,8 @@ narrowing  settled windows and moves
 schedule   Jackson's schedule of the windows as given, where they have one
 
 Plain Rust goes minute by minute and tries every start and end, one after the other. One has a plan if Jackson's
-schedule, made minute by minute, is one; it is broken off where an entry has minutes left at its d. Row 9 is tested
-for all intervals, with the work of each added up anew.
+schedule, made minute by minute, is one; that ends when all work is done or an entry has minutes left at its d. Row 9
+is tested for all intervals, with the work of each added up anew.
 
 Each program does each job once untimed, and then both in turn, at least {LEAST} times, and up to {MOST} times
 within {} seconds. Buffers are not cleared first: each holds what the time before left in it. For 'plan, cleared'

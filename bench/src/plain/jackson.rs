@@ -6,10 +6,10 @@ use dock_tests::day::{IDLE, MOST_ENTRIES};
 /// The d of an entry that cannot have the minute.
 const NEVER: u16 = u16::MAX;
 
-/// "among entries with r reached and minutes left, take the smallest d": that d, and the lowest place that
-/// has it.
+/// "among entries with r reached and minutes left, take the smallest d": the lowest place that has it, and that
+/// d. It is inlined, so that its loops are over the caller's own arrays, which is faster.
 #[inline(always)]
-fn smallest(
+fn smallest_d(
     r: &[u16; MOST_ENTRIES],
     d: &[u16; MOST_ENTRIES],
     left: &[u16; MOST_ENTRIES],
@@ -29,7 +29,7 @@ pub fn schedule(windows: &Windows, plan: &mut [u8]) {
         // "The entry that had the minute before, if it has minutes left, goes on unless another d is strictly
         // smaller. Otherwise the lowest place among equals is taken."
         let running = before.filter(|&place| left[place] > 0);
-        before = smallest(&r, &d, &left, minute).map(|(place, smallest)| match running {
+        before = smallest_d(&r, &d, &left, minute).map(|(place, smallest)| match running {
             Some(running) if d[running] <= smallest => running,
             _ => place,
         });
@@ -40,16 +40,18 @@ pub fn schedule(windows: &Windows, plan: &mut [u8]) {
     }
 }
 
-/// Whether a plan exists: whether Jackson's schedule is one. It is followed until all work is done, or until
-/// an entry has minutes left at its d. Who goes first of two with the same d does not matter to that.
+/// Whether a plan exists: whether Jackson's schedule is one, which ends when all work is done, or an entry has
+/// minutes left at its d. Who goes first of two with the same d does not matter to that. Intervals would do as
+/// well ("A plan exists exactly when no interval is overloaded"); but this is what going minute by minute means,
+/// and the library's own test is not repeated.
 pub fn has_plan(windows: &Windows) -> bool {
-    let Windows { r, d, p: mut left, .. } = *windows; // copied, for a faster loop
+    let Windows { r, d, p: mut left, .. } = *windows;
     let mut work: u32 = left.iter().copied().map(u32::from).sum();
     for minute in 0..windows.h {
         if work == 0 {
             break;
         }
-        if let Some((place, smallest)) = smallest(&r, &d, &left, minute) {
+        if let Some((place, smallest)) = smallest_d(&r, &d, &left, minute) {
             if smallest <= minute {
                 return false;
             }

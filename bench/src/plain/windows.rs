@@ -48,7 +48,7 @@ impl Windows {
 
     /// "the work of [a, b) is the sum of p over entries with r at least a and d at most b"
     fn work(&self, a: u16, b: u16) -> u32 {
-        let Windows { r, d, p, .. } = *self; // copied, for a faster loop
+        let Windows { r, d, p, .. } = *self; // a copy, as the loop over it is faster
         let mut work = 0;
         for place in 0..MOST_ENTRIES {
             if r[place] >= a && d[place] <= b {
