@@ -8,21 +8,21 @@ use std::time::Duration;
 pub fn text() -> String {
     let how = format!(
         "\
-Full days of 1,440 minutes and 64 entries, by the proved library and by a plain Rust program. Both take a list
-as 450 numbers and write windows, bounds and plan into memory that is lent to them, and each time must leave the
-same there. Times are in milliseconds.
+Full days of 1,440 minutes and 64 entries, by the proved library and by a plain Rust program. Both take a
+list as 450 numbers and write windows, bounds and plan into memory that is lent to them, and each time must
+answer and leave the same. Times are in milliseconds.
 
 plan       narrowing, Jackson's schedule of the settled windows, and all bounds
 narrowing  settled windows and moves
 schedule   Jackson's schedule of the windows as given, where they have one
 
-Plain Rust goes minute by minute and tries every start and end, one after the other. One has a plan if Jackson's
-schedule, made minute by minute, is one; that ends when all work is done or an entry has minutes left at its d. Row 9
-is tested for all intervals, with the work of each added up anew.
+Plain Rust goes minute by minute and tries every start and end, one after the other. One has a plan if
+Jackson's schedule, made minute by minute, is one; that ends when all work is done, or an entry has minutes
+left at its d. Row 9 is tested for all intervals, with the work of each added up anew.
 
 Each program does each job once untimed, and then both in turn, at least {LEAST} times, and up to {MOST} times
-within {} seconds. Buffers are not cleared first: each holds what the time before left in it. For 'plan, cleared'
-all that is lent is set to 0 before each call, and that is timed too.
+within {} seconds. Buffers are not cleared first: each holds what the time before left in it. For 'plan,
+cleared' all that is lent is set to 0 before each call, and that is timed too.
 ",
         ENOUGH.as_secs()
     );
@@ -75,7 +75,7 @@ pub fn worst(rows: &[Row]) -> String {
     let mut lines = vec!["Worst of each job, and its day:".to_string()];
     lines.push(format!(
         "{:16}{:>24}{:>24}{:>24}",
-        "", "slowest proved", "ratio of medians", "ratio of worsts"
+        "", "slowest proved call", "ratio of medians", "ratio of worsts"
     ));
     for job in &jobs::ALL {
         let rows = rows.iter().filter(|row| row.job == job.name);

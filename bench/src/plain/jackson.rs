@@ -6,8 +6,8 @@ use dock_tests::day::{IDLE, MOST_ENTRIES};
 /// The d of an entry that cannot have the minute.
 const NEVER: u16 = u16::MAX;
 
-/// "among entries with r reached and minutes left, take the smallest d": the lowest place that has it, and that
-/// d. It is inlined, so that its loops are over the caller's own arrays, which is faster.
+/// "among entries with r reached and minutes left, take the smallest d": the lowest place that has it, and
+/// that d. It is inlined, so that its loops are over the caller's own arrays, which is faster.
 #[inline(always)]
 fn smallest_d(
     r: &[u16; MOST_ENTRIES],
@@ -40,10 +40,10 @@ pub fn schedule(windows: &Windows, plan: &mut [u8]) {
     }
 }
 
-/// Whether a plan exists: whether Jackson's schedule is one, which ends when all work is done, or an entry has
-/// minutes left at its d. Who goes first of two with the same d does not matter to that. Intervals would do as
-/// well ("A plan exists exactly when no interval is overloaded"); but this is what going minute by minute means,
-/// and the library's own test is not repeated.
+/// Whether a plan exists: whether Jackson's schedule is one, which ends when all work is done, or an entry
+/// has minutes left at its d. Who goes first of two with the same d does not matter to that. Intervals would
+/// do as well ("A plan exists exactly when no interval is overloaded"); but this is what going minute by
+/// minute means, and the library's own test is not repeated.
 pub fn has_plan(windows: &Windows) -> bool {
     let Windows { r, d, p: mut left, .. } = *windows;
     let mut work: u32 = left.iter().copied().map(u32::from).sum();
