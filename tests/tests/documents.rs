@@ -3,7 +3,7 @@
 use std::fs;
 use std::path::{Path, PathBuf};
 
-const PAGES: [&str; 3] = ["README.md", "docs/ARCHITECTURE.md", "docs/DECISIONS.md"];
+const PAGES: [&str; 4] = ["README.md", "docs/ARCHITECTURE.md", "docs/BENCHMARKS.md", "docs/DECISIONS.md"];
 
 /// A link to a file of the repository: the page, the text before it, the file, and the line if it names one.
 struct Link {
