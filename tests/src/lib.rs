@@ -20,6 +20,7 @@ pub mod mirror;
 pub mod narrow;
 pub mod overload;
 pub mod planner;
+pub mod program;
 pub mod random;
 pub mod reader;
 pub mod report;
