@@ -1,9 +1,10 @@
-//! The links of README and of the pages under docs/ lead to files, and the lines that they name declare what they say.
+//! The links of the pages, README and those under docs/ and samples/, lead to files, and the lines that they name
+//! declare what they say.
 
 use std::fs;
 use std::path::{Path, PathBuf};
 
-const PAGES: [&str; 3] = ["README.md", "docs/ARCHITECTURE.md", "docs/DECISIONS.md"];
+const PAGES: [&str; 4] = ["README.md", "docs/ARCHITECTURE.md", "docs/DECISIONS.md", "samples/README.md"];
 
 /// A link to a file of the repository: the page, the text before it, the file, and the line if it names one.
 struct Link {
