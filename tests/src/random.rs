@@ -184,8 +184,9 @@ pub fn blocked_day(random: &mut Random) -> Day {
     day
 }
 
-/// A full day of entries each of which begins later and ends earlier than the last, so that nearly all of them
-/// are interrupted. There is a plan, as the minutes to both sides of an entry are enough for the one around it.
+/// A full day of entries each of which begins later and ends earlier than the last, so that nearly all of
+/// them are interrupted. There is a plan, as the minutes to both sides of an entry are enough for the one
+/// around it.
 pub fn interrupted_day(random: &mut Random) -> Day {
     let mut day = Day { h: LONGEST_DAY, entries: vec![] };
     let (mut r, mut d) = (0, LONGEST_DAY);
@@ -310,7 +311,8 @@ fn damage(random: &mut Random, bytes: &mut Vec<u8>) {
     }
 }
 
-/// A flat value that may break any rule: a list, often with noise behind it, with up to three numbers changed.
+/// A flat value that may break any rule: a list, often with noise behind it, with up to three numbers
+/// changed.
 pub fn wild_fields(random: &mut Random) -> Fields {
     let day = any_day(random);
     let mut fields = flat::of_day(&day);

@@ -1,5 +1,5 @@
-//! The second report: the lines of document 01's section "Writer and report", from the second reader, narrowing
-//! and bounds. An input is read to its end, however long it is.
+//! The second report: the lines of document 01's section "Writer and report", from the second reader,
+//! narrowing and bounds. An input is read to its end, however long it is.
 
 use crate::day::{Day, Entry, Interval, Refusal, IDLE};
 use crate::narrow::{self, Narrowed};
@@ -21,8 +21,8 @@ pub fn settled(input: &[u8]) -> Result<Narrowed, Refusal> {
     narrow::settle(&flat::value(&flat::of_day(&day)))
 }
 
-/// "fields one space apart and every line ended by a newline: a head line ..; per entry ..; per maximal run of
-/// one entry in the plan"
+/// "fields one space apart and every line ended by a newline: a head line ..; per entry ..; per maximal run
+/// of one entry in the plan"
 pub fn planned(Narrowed { day, moves }: &Narrowed) -> String {
     let plan = jackson::schedule(day);
     let head = format!(

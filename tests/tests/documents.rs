@@ -1,5 +1,5 @@
-//! The links of the pages, README and those under docs/ and samples/, lead to files, and the lines that they name
-//! declare what they say.
+//! The links of the pages, README and those under docs/ and samples/, lead to files, and the lines that they
+//! name declare what they say.
 
 use std::fs;
 use std::path::{Path, PathBuf};

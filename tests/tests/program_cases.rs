@@ -1,5 +1,5 @@
-//! The cases in the folder tests/cases: the built program prints each case's report when it gets the list through
-//! a pipe, and so do the library and the second report.
+//! The cases in the folder tests/cases: the built program prints each case's report when it gets the list
+//! through a pipe, and so do the library and the second report.
 
 use dock_tests::cases::{self, Case};
 use dock_tests::check_report::{number, stored};
@@ -60,6 +60,7 @@ fn the_long_cases_are_what_they_are_said_to_be() {
     assert_eq!(list("longest-list-and-1")[..963], longest);
     assert_eq!(list("far-over")[..963], longest);
     assert_eq!(list("full-day"), writer::form(&samples::four_of(&samples::many_moves())));
+    assert_eq!(list("long-text"), writer::form(&samples::long_text()));
 }
 
 #[test]

@@ -1,5 +1,6 @@
-//! The buffer that is lent for a report: its text stands at the start and its length is answered, and the bytes
-//! after it keep their values. A buffer that is too short is 12 with the bytes needed, and nothing is written.
+//! The buffer that is lent for a report: its text stands at the start and its length is answered, and the
+//! bytes after it keep their values. A buffer that is too short is 12 with the bytes needed, and nothing is
+//! written.
 
 use dock_tests::abi;
 use dock_tests::cases;
@@ -75,7 +76,8 @@ fn a_buffer_is_not_measured_by_its_lowest_bytes() {
     }
 }
 
-/// What the buffer held before changes nothing in the text, and all of it stays that is not text, whatever it is.
+/// What the buffer held before changes nothing in the text, and all of it stays that is not text, whatever it
+/// is.
 #[test]
 fn whatever_the_buffer_held() {
     let mut random = Random::new(222);
@@ -98,10 +100,10 @@ fn whatever_the_buffer_held() {
 /// A shorter report after a longer one leaves the rest of the longer one, and 12 leaves all of it.
 #[test]
 fn one_report_after_the_other_in_the_same_buffer() {
-    let mut out = vec![0; 4_000];
+    let mut out = vec![0; 6_000];
     let mut wanted = out.clone();
     for (input, text) in inputs() {
-        for room in [4_000, text.len() - 1] {
+        for room in [6_000, text.len() - 1] {
             let answer = abi::report_into(&input, &mut out[..room]);
             if answer.number == 0 {
                 wanted[..text.len()].copy_from_slice(text.as_bytes());

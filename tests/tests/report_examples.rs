@@ -1,5 +1,5 @@
-//! Document 01's examples (a) to (h) as reports, and days that show one rule of the lines. The texts are worked out
-//! by hand.
+//! Document 01's examples (a) to (h) as reports, and days that show one rule of the lines. The texts are
+//! worked out by hand.
 
 use dock_tests::check_report::report;
 use dock_tests::day::Day;
@@ -126,8 +126,8 @@ fn a_run_is_of_one_entry() {
     says(&boxes(3, "p[2,3)1 p[1,2)1 p[0,1)1"), &lines);
 }
 
-/// Windows, bounds and runs are those after narrowing: as given, place 0 could have minutes 0 and 2, and place
-/// 2 the last one. One move is counted.
+/// Windows, bounds and runs are those after narrowing: as given, place 0 could have minutes 0 and 2, and
+/// place 2 the last one. One move is counted.
 #[test]
 fn all_is_said_of_the_settled_windows() {
     let lines = [
@@ -142,7 +142,8 @@ fn all_is_said_of_the_settled_windows() {
     says(&boxes(4, "w[0,4)2 p[1,2)1 p[0,4)1"), &lines);
 }
 
-/// "`broken` counts whole entries whose planned minutes are not consecutive": once each, and no pause entries.
+/// "`broken` counts whole entries whose planned minutes are not consecutive": once each, and no pause
+/// entries.
 #[test]
 fn broken_counts_whole_entries_once() {
     let broken = |h, entries| {

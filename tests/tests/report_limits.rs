@@ -1,8 +1,8 @@
-//! The limits of a report: inputs around 964 bytes, days without entries and full ones, numbers of many digits,
-//! and how long a text can be.
+//! The limits of a report: inputs around 964 bytes, days without entries and full ones, numbers of many
+//! digits, and how long a text can be.
 
 use dock_tests::check_report::report;
-use dock_tests::day::{Day, Entry, LONGEST_DAY, LONGEST_LIST, MOST_ENTRIES};
+use dock_tests::day::{Day, LONGEST_DAY, LONGEST_LIST, MOST_ENTRIES};
 use dock_tests::random::{self, Random};
 use dock_tests::report::{ENOUGH, LONGEST_INPUT};
 use dock_tests::samples::{self, boxes, windows};
@@ -121,35 +121,20 @@ fn no_place_for_the_last_entry() {
     assert_eq!(report(&writer::form(&day)), "refused 10 entry 63\n");
 }
 
-/// 64 entries, each of which begins a minute after the last and ends a minute before it, with the longest serials
-/// and seals. All but the innermost are interrupted by the next one after their first minute, so there are 127
-/// runs: an entry's arrival or another's end begins each of them, so no plan has more.
-fn interrupted(first: u16, whole: bool, p: impl Fn(usize) -> u16) -> Day {
-    let entry = |place: usize| Entry {
-        serial: u32::MAX,
-        seal: Some(u32::MAX),
-        r: first + place as u16,
-        d: LONGEST_DAY - place as u16,
-        p: p(place),
-        whole,
-    };
-    Day { h: LONGEST_DAY, entries: (0..MOST_ENTRIES).map(entry).collect() }
-}
-
 /// More moves than a byte counts, and more broken entries than one digit.
 #[test]
 fn moves_and_broken_entries_of_more_digits() {
     let text = report(&writer::form(&samples::four_of(&samples::many_moves())));
     assert!(text.starts_with("day 1440 entries 64 moves 272 broken 0\n"), "{text}");
-    let text = report(&writer::form(&interrupted(0, true, |_| 2)));
+    let text = report(&writer::form(&samples::interrupted(0, true, |_| 2)));
     assert!(text.starts_with("day 1440 entries 64 moves 0 broken 63\n"), "{text}");
 }
 
-/// A long text: all minutes have four digits, and as many p as the day has room for have two. The head line has 37
-/// bytes. An entry's line has 50, and the digits of its place and p; a run's line has 11, and those of its place.
+/// All minutes have four digits, and as many p as the day has room for have two. The head line has 37 bytes.
+/// An entry's line has 50, and the digits of its place and p; a run's line has 11, and those of its place.
 #[test]
 fn a_text_of_5089_bytes() {
-    let day = interrupted(1_000, false, |place| if place < 39 { 10 } else { 2 });
+    let day = samples::long_text();
     assert_eq!(day.entries.iter().map(|entry| entry.p).sum::<u16>(), 440, "no minute from 1,000 on is idle");
     let text = report(&writer::form(&day));
     assert_eq!(text.lines().count(), 1 + 64 + 127);
@@ -159,8 +144,9 @@ fn a_text_of_5089_bytes() {
     assert_eq!((text.len(), 37 + entries + runs), (5_089, 5_089));
 }
 
-/// No text is longer than a head line of 42 bytes, 64 entries of 56 and 127 runs of 13, which is far below the
-/// buffer that is enough for any.
+/// No text is longer than a head line of 42 bytes, 64 entries of 56 and 127 runs of 13, which is far below
+/// the buffer that is enough for any: an entry's arrival or another's end begins a run, so there are at most
+/// 127.
 #[test]
 fn no_text_comes_near_the_buffer_that_is_enough() {
     let longest = "day 1440 entries 64 moves 92096 broken 64\n".len()

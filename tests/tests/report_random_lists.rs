@@ -1,5 +1,5 @@
-//! The reports of 20,000 lists, fixed by their seeds, against the second report: every byte of the text and of
-//! the buffer after it.
+//! The reports of 20,000 lists, fixed by their seeds, against the second report: every byte of the text and
+//! of the buffer after it.
 //!
 //! | Lists | What they are |
 //! |---|---|
@@ -8,13 +8,13 @@
 //! | 3,000 | such days with one byte of the header changed |
 //! | 1,600 | lists of any length, damaged likewise |
 //! | 1,000 | inputs of more than 964 bytes: a full list, damaged or not, with bytes added |
-//! | 400 | full days, 64 entries and 1,440 minutes: a planned one takes the library some hundredths of a second |
+//! | 400 | full days, 64 entries and 1,440 minutes, each some hundredths of a second in the library |
 
 use dock_tests::check_report::{report, Told};
 use dock_tests::day::{Day, LONGEST_DAY, MOST_ENTRIES};
 use dock_tests::random::{self, Random};
 use dock_tests::report::{text, LONGEST_INPUT};
-use dock_tests::writer;
+use dock_tests::{samples, writer};
 
 /// Makes so many inputs, reports each of them with both programs, and counts what was told.
 #[track_caller]
@@ -71,10 +71,14 @@ fn sixteen_hundred_damaged_lists_of_any_length() {
     told.at_least(&[(0, 80), (1, 300), (2, 80), (4, 100), (7, 300), (8, 250), (9, 100)]);
 }
 
-/// More than the program takes: a full list, damaged once in two times, with bytes added.
+/// More than the program takes: a full list, once in four times a longest one, damaged or not, with bytes
+/// added.
 fn over_the_limit(random: &mut Random) -> Vec<u8> {
     let mut day = random::day(random, MOST_ENTRIES);
     day.entries.resize_with(MOST_ENTRIES, || random::entry(random, day.h));
+    if random.once_in(4) {
+        day = samples::longest();
+    }
     let mut input = if random.once_in(2) { random::damaged_form(random, &day) } else { writer::form(&day) };
     let more = random.pick(&[1, 40, 5_000]);
     let length = LONGEST_INPUT + 1 + random.below(more);
@@ -92,7 +96,7 @@ fn a_thousand_inputs_over_964_bytes() {
         assert_eq!(report(&input[..LONGEST_INPUT]), text(&input), "the first 964 bytes of {input:02X?}");
         input
     });
-    told.at_least(&[(4, 40), (5, 8), (6, 15), (7, 250), (8, 600)]);
+    told.at_least(&[(4, 50), (5, 8), (6, 10), (7, 250), (8, 600)]);
     told.never(&[0, 1, 9, 10]);
 }
 

@@ -1,5 +1,5 @@
-//! The days in the folder samples: each has a description, the list that says the same in bytes, and the report that
-//! the built program prints.
+//! The days in the folder samples: each has a description, the list that says the same in bytes, and the
+//! report that the built program prints.
 
 use dock_tests::cases::{self, Case};
 use dock_tests::day::{Day, Entry};
@@ -13,8 +13,8 @@ fn folder() -> PathBuf {
     Path::new(env!("CARGO_MANIFEST_DIR")).join("../samples")
 }
 
-/// The day that a description tells after an empty line, in the form `day 240` and then, for each entry, `serial 501
-/// seal - pause from 0 to 240 needs 60`.
+/// The day that a description tells after an empty line, in the form `day 240` and then, for each entry,
+/// `serial 501 seal - pause from 0 to 240 needs 60`.
 fn told(description: &str) -> Day {
     let (_, lines) = description.split_once("\n\n").expect("an empty line before the day");
     let mut lines = lines.lines();

@@ -1,6 +1,6 @@
-//! Document 01's traps, each with a day on which the trap's way gives another answer than the rules: "keying entries
-//! by serial; letting an equal d interrupt; stopping after one round, which fails (a); taking the timetable rule of
-//! document 004, which gives least end 3 in (b); seeking the least start by halving".
+//! Document 01's traps, each with a day on which the trap's way gives another answer than the rules: "keying
+//! entries by serial; letting an equal d interrupt; stopping after one round, which fails (a); taking the
+//! timetable rule of document 004, which gives least end 3 in (b); seeking the least start by halving".
 
 use dock_tests::abi::{self, Call};
 use dock_tests::check::planned;
@@ -20,8 +20,8 @@ fn keyed_by_serial(day: &Day) -> Day {
     Day { h: day.h, entries: by_serial.into_values().collect() }
 }
 
-/// "The same serial may stand twice. The depots see to it that such windows do not overlap; nothing here relies on
-/// it."
+/// "The same serial may stand twice. The depots see to it that such windows do not overlap; nothing here
+/// relies on it."
 #[test]
 fn keying_entries_by_serial() {
     let day = with_serials(windows(9, &[(0, 9, 3), (2, 6, 2)]), &[7, 7]);
@@ -75,8 +75,8 @@ fn stopping_after_one_round() {
     assert!(narrowed == flat::of_day(&trapped.day), "the library's call for one round");
 }
 
-/// A whole entry has the minutes from its latest start to its earliest end for sure. The first p minutes that are
-/// not taken so are a pause entry's, so that its end is the last of them plus 1.
+/// A whole entry has the minutes from its latest start to its earliest end for sure. The first p minutes that
+/// are not taken so are a pause entry's, so that its end is the last of them plus 1.
 fn end_by_the_timetable(day: &Day, place: usize) -> u16 {
     let Entry { r, d, p, .. } = day.entries[place];
     let sure =
@@ -85,8 +85,8 @@ fn end_by_the_timetable(day: &Day, place: usize) -> u16 {
     (r..d).filter(free).nth(usize::from(p) - 1).expect("p free minutes") + 1
 }
 
-/// Example (b): minute 1 is the only one that place 0 has in any case, and minutes 0 and 2 are not both free beside
-/// it. Then its mirror.
+/// Example (b): minute 1 is the only one that place 0 has in any case, and minutes 0 and 2 are not both free
+/// beside it. Then its mirror.
 #[test]
 fn taking_the_timetable_rule() {
     let day = boxes(4, "w[0,3)2 p[0,4)2");
@@ -120,8 +120,8 @@ fn least_start_by_halving(day: &Day) -> u16 {
     low
 }
 
-/// "with pause [3,5) p 2 a whole p 3 may start at 0, not at 1 to 4, and again at 5". Halving tries 2 first, finds
-/// no plan, and never sees 0.
+/// "with pause [3,5) p 2 a whole p 3 may start at 0, not at 1 to 4, and again at 5". Halving tries 2 first,
+/// finds no plan, and never sees 0.
 #[test]
 fn seeking_the_least_start_by_halving() {
     let day = boxes(8, "w[0,8)3 p[3,5)2");
