@@ -21,8 +21,8 @@ fn start(input: Stdio) -> Child {
     command.spawn().unwrap_or_else(|error| panic!("{} does not start: {error}", path.display()))
 }
 
-/// How long a program may take that has all it needs. One that waits for more input would wait for ever.
-const PATIENCE: Duration = Duration::from_secs(120);
+/// A program that has all it needs ends long before this. One that waits for more input would never end.
+const LONGEST_RUN: Duration = Duration::from_secs(120);
 
 /// Waits until the program ends by itself, with exit status 0 and nothing on standard error, and gives what
 /// it wrote to standard output.
@@ -41,7 +41,7 @@ fn finish(mut program: Child) -> String {
     let status = loop {
         match program.try_wait().expect("the program's state") {
             Some(status) => break Some(status),
-            None if begin.elapsed() > PATIENCE => break None,
+            None if begin.elapsed() > LONGEST_RUN => break None,
             None => thread::sleep(Duration::from_millis(1)),
         }
     };
