@@ -32,6 +32,7 @@ extern "C" {
         len: usize,
         narrowed: *mut Fields,
     ) -> Answer;
+    fn dock_report(bytes: *const u8, len: usize, out: *mut u8, room: usize) -> Answer;
 }
 
 /// What a call answers: 0 or a refusal's number, and three values, 0 where there are fewer.
@@ -179,4 +180,15 @@ fn ask_lending(
             Call::Late(place) => dock_late(fields, place, plan, len, narrowed),
         }
     }
+}
+
+/// Reports an input through the library into `room` bytes, and gives all of them back.
+pub fn report(bytes: &[u8], room: usize) -> (Answer, Vec<u8>) {
+    lending(room, |out| report_into(bytes, out))
+}
+
+/// Reports an input through the library into these bytes, whatever they hold.
+pub fn report_into(bytes: &[u8], out: &mut [u8]) -> Answer {
+    // SAFETY: the library reads `bytes.len()` bytes and writes the bytes of `out`, all of them lent here.
+    unsafe { dock_report(bytes.as_ptr(), bytes.len(), out.as_mut_ptr(), out.len()) }
 }

@@ -34,9 +34,9 @@ fn chain(h: u16, n: usize, p: u16) -> Chain {
     chain
 }
 
-/// A day of `n` entries, at least 2, of `p` minutes each, and its settled windows. The outermost entry has the last place, so
-/// each round settles one more entry, from the last place to the first: there are n + 1 rounds, and 2 n - 2
-/// moves.
+/// A day of `n` entries, at least 2, of `p` minutes each, and its settled windows. The outermost entry has
+/// the last place, so each round settles one more entry, from the last place to the first: there are n + 1
+/// rounds, and 2 n - 2 moves.
 pub fn settled_one_by_one(n: usize, p: u16) -> (Day, Day) {
     let h = n as u16 * p;
     let Chain { mut entries, mut settled, .. } = chain(h, n, p);

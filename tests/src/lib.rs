@@ -1,27 +1,40 @@
-//! What the tests of the dock planner stand on: the calls of the static library, a second reader, writer,
-//! planner and narrowing of the day's list, its bounds and shown plans, written straight from document 01, all
-//! plans and settled windows of small days found by trying everything, the values that every call refuses or
-//! accepts, and random lists to try these on.
+//! What the tests of the dock planner stand on. The names of the tests begin with the layer that they test:
+//! `read_` and `write_` (the list), `jackson_` (overload test and schedule of the windows as given),
+//! `narrow_`, `bounds_` (the calls that plan), `report_` (the report's text) and `program_` (the built
+//! program); `traps`, `sample_days` and `documents` are for themselves.
 
-pub mod abi;
-pub mod bounds;
-pub mod brute;
-pub mod chains;
-pub mod check;
-pub mod check_bounds;
-pub mod check_narrow;
-pub mod day;
-pub mod flat;
-pub mod ignored;
-pub mod jackson;
-pub mod mirror;
-pub mod narrow;
-pub mod overload;
-pub mod planner;
-pub mod random;
-pub mod reader;
-pub mod samples;
-pub mod settled;
-pub mod small;
-pub mod values;
-pub mod writer;
+// What is tested.
+pub mod abi; // the calls of the static library
+pub mod program; // the report program as it is built
+
+// The rules of document 01 a second time, in another style than the proved code.
+pub mod bounds; // least ends, greatest starts, shown plans
+pub mod day; // the list, its entries and refusals
+pub mod flat; // a list as the numbers in which the library takes it
+pub mod jackson; // Jackson's schedule
+pub mod mirror; // the mirrored list and plan
+pub mod narrow; // searches, steps and rounds
+pub mod overload; // overloaded intervals
+pub mod planner; // the schedule of the windows as given, and its refusals
+pub mod reader; // from bytes to a list
+pub mod report; // from bytes to the report's text
+pub mod writer; // from a list to bytes, and the refusals of a value
+
+// Small days by trying everything.
+pub mod brute; // all plans and all intervals
+pub mod settled; // all sets of windows and all lists of steps
+pub mod small; // every day of so many minutes and entries
+
+// Calls of the library, each held against the rules or against trying everything.
+pub mod check; // reading, writing, overload test, schedule
+pub mod check_bounds; // planning and shown plans
+pub mod check_narrow; // narrowing
+pub mod check_report; // reports
+
+// Inputs, lists and values to try.
+pub mod cases; // inputs with their reports, from files
+pub mod chains; // days that need many rounds
+pub mod ignored; // values that differ in what no call looks at
+pub mod random; // lists, damaged inputs and values, fixed by their seeds
+pub mod samples; // lists that several tests share, and short forms to write others down
+pub mod values; // values that every call refuses or accepts

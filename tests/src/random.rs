@@ -168,6 +168,38 @@ pub fn full_day(random: &mut Random, idle: bool, wider: u16, pause: usize) -> Da
     day
 }
 
+/// A full day of whole entries that fill it up to two minutes each, and four pause entries of a minute
+/// anywhere: often right where a whole entry must be, which then has no place.
+pub fn blocked_day(random: &mut Random) -> Day {
+    let mut day = unbroken_day(random, LONGEST_DAY, MOST_ENTRIES - 4, false, 40);
+    day.entries.iter_mut().for_each(|entry| {
+        entry.whole = true;
+        entry.p -= if entry.p > 2 { 2 } else { 0 };
+    });
+    for _ in 0..4 {
+        let r = random.within(0, LONGEST_DAY - 1);
+        day.entries.push(Entry { r, d: r + 1, p: 1, whole: false, ..entry(random, 1) });
+    }
+    shuffle(random, &mut day.entries);
+    day
+}
+
+/// A full day of entries each of which begins later and ends earlier than the last, so that nearly all of
+/// them are interrupted. There is a plan, as the minutes to both sides of an entry are enough for the one
+/// around it.
+pub fn interrupted_day(random: &mut Random) -> Day {
+    let mut day = Day { h: LONGEST_DAY, entries: vec![] };
+    let (mut r, mut d) = (0, LONGEST_DAY);
+    for _ in 0..MOST_ENTRIES {
+        let (before, after) = (random.within(1, 11), random.within(1, 11));
+        let p = random.within(before, before + after);
+        day.entries.push(Entry { r, d, p, whole: random.once_in(8), ..entry(random, 1) });
+        (r, d) = (r + before, d - after);
+    }
+    shuffle(random, &mut day.entries);
+    day
+}
+
 /// A day of at most `most` minutes and `n` entries, of which three in four or all are whole: windows of any
 /// kind, or drawn around a plan that breaks entries or not.
 pub fn mixed_day(random: &mut Random, most: u16, n: usize) -> Day {
@@ -238,9 +270,27 @@ pub fn work_more(random: &mut Random, day: &mut Day) {
 
 /// The bytes of a random list with one to three damages.
 pub fn damaged(random: &mut Random) -> Vec<u8> {
-    let mut bytes = writer::form(&any_day(random));
+    let day = any_day(random);
+    damaged_form(random, &day)
+}
+
+/// The bytes of this list with one to three damages.
+pub fn damaged_form(random: &mut Random, day: &Day) -> Vec<u8> {
+    let mut bytes = writer::form(day);
     for _ in 0..=random.below(3) {
         damage(random, &mut bytes);
+    }
+    bytes
+}
+
+/// The bytes of this list with another byte in its header.
+pub fn with_header_changed(random: &mut Random, day: &Day) -> Vec<u8> {
+    let mut bytes = writer::form(day);
+    let at = random.below(3);
+    let byte = bytes[at];
+    while bytes[at] == byte {
+        let any = random.any() as u8;
+        bytes[at] = random.pick(&[0, 1, 5, 6, 64, 65, 128, byte.wrapping_sub(1), byte.wrapping_add(1), any]);
     }
     bytes
 }
@@ -261,7 +311,8 @@ fn damage(random: &mut Random, bytes: &mut Vec<u8>) {
     }
 }
 
-/// A flat value that may break any rule: a list, often with noise behind it, with up to three numbers changed.
+/// A flat value that may break any rule: a list, often with noise behind it, with up to three numbers
+/// changed.
 pub fn wild_fields(random: &mut Random) -> Fields {
     let day = any_day(random);
     let mut fields = flat::of_day(&day);

@@ -146,6 +146,26 @@ pub fn longest() -> Day {
     Day { h: LONGEST_DAY, entries: (0..MOST_ENTRIES).map(entry).collect() }
 }
 
+/// A full day in which each entry begins a minute after the last, from `first` on, and ends a minute before
+/// it, with the longest serials and seals. All but the innermost are interrupted by the next after their
+/// first minute.
+pub fn interrupted(first: u16, whole: bool, p: impl Fn(usize) -> u16) -> Day {
+    let entry = |place: usize| Entry {
+        serial: u32::MAX,
+        seal: Some(u32::MAX),
+        r: first + place as u16,
+        d: LONGEST_DAY - place as u16,
+        p: p(place),
+        whole,
+    };
+    Day { h: LONGEST_DAY, entries: (0..MOST_ENTRIES).map(entry).collect() }
+}
+
+/// A day with a long report: 64 entries and 127 runs, nearly all with numbers of the most digits.
+pub fn long_text() -> Day {
+    interrupted(1_000, false, |place| if place < 39 { 10 } else { 2 })
+}
+
 /// A list with each of the 16 shapes of an entry.
 pub fn every_shape() -> Day {
     let entry = |shape: u32| Entry {

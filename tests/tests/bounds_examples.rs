@@ -73,16 +73,6 @@ fn example_b() {
     shown(&day, 1, "0 0 1 1", "0 0 1 1");
 }
 
-/// "taking the timetable rule of document 004, which gives least end 3 in (b)": minute 1 is the only one that
-/// place 0 has in any case, and minutes 0 and 2 are not both free beside it.
-#[test]
-fn the_least_end_in_example_b_is_not_3() {
-    let (answer, _) = abi::ask(Call::Early(1), &flat::of_day(&boxes(4, "w[0,3)2 p[0,4)2")), 4);
-    assert_eq!((answer.number, answer.values), (0, [0, 4, 0]));
-    let (answer, _) = abi::ask(Call::Late(0), &flat::of_day(&boxes(4, "p[0,4)2 w[1,4)2")), 4);
-    assert_eq!((answer.number, answer.values), (0, [0, 0, 0]), "in the mirror, not 1");
-}
-
 /// "(c) H 10, [2,5) p 2 twice: 9, from 2 to 5, work 4. With p 2 and 1: accepted."
 #[test]
 fn example_c() {

@@ -117,23 +117,12 @@ fn full_overloaded_days() {
     }
 }
 
-/// Entries that fill the day up to two minutes each, and four pause entries of a minute anywhere: often right
-/// where a whole entry must be.
 #[test]
 fn full_days_without_a_place_for_an_entry() {
     let mut random = Random::new(126);
     let mut places = vec![];
     for _ in 0..24 {
-        let mut day = random::unbroken_day(&mut random, LONGEST_DAY, MOST_ENTRIES - 4, false, 40);
-        day.entries.iter_mut().for_each(|entry| {
-            entry.whole = true;
-            entry.p -= if entry.p > 2 { 2 } else { 0 };
-        });
-        for _ in 0..4 {
-            let r = random.within(0, LONGEST_DAY - 1);
-            day.entries.push(Entry { r, d: r + 1, p: 1, whole: false, ..random::entry(&mut random, 1) });
-        }
-        random::shuffle(&mut random, &mut day.entries);
+        let day = random::blocked_day(&mut random);
         if let Err(Refusal::NoPlace { place }) = settle(&flat::of_day(&day)) {
             places.push(place);
         }

@@ -4,16 +4,7 @@
 use dock_tests::check_narrow::{round, settled_by_rounds};
 use dock_tests::random::{self, Random};
 use dock_tests::samples::boxes;
-use dock_tests::{abi, chains, flat, narrow};
-
-/// Example (a) would be settled by two rounds; one leaves place 0 as it was.
-#[test]
-fn one_round_is_not_all() {
-    let day = boxes(4, "w[0,3)2 w[0,4)2");
-    let (answer, narrowed) = abi::round(&flat::of_day(&day));
-    assert_eq!((answer.number, answer.values), (0, [1, 0, 0]));
-    assert!(narrowed == flat::of_day(&boxes(4, "w[0,3)2 w[2,4)2")), "after round one");
-}
+use dock_tests::{chains, flat, narrow};
 
 /// A visit sees what the visits before it in the same round have left: place 1 here sees place 0 moved.
 #[test]

@@ -1,7 +1,7 @@
 //! The starts of one whole entry among fixed blocks: any free run of minutes that is long enough has some, so
 //! they cannot be sought by halving. What is expected here follows from the free minutes alone.
 
-use dock_tests::check_narrow::{by_trying_everything, no_place, rounds_leave, settled};
+use dock_tests::check_narrow::{by_trying_everything, no_place, settled};
 use dock_tests::day::{Day, LONGEST_DAY};
 use dock_tests::random::Random;
 use dock_tests::samples::{boxes, whole, windows};
@@ -37,20 +37,7 @@ fn as_the_free_minutes_say(h: u16, (r, d, p): (u16, u16, u16), blocks: &[(u16, u
     answer.number
 }
 
-/// "with pause [3,5) p 2 a whole p 3 may start at 0, not at 1 to 4, and again at 5". Halving would try 2
-/// first, find no plan, and never see 0.
-#[test]
-fn a_start_before_the_block_and_one_after_it() {
-    let day = boxes(8, "w[0,8)3 p[3,5)2");
-    rounds_leave(&day, &[("w[0,8)3 p[3,5)2", 0)]);
-    assert_eq!(by_trying_everything(&day).values, [0, 0, 0]);
-    for start in 0..=5 {
-        let wanted = if start == 0 || start == 5 { 0 } else { 9 };
-        assert_eq!(as_the_free_minutes_say(8, (start, start + 3, 3), &[(3, 5)]), wanted, "start {start}");
-    }
-}
-
-/// From 1 on the search goes over 1 to 4 and ends at 5.
+/// With three minutes to place and the block [3, 5), the search from 1 on goes over 1 to 4 and ends at 5.
 #[test]
 fn the_least_start_may_be_behind_the_block() {
     for r in 1..=4 {

@@ -28,12 +28,6 @@ fn the_smallest_d_is_taken_whatever_r_and_p() {
 }
 
 #[test]
-fn an_equal_d_does_not_interrupt_from_a_lower_place() {
-    planned(6, &[(1, 6, 2), (0, 6, 3)], "1 1 1 0 0 -");
-    planned(6, &[(1, 6, 1), (2, 6, 1), (0, 6, 4)], "2 2 2 2 0 1");
-}
-
-#[test]
 fn an_equal_d_does_not_interrupt_from_a_higher_place() {
     planned(6, &[(0, 6, 3), (1, 6, 2)], "0 0 0 1 1 -");
     planned(6, &[(0, 6, 3), (1, 6, 1), (2, 6, 1)], "0 0 0 1 2 -");

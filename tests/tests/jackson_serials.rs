@@ -16,14 +16,6 @@ fn every_entry_is_kept(day: &Day, plan: &[u8]) {
 }
 
 #[test]
-fn one_serial_with_overlapping_windows_is_planned_twice() {
-    let day = with_serials(windows(9, &[(0, 9, 3), (2, 6, 2)]), &[7, 7]);
-    let bytes = planned(&day);
-    assert_eq!(bytes, plan("0 0 1 1 0 - - - -"));
-    every_entry_is_kept(&day, &bytes);
-}
-
-#[test]
 fn one_serial_with_the_same_window_is_planned_twice() {
     let day = with_serials(windows(6, &[(1, 5, 2), (1, 5, 2)]), &[7, 7]);
     let bytes = planned(&day);

@@ -1,0 +1,73 @@
+//! The second report: the lines of document 01's section "Writer and report", from the second reader,
+//! narrowing and bounds. An input is read to its end, however long it is.
+
+use crate::day::{Day, Entry, Interval, Refusal, IDLE};
+use crate::narrow::{self, Narrowed};
+use crate::{bounds, flat, jackson, reader};
+
+/// The bytes that the program takes at most: one more than a longest list has.
+pub const LONGEST_INPUT: usize = 964;
+/// A buffer in which every report fits.
+pub const ENOUGH: usize = 22_352;
+
+/// The report of an input, or of its refusal.
+pub fn text(input: &[u8]) -> String {
+    settled(input).map_or_else(refused, |narrowed| planned(&narrowed))
+}
+
+/// How an input is answered: its settled windows and the moves, or its refusal.
+pub fn settled(input: &[u8]) -> Result<Narrowed, Refusal> {
+    let day = reader::read(input)?;
+    narrow::settle(&flat::value(&flat::of_day(&day)))
+}
+
+/// "fields one space apart and every line ended by a newline: a head line ..; per entry ..; per maximal run
+/// of one entry in the plan"
+pub fn planned(Narrowed { day, moves }: &Narrowed) -> String {
+    let plan = jackson::schedule(day);
+    let head = format!(
+        "day {} entries {} moves {moves} broken {}\n",
+        day.h,
+        day.entries.len(),
+        bounds::broken(day, &plan)
+    );
+    let entries = (0..day.entries.len()).map(|place| entry_line(day, place));
+    let runs = runs(&plan).into_iter().map(|(first, end, place)| format!("{first} {end} {place}\n"));
+    [head].into_iter().chain(entries).chain(runs).collect()
+}
+
+/// "its place, serial, seal or `-`, `pause` or `whole`, settled r, settled d, p, least end, greatest start"
+fn entry_line(day: &Day, place: usize) -> String {
+    let Entry { serial, seal, r, d, p, whole } = &day.entries[place];
+    let seal = seal.map_or("-".to_string(), |seal| seal.to_string());
+    let kind = if *whole { "whole" } else { "pause" };
+    let (end, start) = (bounds::least_end(day, place), bounds::greatest_start(day, place));
+    format!("{place} {serial} {seal} {kind} {r} {d} {p} {end} {start}\n")
+}
+
+/// The maximal runs of one entry: "its first minute, its end, the place". Idle minutes are no entry's.
+pub fn runs(plan: &[u8]) -> Vec<(usize, usize, u8)> {
+    let mut runs = vec![];
+    let mut first = 0;
+    for run in plan.chunk_by(|one, next| one == next) {
+        let end = first + run.len();
+        if run[0] != IDLE {
+            runs.push((first, end, run[0]));
+        }
+        first = end;
+    }
+    runs
+}
+
+/// "Refusals print as `refused 7 at 3` (the number, then what it carries), `refused 9 from 2 to 5 work 4`,
+/// `refused 10 entry 0`."
+fn refused(refusal: Refusal) -> String {
+    match refusal {
+        Refusal::Overloaded(Interval { a, b, work }) => format!("refused 9 from {a} to {b} work {work}\n"),
+        Refusal::NoPlace { place } => format!("refused 10 entry {place}\n"),
+        _ => {
+            let (number, [carries, ..]) = refusal.code();
+            format!("refused {number} at {carries}\n")
+        }
+    }
+}

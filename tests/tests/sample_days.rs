@@ -1,0 +1,70 @@
+//! The days in the folder samples: each has a description, the list that says the same in bytes, and the
+//! report that the built program prints.
+
+use dock_tests::cases::{self, Case};
+use dock_tests::day::{Day, Entry};
+use dock_tests::{program, writer};
+use std::fs;
+use std::path::{Path, PathBuf};
+
+const SAMPLES: [&str; 4] = ["morning", "no-place", "overloaded", "tight"];
+
+fn folder() -> PathBuf {
+    Path::new(env!("CARGO_MANIFEST_DIR")).join("../samples")
+}
+
+/// The day that a description tells after an empty line, in the form `day 240` and then, for each entry,
+/// `serial 501 seal - pause from 0 to 240 needs 60`.
+fn told(description: &str) -> Day {
+    let (_, lines) = description.split_once("\n\n").expect("an empty line before the day");
+    let mut lines = lines.lines();
+    let h = lines.next().and_then(|line| line.strip_prefix("day ")).expect("the day's length");
+    Day { h: h.parse().expect("minutes"), entries: lines.map(entry).collect() }
+}
+
+fn entry(line: &str) -> Entry {
+    let words: Vec<&str> = line.split(' ').collect();
+    let &["serial", serial, "seal", seal, kind, "from", r, "to", d, "needs", p] = &words[..] else {
+        panic!("{line} is no entry")
+    };
+    assert!(["pause", "whole"].contains(&kind), "{line}");
+    let minute = |word: &str| word.parse().expect("a minute");
+    Entry {
+        serial: serial.parse().expect("a serial"),
+        seal: (seal != "-").then(|| seal.parse().expect("a seal")),
+        r: minute(r),
+        d: minute(d),
+        p: minute(p),
+        whole: kind == "whole",
+    }
+}
+
+#[test]
+fn each_day_has_its_files_and_a_line_in_the_table() {
+    for ending in ["txt", "list", "report"] {
+        assert_eq!(cases::names(&folder(), ending), SAMPLES, "files of ending {ending}");
+    }
+    let page = fs::read_to_string(folder().join("README.md")).expect("the table");
+    let mut rows: Vec<_> =
+        page.lines().filter_map(|line| line.strip_prefix("| [")?.split(']').next()).collect();
+    rows.sort_unstable();
+    assert_eq!(rows, SAMPLES);
+}
+
+#[test]
+fn each_list_is_the_one_form_of_the_day_told() {
+    for name in SAMPLES {
+        let description =
+            fs::read_to_string(folder().join(name).with_extension("txt")).expect("a description");
+        let list = cases::of(&folder(), name.to_string()).list;
+        assert_eq!(list, writer::form(&told(&description)), "{name}");
+    }
+}
+
+#[test]
+fn the_program_prints_each_report() {
+    for name in SAMPLES {
+        let Case { list, report, .. } = cases::of(&folder(), name.to_string());
+        assert_eq!(program::output(&list), report, "{name}");
+    }
+}
