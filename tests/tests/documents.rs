@@ -64,9 +64,13 @@ fn a_line_that_is_named_declares_the_name_before_it() {
         let Some(line) = link.line else { continue };
         let name = link.before.rsplit('`').nth(1).expect("a name must stand before the link");
         let text = text_of(&link.file);
-        let declared: Vec<usize> = (1..).zip(text.lines()).filter(|(_, l)| declares(l, name)).map(|(i, _)| i).collect();
+        let declared: Vec<usize> =
+            (1..).zip(text.lines()).filter(|(_, l)| declares(l, name)).map(|(i, _)| i).collect();
         let (page, file) = (link.page, link.file.display());
-        assert!(declared.contains(&line), "{page}: line {line} of {file} for {name}, declared in {declared:?}");
+        assert!(
+            declared.contains(&line),
+            "{page}: line {line} of {file} for {name}, declared in {declared:?}"
+        );
         let shown = link.before.rsplit(['[', ':']).next().expect("a link has a text");
         assert_eq!(shown, line.to_string(), "{page}: the link's text and its target for {name}");
         lines += 1;
@@ -81,7 +85,9 @@ fn definitions(name: &str) -> usize {
     let files = fs::read_dir(&folder).unwrap_or_else(|error| panic!("{}: {error}", folder.display()));
     files
         .map(|file| file.expect("a file must be listed").path())
-        .filter(|file| !["Lib", "Steps", "Parts"].iter().any(|part| file.file_stem().is_some_and(|stem| stem == *part)))
+        .filter(|file| {
+            !["Lib", "Steps", "Parts"].iter().any(|part| file.file_stem().is_some_and(|stem| stem == *part))
+        })
         .flat_map(|file| text_of(&file).lines().map(|line| line.trim().to_string()).collect::<Vec<_>>())
         .filter(|line| !line.is_empty() && !line.starts_with("--") && !line.starts_with("use "))
         .count()
