@@ -4,7 +4,8 @@
 use std::fs;
 use std::path::{Path, PathBuf};
 
-const PAGES: [&str; 4] = ["README.md", "docs/ARCHITECTURE.md", "docs/DECISIONS.md", "samples/README.md"];
+const PAGES: [&str; 5] =
+    ["README.md", "docs/ARCHITECTURE.md", "docs/BENCHMARKS.md", "docs/DECISIONS.md", "samples/README.md"];
 
 /// A link to a file of the repository: the page, the text before it, the file, and the line if it names one.
 struct Link {

@@ -1,4 +1,4 @@
--- What the calls leave, from what the crates list, jackson, narrow and bounds answer.
+-- What the calls leave, from what the crates list, jackson, narrow, bounds and report answer.
 -- Assumes nothing.
 use mathlib.Core.Path.{_≡_, refl, sym, ap, subst, _∙_}
 use mathlib.Core.List.{List, [], _∷_, _++_}
@@ -7,7 +7,6 @@ use lib.ListN.{length}
 use Rattle.list.specs.Outcomes.{Outcome, answered, refused}
 use Rattle.list.specs.Refusals.{codeOf, verdictOf, outcomeOf, writeAnswerOf}
 use Rattle.list.specs.Reading.{readOf}
-use Rattle.list.specs.Writing.{writeOf}
 use Rattle.list.specs.Promises.{Reads, Writes}
 use Rattle.list.specs.declared.types.DayList.{DayList}
 use Rattle.list.specs.declared.types.Refusal.{Refusal}
@@ -15,7 +14,6 @@ use Rattle.list.specs.declared.types.Verdict.{Verdict}
 use Rattle.list.specs.declared.types.Verdict.the-variants.{Accepted, Refused}
 use Rattle.list.specs.declared.types.ReadAnswer.{ReadAnswer}
 use Rattle.list.specs.declared.types.WriteAnswer.{WriteAnswer}
-use Rattle.list.specs.declared.types.WriteAnswer.the-variants.{Written, NotWritten}
 use Rattle.jackson.specs.Windows.{Windows}
 use Rattle.jackson.specs.Testing.{Tests}
 use Rattle.jackson.specs.Planning.{Fills}
@@ -26,9 +24,10 @@ use Rattle.bounds.specs.Calls.{settledOr, shownOf, PlansDay, ShowsPlan, ShowsEa
 use Rattle.bounds.specs.Demand3.{Told}
 use Rattle.bounds.specs.declared.types.PlanAnswer.{PlanAnswer}
 use Rattle.bounds.specs.declared.types.ShownAnswer.{ShownAnswer}
+use Rattle.report.specs.Calls.{Reports}
 use Rattle.codes.specs.Numbers.{three}
 use Rattle.abi.specs.Flat.{flatOf, valueOf}
-use Rattle.abi.specs.Calls.{answerWith, ReadCall, WriteCall, OverloadCall, ScheduleCall, NarrowCall, PlanCall, ShownCall, EarlyCall, LateCall}
+use Rattle.abi.specs.Calls.{answerWith, ReadCall, WriteCall, OverloadCall, ScheduleCall, NarrowCall, PlanCall, ShownCall, EarlyCall, LateCall, ReportCall}
 use Rattle.abi.specs.declared.Answer.{Answer}
 
 -- an answer made of a refusal
@@ -46,19 +45,15 @@ module _ (bs old : List ℕ) (a : ReadAnswer) (w : Reads bs a) where
       let o : readOf bs ≡ refused (codeOf x) = sym (w .outcome) ∙ ap (λ (t : Verdict). outcomeOf t (a .list)) v in
       record { answer = rw o q; buffer = rw o }
 
-module _ (xs old new : List ℕ) (l : DayList) (a : WriteAnswer) (p : l ≡ valueOf xs) (w : Writes l old a new) where
-  of-value : Writes (valueOf xs) old a new
-  of-value = subst (λ (k : DayList). Writes k old a new) p w
+-- what a writer answered, as numbers
+module _ (a : WriteAnswer) (b : Answer) (q : b ≡ answerWith (λ n. n ∷ []) (writeAnswerOf a)) (old new : List ℕ) where
+  pub write-said : (xs : List ℕ) (l : DayList) → l ≡ valueOf xs → Writes l old a new → WriteCall xs old b new
+  write-said xs l p w =
+      let of-value = subst (λ (k : DayList). Writes k old a new) p w in
+      record { answer = q ∙ ap (answerWith (λ n. n ∷ [])) (of-value .outcome); buffer = of-value .buffer }
 
-  pub write-accepted : (count : ℕ) → a ≡ Written count → WriteCall xs old (record { number = 0; values = count ∷ 0 ∷ 0 ∷ [] }) new
-  write-accepted count v =
-      let o : writeOf (valueOf xs) (length old) ≡ answered count = sym (of-value .outcome) ∙ ap writeAnswerOf v in
-      record { answer = rw o; buffer = of-value .buffer }
-
-  pub write-refused : (x : Refusal) (b : Answer) → a ≡ NotWritten x → RefusedAs x b → WriteCall xs old b new
-  write-refused x b v q =
-      let o : writeOf (valueOf xs) (length old) ≡ refused (codeOf x) = sym (of-value .outcome) ∙ ap writeAnswerOf v in
-      record { answer = rw o q; buffer = of-value .buffer }
+  pub report-said : (bs : List ℕ) → Reports bs old a new → ReportCall bs old b new
+  report-said bs w = record { answer = q ∙ ap (answerWith (λ n. n ∷ [])) (w .outcome); buffer = w .buffer }
 
 module _ (xs : List ℕ) (l : DayList) (p : l ≡ valueOf xs) (v : Verdict) (b : Answer) (q : b ≡ answerWith (λ _. []) (verdictOf v)) where
   pub overload-said : Tests l v → OverloadCall xs b

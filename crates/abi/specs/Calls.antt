@@ -5,7 +5,7 @@ use mathlib.Core.List.{List, [], _∷_, _++_}
 use lib.ListN.{length}
 use Rattle.list.specs.Outcomes.{Outcome, answered, refused}
 use Rattle.list.specs.Reading.{readOf}
-use Rattle.list.specs.Writing.{writeOf, bufferAfter}
+use Rattle.list.specs.Writing.{storing, stored, writeOf, bufferAfter}
 use Rattle.list.specs.declared.types.DayList.{DayList}
 use Rattle.jackson.specs.Windows.{Windows, windowsOf}
 use Rattle.jackson.specs.Testing.{testOf}
@@ -16,6 +16,7 @@ use Rattle.narrow.specs.Rounds.{Narrowed}
 use Rattle.narrow.specs.Calls.{wholeIn, settleOf, roundOf, listed}
 use Rattle.bounds.specs.Ends.{leastEnd, greatestStart}
 use Rattle.bounds.specs.Calls.{settledOr, planned, planOf, leastEnds, greatestStarts, brokenOf, shownOf, earlyOf, lateOf}
+use Rattle.report.specs.Reports.{reportOf}
 use Rattle.codes.specs.Numbers.{three}
 use Rattle.abi.specs.Flat.{flatOf, valueOf}
 use Rattle.abi.specs.declared.Answer.{Answer}
@@ -95,3 +96,8 @@ abbrev pub LateCall : List ℕ → ℕ → List ℕ → List ℕ → Answer → 
 LateCall xs k oldPlan =
     let l = valueOf xs in
     ShownCall l (λ w. greatestStart overloadOf (wholeIn l) w k) (lateOf (wholeIn l) k) (shownOf l k (length oldPlan)) oldPlan
+
+-- what `dock_report` answers of the bytes bs, and leaves in a buffer that held old
+pub record ReportCall (bs old : List ℕ) (a : Answer) (out : List ℕ) : Type 0 where
+  pub answer : a ≡ answerWith (λ n. n ∷ []) (storing (reportOf bs) (length old))
+  pub buffer : out ≡ stored (storing (reportOf bs) (length old)) (reportOf bs) old

@@ -2,7 +2,7 @@
 // Promises: each call answers 0 or a refusal's number of document 01, with its values, and leaves in its buffers what
 // specs/Calls.antt says, whatever the bytes and numbers are. What it cannot check are the pointers themselves: a caller lends
 // `bytes`, `out` and `plan` with their lengths, `fields` and `narrowed` with 450 numbers each and `bounds` with 128, and no two of them
-// overlap. Uses the crates list, jackson, narrow, bounds and codes.
+// overlap. Uses the crates list, jackson, narrow, bounds, report and codes.
 mod flat;
 mod flat_bounds;
 
@@ -18,12 +18,12 @@ use list::types::Verdict;
 use list::types::WriteAnswer;
 use narrow::types::NarrowAnswer;
 ghost use mathlib.Core.Path.{_≡_};
-ghost use mathlib.Core.List.{[], _++_};
-ghost use Rattle.list.specs.Refusals.{codeOf, verdictOf};
+ghost use mathlib.Core.List.{[], _∷_, _++_};
+ghost use Rattle.list.specs.Refusals.{codeOf, verdictOf, writeAnswerOf};
 ghost use Rattle.narrow.specs.Calls.{narrowAnswerOf, narrowedIn};
 ghost use Rattle.bounds.specs.Calls.{settledOr};
 ghost use Rattle.codes.specs.Numbers.{three};
-ghost use Rattle.abi.specs.Calls.{answerWith, ReadCall, WriteCall, OverloadCall, ScheduleCall, NarrowCall, SettleCall, RoundCall, PlanCall, EarlyCall, LateCall};
+ghost use Rattle.abi.specs.Calls.{answerWith, ReadCall, WriteCall, OverloadCall, ScheduleCall, NarrowCall, SettleCall, RoundCall, PlanCall, EarlyCall, LateCall, ReportCall};
 
 // What a call answers: 0 or a refusal's number, and three values, 0 where there are fewer.
 #[repr(C)]
@@ -55,6 +55,19 @@ fn verdict_as(v: Verdict) -> Answer
     }
 }
 
+// What a writer answered: the first value is the number of bytes written.
+fn count_as(answer: WriteAnswer) -> Answer
+    ensures { λ a. ⌜ a ≡ answerWith (λ n. n ∷ []) (writeAnswerOf answer) ⌝ }
+{
+    match answer {
+        WriteAnswer::Written(count) => Answer {
+            number: 0,
+            values: [count as u64, 0, 0],
+        },
+        WriteAnswer::NotWritten(x) => refused_as(x),
+    }
+}
+
 // Reads a list. Accepted: `fields` is the list, flat; else it keeps its values.
 #[no_mangle]
 pub extern "C" fn dock_read(bytes: &[u8], fields: &mut [u32; 450]) -> Answer
@@ -81,13 +94,7 @@ pub extern "C" fn dock_write(fields: &[u32; 450], out: &mut [u8]) -> Answer
     ensures { λ a. ⌜ WriteCall (now (fields .entry)) (now (out .entry)) a (now (out .exit)) ⌝ }
 {
     let answer = list::write(list_in(fields), out);
-    match answer {
-        WriteAnswer::Written(count) => Answer {
-            number: 0,
-            values: [count as u64, 0, 0],
-        },
-        WriteAnswer::NotWritten(x) => refused_as(x),
-    }
+    count_as(answer)
 }
 
 // Tests the list value that `fields` says for an overloaded interval.
@@ -199,4 +206,13 @@ pub extern "C" fn dock_late(
 {
     let answer = show_late(list_in(fields), place as usize, plan);
     give_narrowed(answer.narrowed, answer.bound as u64, narrowed)
+}
+
+// Reports on the bytes of a list. The first value is the number of bytes of the report's text, which `out` holds; 12: `out` keeps its bytes.
+#[no_mangle]
+pub extern "C" fn dock_report(bytes: &[u8], out: &mut [u8]) -> Answer
+    ensures { λ a. ⌜ ReportCall (now (bytes .entry)) (now (out .entry)) a (now (out .exit)) ⌝ }
+{
+    let answer = report::report(bytes, out);
+    count_as(answer)
 }

@@ -17,18 +17,11 @@ use Rattle.jackson.specs.Counting.{lastBelow, sum}
 use Rattle.jackson.specs.Windows.{windowsOf}
 use Rattle.jackson.specs.Plans.{idle, placesIn, startOf, endOf, minutesOf}
 use Rattle.jackson.proofs.Sums.{le-or-lt}
-use Rattle.jackson.proofs.Searches.{First, first-below}
+use Rattle.jackson.proofs.Searches.{first-below, one-first}
 use Rattle.jackson.proofs.PlanFacts.{minutes-within}
 use Rattle.narrow.specs.Calls.{wholeIn}
 use Rattle.bounds.specs.BrokenEntries.{isBroken, brokenIn}
 use Rattle.bounds.specs.Parts.{HoldsPlan}
-
--- the first that passes is the only such one
-one-first : (n : ℕ) (f : ℕ → Bool) (s t : ℕ) → First n f s → First n f t → s ≡ t
-one-first n f s t a b =
-    le-or-lt s t
-    (λ l. le-or-lt t s (λ m. omega arith) (λ m. absurd (b .none-before s m (a .passes (omega (arith, b .within))))))
-    (λ l. absurd (a .none-before t l (b .passes (omega (arith, a .within)))))
 
 -- 1 or 0
 at-most-one : (t : Bool) (b : ℕ) → b ≡ cond t 1 0 → b ≤ 1

@@ -35,7 +35,7 @@ pub record ByRules (whole : ℕ → Bool) (told : Told) : Type 0 where
   pub late : (v : Narrowed) → told .outcome ≡ answered v → (k : ℕ) → k < v .windows .n → told .late k ≡ lateOf whole k (v .windows)
 
 -- the widest settled windows leave each entry room
-widest-formed : (whole : ℕ → Bool) (w v : Windows) → Formed w → Widest whole w v → Formed v
+pub widest-formed : (whole : ℕ → Bool) (w v : Windows) → Formed w → Widest whole w v → Formed v
 widest-formed whole w v formed best = rw (best .entries) (set-formed whole w formed (v .r) (v .d) (widest-set whole w v best))
 
 pub demand3 : (whole : ℕ → Bool) (w : Windows) → Formed w → (told : Told) → told .outcome ≡ narrowing overloadOf whole w

@@ -13,8 +13,8 @@ pub mod Alike
 pub mod Examples
 -- The contracts, and demand 3 alone, leave one answer.
 pub mod OneAnswer
--- What the code's proofs cite, case by case.
-mod EndCases
+-- What the code's proofs cite, case by case. Those of the crates above cite EndCases too.
+pub mod EndCases
 mod BrokenCases
 mod ShownCases
 mod CallCases

@@ -5,6 +5,7 @@ use mathlib.Core.Bool.{Bool, true, false, cond, false≢true}
 use Prim.Native.Nat.{ℕ, zero, suc, _-_, _<_, _≤_}
 use native.Mathlib.Omega.{arith}
 use Rattle.jackson.specs.Counting.{firstBelow, lastBelow}
+use Rattle.jackson.proofs.Sums.{le-or-lt}
 
 -- t passes and is below n, or is n; nothing below it passes
 pub record First (n : ℕ) (f : ℕ → Bool) (t : ℕ) : Type 0 where
@@ -32,6 +33,13 @@ first-below (suc n) f = go (f 0) _ refl (first-below n (λ i. f (suc i)))
           passes = λ h. rest .passes (omega arith);
           none-before = elim [ zero ↦ λ h p. false≢true (sym e ∙ p) | suc i ↦ λ h p. rest .none-before i (omega arith) p ];
         }
+
+-- it is the only such one
+pub one-first : (n : ℕ) (f : ℕ → Bool) (s t : ℕ) → First n f s → First n f t → s ≡ t
+one-first n f s t a b =
+    le-or-lt s t
+    (λ l. le-or-lt t s (λ m. omega arith) (λ m. absurd (b .none-before s m (a .passes (omega (arith, b .within))))))
+    (λ l. absurd (a .none-before t l (b .passes (omega (arith, a .within)))))
 
 -- a search for the last looks at the tests below n alone
 last-cong : (n : ℕ) (f g : ℕ → Bool) → ((i : ℕ) → i < n → f i ≡ g i) → lastBelow n f ≡ lastBelow n g

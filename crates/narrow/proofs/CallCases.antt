@@ -2,7 +2,7 @@
 -- Assumes nothing.
 use mathlib.Core.Path.{_≡_, refl, sym, ap, _∙_}
 use mathlib.Core.Bool.{Bool, true, false, cond}
-use Prim.Native.Nat.{ℕ, zero, suc, _+_, _*_, _-_, _<_, _≤_}
+use Prim.Native.Nat.{ℕ, suc, _+_, _-_, _<_, _≤_}
 use native.Mathlib.Omega.{arith}
 use lib.ListN.{length}
 use lib.Seq.{length-take-le}
@@ -16,11 +16,11 @@ use Rattle.list.specs.declared.types.Verdict.{Verdict}
 use Rattle.list.specs.declared.types.Verdict.the-variants.{Accepted, Refused}
 use Rattle.list.proofs.Sound.{SoundList, sound-list}
 use Rattle.list.proofs.Inversion.{answered-refused}
-use Rattle.jackson.specs.Counting.{sum}
 use Rattle.jackson.specs.Windows.{Windows, windowsOf, windowsIn}
 use Rattle.jackson.specs.Intervals.{overloadOf}
 use Rattle.jackson.specs.Testing.{Holds}
 use Rattle.jackson.specs.declared.types.WindowSet.{WindowSet}
+use Rattle.jackson.proofs.Sums.{sum-most}
 use Rattle.jackson.proofs.ListLaws.{list-roomy, list-few, list-minutes}
 use Rattle.narrow.specs.Rounds.{Narrowed, unmoved, round, rounds, narrowing, slack}
 use Rattle.narrow.specs.Laws.{Formed, RoundLaw, NarrowLaw}
@@ -50,12 +50,6 @@ module _ (l : DayList) (formed : WellFormed l) where
   unfolding settleOf
   settle-law = rw formed (narrow-law overload-planner (wholeIn l) (windowsOf l) list-formed)
 
--- a sum of n numbers of at most 1,440
-sum-days : (n : ℕ) (f : ℕ → ℕ) → ((i : ℕ) → i < n → f i ≤ 1440) → sum n f ≤ n * 1440
-unfolding sum
-sum-days zero f h = omega arith
-sum-days (suc n) f h = omega (arith, sum-days n f (λ i l. h i (omega arith)), h n (omega arith))
-
 -- what rounds of the list need
 pub list-countable : (l : DayList) (s : WindowSet) → length (l .entries) ≡ 64 → WellFormed l → Holds l s → Countable l s 0
 list-countable l s long formed holds =
@@ -63,7 +57,7 @@ list-countable l s long formed holds =
     record {
       formed = rw (holds .windows) (list-formed l formed);
       count = ap (λ (w : Windows). w .n) (holds .windows) ∙ count;
-      few = omega (arith, same, sum-days (windowsOf l .n) _ each, list-few l formed);
+      few = omega (arith, same, sum-most (windowsOf l .n) 1440 _ each, list-few l formed);
     }
   where
     header : SoundList l

@@ -1,1 +1,18 @@
-mod Example
+-- Laws of the report's text.
+pub mod Texts
+-- Numbers are printed in base ten.
+pub mod DecimalFacts
+-- The runs found are the maximal runs.
+pub mod RunFacts
+-- How long a report is at most.
+mod LineLengths
+mod ReadNumbers
+pub mod Lengths
+-- Document 01's examples.
+pub mod Example
+-- What the code's proofs cite, case by case.
+mod Steps
+mod RunCases
+mod CallCases
+mod DayCases
+mod Promised

@@ -1,0 +1,21 @@
+-- `dock_report` meets its contract.
+-- Assumes nothing.
+use borrow.Author.Needs.{needs}
+use Rattle.abi.proofs.CallCases.{report-said}
+use Rattle.abi.proofs.dock_report.Statement.{statement}
+use Rattle.abi.proofs.dock_report.Tie as tie
+
+report-requires : tie.Need-report-requires
+report-requires c κs = search needs
+
+count-as-requires : tie.Need-count-as-requires
+count-as-requires c κs = search needs
+
+same-length : tie.Need-same-length
+same-length c = search needs
+
+returns : tie.Need-returns
+returns c = report-said (c .before .before .before .report .result) _ (c .count-as .ensures) (c .before .before .before .before .before .before .before .args .out .now) _ (c .before .before .before .before .before .before .before .args .bytes .now) (c .before .before .before .report .ensures)
+
+pub dock-report-spec : {M : Type 1} → statement M
+dock-report-spec = tie.close (tie.spec report-requires count-as-requires same-length returns)

@@ -1,0 +1,11 @@
+-- What the program prints.
+use Prim.Native.Nat.{ℕ}
+use mathlib.Core.Path.{_≡_}
+use mathlib.Core.List.{List}
+use lib.ListN.{length, take}
+use Rattle.report.specs.Reports.{reportOf}
+
+-- the first bytes of the text are the whole report of the input
+pub record HoldsReport (bs text : List ℕ) (size : ℕ) : Type 0 where
+  pub whole : size ≡ length (reportOf bs)
+  pub bytes : take size text ≡ reportOf bs

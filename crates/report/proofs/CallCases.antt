@@ -1,0 +1,71 @@
+-- The report's parts, as code puts them together.
+-- Assumes nothing.
+use mathlib.Core.Path.{_≡_, refl, ap, subst, _∙_}
+use mathlib.Core.Bool.{Bool, true, false, cond}
+use mathlib.Core.List.{List, [], _∷_, _++_, append-assoc}
+use Prim.Native.Nat.{ℕ, _<_}
+use lib.Dec.{eqb}
+use lib.ListN.{length, getD}
+use lib.Seq.{getD-take}
+use Rattle.list.specs.Outcomes.{Code}
+use Rattle.list.specs.DayLists.{entriesOf, blank}
+use Rattle.list.specs.declared.types.DayList.{DayList}
+use Rattle.jackson.specs.Plans.{placesIn}
+use Rattle.codes.specs.Numbers.{three, numbersOf}
+use Rattle.codes.specs.declared.RefusalCode.{RefusalCode}
+use Rattle.report.specs.Text.{ascii, decimal, line}
+use Rattle.report.specs.Runs.{beginsRun, runEnd}
+use Rattle.report.specs.Reports.{entryLine, runLine, refusalLine}
+use Rattle.report.specs.Parts.{Puts, carriedText, runText}
+use Rattle.report.proofs.Steps.{puts-nothing}
+use Rattle.report.proofs.RunCases.{place-read}
+
+-- A refusal's line: its number, what it carries, and the newline.
+refusal-text : (k : Code)
+    → (ascii "refused " ++ decimal (k .number)) ++ (carriedText (k .number) (three (k .carries)) ++ ascii "\n") ≡ refusalLine k
+unfolding refusalLine line ascii
+refusal-text k = go (eqb (k .number) 9) (eqb (k .number) 10)
+  where
+    value : ℕ → List ℕ
+    value i = decimal (getD (k .carries) i 0)
+
+    go : (nine ten : Bool)
+        → (ascii "refused " ++ decimal (k .number))
+        ++ (cond nine ((ascii " from " ++ value 0) ++ ((ascii " to " ++ value 1) ++ (ascii " work " ++ value 2)))
+        (cond ten (ascii " entry " ++ value 0) (ascii " at " ++ value 0))
+        ++ ascii "\n")
+        ≡ line
+        (ascii "refused"
+        ∷ decimal (k .number)
+        ∷ cond nine (ascii "from" ∷ value 0 ∷ ascii "to" ∷ value 1 ∷ ascii "work" ∷ value 2 ∷ [])
+        (cond ten (ascii "entry" ∷ value 0 ∷ []) (ascii "at" ∷ value 0 ∷ [])))
+    go true ten =
+        ap (λ (t : List ℕ). ascii "refused " ++ (decimal (k .number) ++ (ascii " from " ++ t)))
+        (append-assoc (value 0) (ascii " to " ++ (value 1 ++ (ascii " work " ++ value 2))) (ascii "\n")
+        ∙ ap (λ (t : List ℕ). value 0 ++ (ascii " to " ++ t)) (append-assoc (value 1) (ascii " work " ++ value 2) (ascii "\n")))
+    go false true = refl
+    go false false = refl
+
+pub refusal-put : {old new : List ℕ} {at next : ℕ} (k : Code) (c : RefusalCode) → c ≡ numbersOf k
+    → Puts old at ((ascii "refused " ++ decimal (c .number)) ++ (carriedText (c .number) (c .values) ++ ascii "\n")) new next
+    → Puts old at (refusalLine k) new next
+refusal-put {old} {new} {at} {next} k c e p = subst (λ (t : List ℕ). Puts old at t new next) (refusal-text k) (rw e at p)
+
+-- The line of the run that begins at a minute, if one does.
+module _ {old : List ℕ} {at : ℕ} (plan : List ℕ) (t : ℕ) where
+  pub run-put : {new : List ℕ} {next : ℕ} (e : ℕ) → t < length plan → true ≡ beginsRun (placesIn plan) t
+      → e ≡ runEnd (length plan) (placesIn plan) t → Puts old at (runLine t e (getD plan t 0)) new next
+      → Puts old at (runText plan t) new next
+  run-put e below begins end p = rw (← begins, ← end, ← place-read plan t below) p
+
+  pub run-none : false ≡ beginsRun (placesIn plan) t → Puts old at (runText plan t) old at
+  run-none begins = rw (← begins) (puts-nothing old at)
+
+-- The line of the entry at a place.
+abbrev pub entryText : DayList → List ℕ → List ℕ → ℕ → List ℕ
+entryText l ends starts i = entryLine i (getD (entriesOf l) i blank) (getD ends i 0) (getD starts i 0)
+
+pub entry-put : {old new : List ℕ} {at next : ℕ} (l : DayList) (ends starts : List ℕ) (i : ℕ) → i < l .n
+    → Puts old at (entryLine i (getD (l .entries) i blank) (getD ends i 0) (getD starts i 0)) new next
+    → Puts old at (entryText l ends starts i) new next
+entry-put l ends starts i below p = rw (getD-take (l .n) (l .entries) i blank below) p

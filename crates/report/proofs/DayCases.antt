@@ -1,0 +1,150 @@
+-- The report of a list that was read, from what planning it answers.
+-- Assumes nothing.
+use mathlib.Core.Path.{_≡_, refl, sym, ap, subst, _∙_}
+use mathlib.Core.List.{List, _++_}
+use Prim.Native.Nat.{ℕ, _<_, _≤_}
+use native.Mathlib.Omega.{arith}
+use borrow.Author.Tests.{le-ltb}
+use lib.ListN.{length, getD, take, length-take}
+use lib.Seq.{take-append-seam}
+use Rattle.list.specs.Outcomes.{Outcome, answered, refused}
+use Rattle.list.specs.Refusals.{codeOf, outcomeOf, readAnswerOf}
+use Rattle.list.specs.DayLists.{entriesOf, blank}
+use Rattle.list.specs.Checks.{WellFormed}
+use Rattle.list.specs.Reading.{readOf}
+use Rattle.list.specs.Promises.{Reads}
+use Rattle.list.specs.declared.types.Entry.{Entry}
+use Rattle.list.specs.declared.types.DayList.{DayList}
+use Rattle.list.specs.declared.types.Refusal.{Refusal}
+use Rattle.list.specs.declared.types.Verdict.{Verdict}
+use Rattle.list.specs.declared.types.Verdict.the-variants.{Accepted, Refused}
+use Rattle.list.specs.declared.types.ReadAnswer.{ReadAnswer}
+use Rattle.list.proofs.Sound.{sound-list}
+use Rattle.list.proofs.RoundTrip.{read-well-formed}
+use Rattle.jackson.specs.Windows.{Windows, windowsOf}
+use Rattle.jackson.specs.Intervals.{overloadOf}
+use Rattle.jackson.specs.Plans.{placesIn}
+use Rattle.jackson.specs.Minutes.{schedule}
+use Rattle.narrow.specs.Rounds.{Narrowed, narrowing}
+use Rattle.narrow.specs.Calls.{wholeIn, listed, standing, entriesWith, listWith}
+use Rattle.bounds.specs.Ends.{leastEnd, greatestStart}
+use Rattle.bounds.specs.BrokenEntries.{brokenIn}
+use Rattle.bounds.specs.Calls.{planChecks, planOf, leastEnds, greatestStarts, brokenOf, PlansDay}
+use Rattle.bounds.specs.declared.types.PlanAnswer.{PlanAnswer}
+use Rattle.bounds.proofs.EndCases.{by-place}
+use Rattle.report.specs.Text.{texts}
+use Rattle.report.specs.Reports.{headLine, entryLines, runLines, refusalLine, dayText, textOf, reportOf}
+use Rattle.report.specs.Parts.{Puts, answerText, narrowedDay}
+use Rattle.report.proofs.Texts.{texts-same}
+
+-- entries' lines look at the bounds of the list's own places alone
+entries-same : (l : DayList) (e s f t : ℕ → ℕ) → ((i : ℕ) → i < l .n → e i ≡ f i) → ((i : ℕ) → i < l .n → s i ≡ t i)
+    → entryLines l e s ≡ entryLines l f t
+unfolding entryLines
+entries-same l e s f t ends starts = texts-same (l .n) _ _ (λ i below. rw (ends i below, starts i below))
+
+-- Planning a well-formed list with a buffer that holds the longest day.
+module _ (l : DayList) (well : WellFormed l) (old : List ℕ) (long : length old ≡ 1440) (a : PlanAnswer) (new : List ℕ)
+    (plans : PlansDay l old a new) where
+  -- no row before 9 holds
+  checked : planChecks l (length old) ≡ answered tt
+  unfolding planChecks
+  checked = rw well (simp (le-ltb (length old) (l .frame .h) (omega (arith, long, sound-list l well .header .one-day))))
+
+  -- so the call's outcome is that of narrowing
+  outcome-is : planOf l (length old) ≡ narrowing overloadOf (wholeIn l) (windowsOf l)
+  outcome-is = rw checked
+
+  abbrev settled : Narrowed
+  settled = record { windows = windowsOf (a .narrowed .list); moves = a .narrowed .moves }
+
+  narrowed-is : (u : Verdict) → a .narrowed .verdict ≡ u → narrowing overloadOf (wholeIn l) (windowsOf l) ≡ outcomeOf u settled
+  narrowed-is u v = sym outcome-is ∙ sym (plans .holds .narrowed) ∙ ap (λ (u : Verdict). outcomeOf u settled) v
+
+  -- Rows 9 and 10.
+  pub refused-put : {out text : List ℕ} {next : ℕ} (x : Refusal) → a .narrowed .verdict ≡ Refused x
+      → Puts out 0 (refusalLine (codeOf x)) text next → Puts out 0 (textOf (narrowedDay l)) text next
+  refused-put x v p = rw (narrowed-is (Refused x) v) p
+
+  -- The list answered, its windows and bounds, and the plan's bytes.
+  module _ (v : a .narrowed .verdict ≡ Accepted) where
+    abbrev w : Windows
+    w = windowsOf (a .narrowed .list)
+
+    answered-is : planOf l (length old) ≡ answered settled
+    answered-is = outcome-is ∙ narrowed-is Accepted v
+
+    pub list-few : a .narrowed .list .n ≤ 64
+    list-few = sound-list (a .narrowed .list) (plans .holds .formed v) .header .room
+
+    list-is : a .narrowed .list ≡ listWith l w
+    list-is =
+        ap (λ (x : DayList × ℕ). x .0) (plans .answers .beside)
+        ∙ ap (λ (o : Outcome Narrowed). standing (listed l o) .0) answered-is
+
+    count-is : a .narrowed .list .n ≡ w .n
+    unfolding listWith
+    count-is = rw list-is (sym (ap (λ (es : List Entry). length es) (take-append-seam (entriesWith w 0 (entriesOf l)) _)))
+
+    ends-are : (i : ℕ) → i < a .narrowed .list .n → getD (a .ends) i 0 ≡ leastEnd overloadOf (wholeIn l) w i
+    ends-are i below =
+        ap (λ (xs : List ℕ). getD xs i 0) (plans .ends ∙ ap (leastEnds (wholeIn l)) answered-is)
+        ∙ by-place (leastEnd overloadOf (wholeIn l) w) (w .n) i (omega (arith, count-is, list-few)) (omega (arith, count-is))
+
+    starts-are : (i : ℕ) → i < a .narrowed .list .n → getD (a .starts) i 0 ≡ greatestStart overloadOf (wholeIn l) w i
+    starts-are i below =
+        ap (λ (xs : List ℕ). getD xs i 0) (plans .starts ∙ ap (greatestStarts (wholeIn l)) answered-is)
+        ∙ by-place (greatestStart overloadOf (wholeIn l) w) (w .n) i (omega (arith, count-is, list-few)) (omega (arith, count-is))
+
+    broken-is : a .broken ≡ brokenIn (wholeIn l) w (placesIn (schedule w))
+    broken-is = plans .broken ∙ ap (brokenOf (wholeIn l)) answered-is
+
+    abbrev bytes : List ℕ
+    bytes = take (l .frame .h) new
+
+    bytes-are : bytes ≡ schedule w
+    bytes-are = plans .demand2 v .minutes
+
+    pub bytes-long : l .frame .h ≡ length (take (l .frame .h) new)
+    unfolding listWith
+    bytes-long = sym (plans .demand2 v .plan .long ∙ ap (λ (x : DayList). x .frame .h) list-is)
+
+    pub bytes-room : l .frame .h ≤ length new
+    bytes-room = omega (arith, bytes-long, length-take (l .frame .h) new)
+
+    entries-are : entryLines (a .narrowed .list) (λ i. getD (a .ends) i 0) (λ i. getD (a .starts) i 0)
+        ≡ entryLines (listWith l w) (leastEnd overloadOf (wholeIn l) w) (greatestStart overloadOf (wholeIn l) w)
+    entries-are =
+        entries-same (a .narrowed .list) _ _ _ _ ends-are starts-are
+        ∙ ap (λ (x : DayList). entryLines x (leastEnd overloadOf (wholeIn l) w) (greatestStart overloadOf (wholeIn l) w)) list-is
+
+    answer-text : answerText a bytes ≡ dayText l settled
+    unfolding dayText
+    answer-text =
+        λ j.
+        headLine (w .h) (count-is j) (a .narrowed .moves) (broken-is j)
+        ++ (entries-are j ++ runLines (plans .demand2 v .plan .long j) (placesIn (bytes-are j)))
+
+    pub answered-put : {out text : List ℕ} {next : ℕ} → Puts out 0 (answerText a bytes) text next
+        → Puts out 0 (textOf (narrowedDay l)) text next
+    answered-put {out} {text} {next} p =
+        rw (narrowed-is Accepted v) (subst (λ (t : List ℕ). Puts out 0 t text next) answer-text p)
+
+-- Reading an input.
+module _ (bs : List ℕ) (a : ReadAnswer) (reads : Reads bs a) where
+  read-is : (u : Verdict) → a .verdict ≡ u → readOf bs ≡ outcomeOf u (a .list)
+  read-is u v = sym (reads .outcome) ∙ ap (λ (u : Verdict). outcomeOf u (a .list)) v
+
+  pub read-formed : a .verdict ≡ Accepted → WellFormed (a .list)
+  read-formed v = read-well-formed bs (a .list) (read-is Accepted v)
+
+  pub read-put : {out text : List ℕ} {next : ℕ} → a .verdict ≡ Accepted → Puts out 0 (textOf (narrowedDay (a .list))) text next
+      → Puts out 0 (reportOf bs) text next
+  unfolding reportOf
+  read-put v p = rw (read-is Accepted v) p
+
+  -- Rows 1 to 8.
+  pub unread-put : {out text : List ℕ} {next : ℕ} (x : Refusal) → a .verdict ≡ Refused x → Puts out 0 (refusalLine (codeOf x)) text next
+      → Puts out 0 (reportOf bs) text next
+  unfolding reportOf
+  unread-put x v p = rw (read-is (Refused x) v) p

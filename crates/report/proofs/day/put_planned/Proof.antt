@@ -1,0 +1,64 @@
+-- `day::put_planned` meets its contract.
+-- Assumes nothing.
+use borrow.Author.Needs.{needs}
+use mathlib.Core.Path.{refl}
+use Rattle.report.proofs.DayCases.{list-few, bytes-long, bytes-room, answered-put, refused-put}
+use Rattle.report.proofs.day.put_planned.Statement.{statement}
+use Rattle.report.proofs.day.put_planned.Tie as tie
+
+slice-aggregate-plan-day : tie.Need-slice-aggregate-plan-day
+slice-aggregate-plan-day c = search needs
+
+plan-day-requires : tie.Need-plan-day-requires
+plan-day-requires c κs = search needs
+
+enum-told : tie.Need-enum-told
+enum-told c = search needs
+
+cast-h : tie.Need-cast-h
+cast-h c = search needs
+
+array-share-prefix-plan : tie.Need-array-share-prefix-plan
+array-share-prefix-plan c = bytes-room (c .before .before .before .before .before .before .before .before .before .args .list) (c .before .before .before .before .before .before .before .before .before .pre) _ refl (c .before .before .before .before .before .before .plan-day .result) _ (c .before .before .before .before .before .before .plan-day .ensures) (c .before .before .enum-told .given .1)
+
+slice-aggregate-put-day : tie.Need-slice-aggregate-put-day
+slice-aggregate-put-day c = bytes-long (c .before .before .before .before .before .before .before .before .before .before .args .list) (c .before .before .before .before .before .before .before .before .before .before .pre) _ refl (c .before .before .before .before .before .before .before .plan-day .result) _ (c .before .before .before .before .before .before .before .plan-day .ensures) (c .before .before .before .enum-told .given .1)
+
+put-day-requires : tie.Need-put-day-requires
+put-day-requires c κs = list-few (c .before .before .before .before .before .before .before .before .before .before .args .list) (c .before .before .before .before .before .before .before .before .before .before .pre) _ refl (c .before .before .before .before .before .before .before .plan-day .result) _ (c .before .before .before .before .before .before .before .plan-day .ensures) (c .before .before .before .enum-told .given .1)
+
+enum-known-verdict : tie.Need-enum-known-verdict
+enum-known-verdict c = search needs
+
+put-refusal-requires : tie.Need-put-refusal-requires
+put-refusal-requires c κs = search needs
+
+same-length : tie.Need-same-length
+same-length c = search needs
+
+returns : tie.Need-returns
+returns c = answered-put (c .before .before .before .before .before .before .before .before .before .before .before .before .before .args .list) (c .before .before .before .before .before .before .before .before .before .before .before .before .before .pre) _ refl (c .before .before .before .before .before .before .before .before .before .before .plan-day .result) _ (c .before .before .before .before .before .before .before .before .before .before .plan-day .ensures) (c .before .before .before .before .before .before .enum-told .given .1) (c .before .before .put-day .ensures)
+
+same-length-2 : tie.Need-same-length-2
+same-length-2 c = search needs
+
+returns-2 : tie.Need-returns-2
+returns-2 c = refused-put (c .before .before .before .before .before .before .before .before .before .before .before .before .args .list) (c .before .before .before .before .before .before .before .before .before .before .before .before .pre) _ refl (c .before .before .before .before .before .before .before .before .before .plan-day .result) _ (c .before .before .before .before .before .before .before .before .before .plan-day .ensures) _ (c .before .before .before .before .before .verdict .given .1) (c .before .before .put-refusal .ensures)
+
+pub put-planned-spec : {M : Type 1} → statement M
+put-planned-spec =
+    tie.close
+    (tie.spec
+    slice-aggregate-plan-day
+    plan-day-requires
+    enum-told
+    cast-h
+    array-share-prefix-plan
+    slice-aggregate-put-day
+    put-day-requires
+    enum-known-verdict
+    put-refusal-requires
+    same-length
+    returns
+    same-length-2
+    returns-2)

@@ -1,0 +1,50 @@
+-- `lines::put_refusal` meets its contract.
+-- Assumes nothing.
+use borrow.Author.Needs.{needs}
+use Rattle.report.specs.Text.{ascii}
+use Rattle.report.proofs.Steps.{puts-then}
+use Rattle.report.proofs.CallCases.{refusal-put}
+use Rattle.report.proofs.lines.put_refusal.Statement.{statement}
+use Rattle.report.proofs.lines.put_refusal.Tie as tie
+
+numbers-of-requires : tie.Need-numbers-of-requires
+numbers-of-requires c κs = search needs
+
+slice-aggregate-put-after : tie.Need-slice-aggregate-put-after
+slice-aggregate-put-after c = search needs
+
+cast-put-after : tie.Need-cast-put-after
+cast-put-after c = search needs
+
+put-after-requires : tie.Need-put-after-requires
+put-after-requires c κs = search needs
+
+put-carried-requires : tie.Need-put-carried-requires
+put-carried-requires c κs = search needs
+
+slice-aggregate-put-bytes : tie.Need-slice-aggregate-put-bytes
+slice-aggregate-put-bytes c = search needs
+
+put-bytes-requires : tie.Need-put-bytes-requires
+put-bytes-requires c κs = search needs
+
+same-length : tie.Need-same-length
+same-length c = search needs
+
+returns : tie.Need-returns
+unfolding ascii
+returns c = refusal-put _ (c .before .before .before .before .before .before .before .before .before .before .before .before .before .before .before .before .numbers-of .result) (c .before .before .before .before .before .before .before .before .before .before .before .before .before .before .before .before .numbers-of .ensures) (puts-then (c .before .before .before .before .before .before .before .before .before .before .before .put-after .ensures) (puts-then (c .before .before .before .before .before .before .before .put-carried .ensures) (c .before .before .put-bytes .ensures)))
+
+pub put-refusal-spec : {M : Type 1} → statement M
+put-refusal-spec =
+    tie.close
+    (tie.spec
+    numbers-of-requires
+    slice-aggregate-put-after
+    cast-put-after
+    put-after-requires
+    put-carried-requires
+    slice-aggregate-put-bytes
+    put-bytes-requires
+    same-length
+    returns)

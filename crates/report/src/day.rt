@@ -1,0 +1,82 @@
+// The report of a day: head, entries, runs, or a refusal.
+use crate::lines::put_entry;
+use crate::lines::put_head;
+use crate::lines::put_refusal;
+use crate::runs::put_runs;
+use bounds::plan_day;
+use bounds::types::PlanAnswer;
+use list::types::DayList;
+use list::types::Verdict;
+ghost use Prim.Native.Nat.{_≤_};
+ghost use lib.ListN.{getD};
+ghost use Rattle.list.specs.Checks.{WellFormed};
+ghost use Rattle.report.specs.Reports.{entryLines, textOf, reportOf};
+ghost use Rattle.report.specs.Parts.{Puts, answerText, narrowedDay};
+
+// The entries' lines, with a least end and a greatest start for each place.
+fn put_entries(
+    out: &mut [u8],
+    at: usize,
+    list: DayList,
+    ends: [u16; 64],
+    starts: [u16; 64],
+) -> usize
+    requires { ⌜ list .n ≤ 64 ⌝ }
+    ensures { λ next. ⌜ Puts (now (out .entry)) at (entryLines list (λ i. getD ends i 0) (λ i. getD starts i 0)) (now (out .exit)) next ⌝ }
+{
+    let n = list.n as usize;
+    let mut next = at;
+    let mut i: usize = 0;
+    while i < n {
+        next = put_entry(out, next, i, list.entries[i], ends[i], starts[i]);
+        i += 1;
+    }
+    next
+}
+
+// The report of a planned day, whose plan's bytes are `plan`.
+fn put_day(out: &mut [u8], answer: PlanAnswer, plan: &[u8]) -> usize
+    requires { ⌜ answer .narrowed .list .n ≤ 64 ⌝ }
+    ensures { λ next. ⌜ Puts (now (out .entry)) 0 (answerText answer (now (plan .entry))) (now (out .exit)) next ⌝ }
+{
+    let narrowed = answer.narrowed;
+    let list = narrowed.list;
+    let ends = answer.ends;
+    let starts = answer.starts;
+    let a = put_head(out, 0, list.frame.h, list.n, narrowed.moves, answer.broken);
+    let b = put_entries(out, a, list, ends, starts);
+    put_runs(out, b, plan)
+}
+
+// The report of a list that was read: rows 9 and 10, or the day.
+fn put_planned(out: &mut [u8], list: DayList) -> usize
+    requires { ⌜ WellFormed list ⌝ }
+    ensures { λ next. ⌜ Puts (now (out .entry)) 0 (textOf (narrowedDay list)) (now (out .exit)) next ⌝ }
+{
+    let mut plan = [0u8; 1440];
+    let answer = plan_day(list, &mut plan);
+    let narrowed = answer.narrowed;
+    let verdict = narrowed.verdict;
+    match verdict {
+        Verdict::Accepted => {
+            let h = list.frame.h as usize;
+            put_day(out, answer, &plan[..h])
+        }
+        Verdict::Refused(x) => put_refusal(out, 0, x),
+    }
+}
+
+// The report of an input's bytes.
+pub(crate) fn put_report(input: &[u8], out: &mut [u8]) -> usize
+    ensures { λ next. ⌜ Puts (now (out .entry)) 0 (reportOf (now (input .entry))) (now (out .exit)) next ⌝ }
+{
+    let answer = list::read(input);
+    let verdict = answer.verdict;
+    match verdict {
+        Verdict::Accepted => {
+            let list = answer.list;
+            put_planned(out, list)
+        }
+        Verdict::Refused(x) => put_refusal(out, 0, x),
+    }
+}
