@@ -6,7 +6,6 @@ pub mod DecimalFacts
 pub mod RunFacts
 -- How long a report is at most.
 mod LineLengths
-mod ReadNumbers
 pub mod Lengths
 -- Document 01's examples.
 pub mod Example

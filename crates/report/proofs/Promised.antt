@@ -1,14 +1,14 @@
 -- The promise of `report`, from the cases that code knows.
 -- Assumes nothing.
-use mathlib.Core.Path.{_≡_, refl, sym, ap, _∙_}
+use mathlib.Core.Path.{_≡_, refl, ap, _∙_}
 use mathlib.Core.List.{List}
 use Prim.Native.Nat.{ℕ, _≤_, _<_}
 use native.Mathlib.Nat.{zero-add}
 use native.Mathlib.Omega.{arith}
 use borrow.Author.Tests.{lt-ltb, le-ltb}
 use lib.ListN.{length, take}
-use lib.Seq.{sets, sets-eq, take-append-seam, length-sets}
-use Rattle.list.specs.Outcomes.{answered, refused}
+use lib.Seq.{sets-eq, take-append-seam, length-sets}
+use Rattle.list.specs.Outcomes.{answered}
 use Rattle.list.specs.Refusals.{writeAnswerOf}
 use Rattle.list.specs.Machine.{Bytes}
 use Rattle.list.specs.Steps.{Wrote}
@@ -17,7 +17,7 @@ use Rattle.list.specs.declared.types.Refusal.the-variants.{ListBufferShort}
 use Rattle.list.specs.declared.types.WriteAnswer.{WriteAnswer}
 use Rattle.list.specs.declared.types.WriteAnswer.the-variants.{Written, NotWritten}
 use Rattle.list.proofs.FirstBytes.{first-bytes}
-use Rattle.report.specs.Reports.{textOf, reportOf}
+use Rattle.report.specs.Reports.{reportOf}
 use Rattle.report.specs.Calls.{enough, Reports}
 use Rattle.report.specs.Parts.{Puts}
 use Rattle.report.proofs.Lengths.{report-short}
@@ -52,7 +52,7 @@ module _ (bs : List ℕ) (is : Bytes bs) (own text : List ℕ) (long : length ow
         record {
           outcome = outcome;
           buffer = buffer;
-          room = λ h. simp (le-ltb (length old) (length (reportOf bs)) (omega (arith, report-short bs is)));
+          room = report-short bs is;
           first-bytes = same-report bs;
         }
 
