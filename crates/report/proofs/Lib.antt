@@ -9,6 +9,8 @@ mod LineLengths
 pub mod Lengths
 -- Document 01's examples.
 pub mod Example
+-- The contract leaves one answer and one buffer.
+pub mod OneReport
 -- What the code's proofs cite, case by case.
 mod Steps
 mod RunCases

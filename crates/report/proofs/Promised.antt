@@ -23,9 +23,9 @@ use Rattle.report.specs.Parts.{Puts}
 use Rattle.report.proofs.Lengths.{report-short}
 
 -- the report of an input's first 964 bytes is the report of the whole input
-pub same-report : (bs : List ℕ) → reportOf (take 964 bs) ≡ reportOf bs
+same-report : (input bs : List ℕ) → take 964 input ≡ bs → reportOf input ≡ reportOf bs
 unfolding reportOf
-same-report bs = rw (first-bytes bs) refl
+same-report input bs e = rw (← e, first-bytes input)
 
 -- a text stored at the start of a buffer that has room for it
 stored-whole : {old text new : List ℕ} {next : ℕ} → length text ≤ length old → Wrote old 0 text new next → new ≡ stored (answered (length text)) text old
@@ -53,7 +53,7 @@ module _ (bs : List ℕ) (is : Bytes bs) (own text : List ℕ) (long : length ow
           outcome = outcome;
           buffer = buffer;
           room = report-short bs is;
-          first-bytes = same-report bs;
+          first-bytes = λ input. same-report input bs;
         }
 
     pub short-promised : length old < size → Reports bs old (NotWritten (ListBufferShort size)) old

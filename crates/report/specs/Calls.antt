@@ -19,5 +19,5 @@ pub record Reports (bs old : List ℕ) (a : WriteAnswer) (new : List ℕ) : Type
   pub buffer : new ≡ stored (storing (reportOf bs) (length old)) (reportOf bs) old
   -- so a buffer of this length is never too short
   pub room : length (reportOf bs) ≤ enough
-  -- "it takes 964 bytes at most; a longest list has 963": what comes after them changes nothing
-  pub first-bytes : reportOf (take 964 bs) ≡ reportOf bs
+  -- "it takes 964 bytes at most; a longest list has 963": if bs are the first 964 bytes of a longer input, this is its report too
+  pub first-bytes : (input : List ℕ) → take 964 input ≡ bs → reportOf input ≡ reportOf bs
