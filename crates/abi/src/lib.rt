@@ -208,7 +208,8 @@ pub extern "C" fn dock_late(
     give_narrowed(answer.narrowed, answer.bound as u64, narrowed)
 }
 
-// Reports on the bytes of a list. The first value is the number of bytes of the report's text, which `out` holds; 12: `out` keeps its bytes.
+// Reports on the bytes of a list. The first value is the number of bytes of the report's text, with which `out` begins; 12: `out` keeps its
+// bytes. REPORT_BYTES of the crate report are enough for every input.
 #[no_mangle]
 pub extern "C" fn dock_report(bytes: &[u8], out: &mut [u8]) -> Answer
     ensures { λ a. ⌜ ReportCall (now (bytes .entry)) (now (out .entry)) a (now (out .exit)) ⌝ }

@@ -4,10 +4,12 @@ use mathlib.Core.Path.{_≡_, sym, ap, _∙_}
 use mathlib.Core.List.{List}
 use Prim.Native.Nat.{ℕ, _≤_}
 use native.Mathlib.Omega.{arith}
+use borrow.Author.Tests.{le-ltb}
 use lib.ListN.{length, take, length-take}
 use lib.Seq.{take-append-seam}
 use Rattle.list.specs.Outcomes.{Outcome, answered, refused}
 use Rattle.list.specs.Refusals.{writeAnswerOf}
+use Rattle.list.specs.Writing.{storing}
 use Rattle.list.specs.declared.types.Refusal.{Refusal}
 use Rattle.list.specs.declared.types.WriteAnswer.{WriteAnswer}
 use Rattle.list.specs.declared.types.WriteAnswer.the-variants.{Written, NotWritten}
@@ -21,16 +23,17 @@ countIn (answered n) = n
 countIn (refused k) = 0
 
 module _ (bs old : List ℕ) (a : WriteAnswer) (new : List ℕ) (reports : Reports bs old a new) (enough-room : enough ≤ length old) where
+  stores : storing (reportOf bs) (length old) ≡ answered (length (reportOf bs))
+  stores = simp (le-ltb (length old) (length (reportOf bs)) (omega (arith, reports .room)))
+
   outcome-is : writeAnswerOf a ≡ answered (length (reportOf bs))
-  outcome-is = reports .outcome ∙ reports .room enough-room
+  outcome-is = reports .outcome ∙ stores
 
   pub written-whole : (size : ℕ) → a ≡ Written size → HoldsReport bs new size
   written-whole size e =
       let whole : size ≡ length (reportOf bs) = ap countIn (sym (ap writeAnswerOf e) ∙ outcome-is) in
-      record {
-        whole = whole;
-        bytes = rw (whole, reports .buffer, reports .room enough-room) (take-append-seam (reportOf bs) _);
-      }
+      let bytes : take size new ≡ reportOf bs = rw (whole, reports .buffer, stores) (take-append-seam (reportOf bs) _) in
+      record { whole = whole; bytes = bytes; all = λ input first. bytes ∙ sym (reports .first-bytes input first) }
 
   pub never-short : (x : Refusal) → a ≡ NotWritten x → ⊥
   never-short x e = answered-refused outcome-is (ap writeAnswerOf e)

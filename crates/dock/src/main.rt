@@ -5,10 +5,8 @@ use libc::STDIN_FILENO;
 use libc::STDOUT_FILENO;
 use list::types::WriteAnswer;
 use report::REPORT_BYTES;
-ghost use mathlib.Core.Path.{_≡_};
 ghost use Prim.Native.Nat.{_≤_};
-ghost use lib.ListN.{length, take};
-ghost use Rattle.report.specs.Reports.{reportOf};
+ghost use lib.ListN.{length};
 ghost use Rattle.report.specs.Calls.{enough};
 ghost use Rattle.dock.specs.Texts.{HoldsReport};
 

@@ -157,15 +157,15 @@ module _ (f : Frame) (at : ℕ) (bs : List ℕ) (len : ℕ) (all : at + length b
         fits = λ b. record { serial = u32-small bs b 1; seal = seal-fits bs b 5 (m .seal) };
       }
 
-  here : 1 ≤ length bs → (n : ℕ) → (n ≡ 1 → ⊥) → PlaceIn len (code n (at ∷ []))
-  here h n other = at-place len n at other (omega arith)
+  here : 1 ≤ length bs → (n : ℕ) → 2 ≤ n → n ≤ 8 → PlaceIn len (code n (at ∷ []))
+  here h n other row = at-place len n at other row (omega arith)
 
   fields-say : legalMap (getD bs 0 0) ≡ true → 1 ≤ length bs → Says (TakenEntry f bs) (PlaceIn len) (fieldsEntry f at m bs)
   unfolding fieldsEntry
   fields-say legal h =
       by-row (TakenEntry f bs) (PlaceIn len) (ltb (length bs) (sizeOf m)) _ _ (λ t. at-end len _ all)
-      (λ l. by-row (TakenEntry f bs) (PlaceIn len) (defaultWritten f m e) _ _ (λ t. here h 5 (omega arith))
-      (λ w. by-step (λ _. Sound f e) (PlaceIn len) (TakenEntry f bs) (entryFault f at e) _ (fault-says f at e (PlaceIn len) (here h 6 (omega arith)) (here h 7 (omega arith)))
+      (λ l. by-row (TakenEntry f bs) (PlaceIn len) (defaultWritten f m e) _ _ (λ t. here h 5 (omega arith) (omega arith))
+      (λ w. by-step (λ _. Sound f e) (PlaceIn len) (TakenEntry f bs) (entryFault f at e) _ (fault-says f at e (PlaceIn len) (here h 6 (omega arith) (omega arith)) (here h 7 (omega arith) (omega arith)))
       (λ _ s. taken legal (ltb-false _ _ l) w s)))
 
   -- what reading one entry says
@@ -176,6 +176,6 @@ module _ (f : Frame) (at : ℕ) (bs : List ℕ) (len : ℕ) (all : at + length b
       (λ n.
       let h : 1 ≤ length bs = omega (arith, eqb-false (length bs) 0 n) in
       by-step (λ n. Says (TakenEntry f bs) (PlaceIn len) (fieldsEntry f at n bs)) (PlaceIn len) (TakenEntry f bs) (mapFields at (getD bs 0 0)) _
-      (by-row (λ n. Says (TakenEntry f bs) (PlaceIn len) (fieldsEntry f at n bs)) (PlaceIn len) (not (legalMap (getD bs 0 0))) _ _ (λ t. here h 4 (omega arith))
+      (by-row (λ n. Says (TakenEntry f bs) (PlaceIn len) (fieldsEntry f at n bs)) (PlaceIn len) (not (legalMap (getD bs 0 0))) _ _ (λ t. here h 4 (omega arith) (omega arith))
       (λ t. fields-say (not-false _ t) h))
       (λ n s. s))

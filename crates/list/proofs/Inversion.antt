@@ -3,7 +3,7 @@
 use mathlib.Core.Path.{_≡_, refl}
 use mathlib.Core.Bool.{Bool, true, false, cond, _||_, true≢false}
 use mathlib.Core.List.{[], _∷_}
-use Prim.Native.Nat.{ℕ, _<_}
+use Prim.Native.Nat.{ℕ, _<_, _≤_}
 use native.Mathlib.Omega.{arith}
 use Rattle.list.specs.Reading.{PlaceIn}
 use Rattle.list.specs.Outcomes.{Code, code, Outcome, answered, refused, andThen}
@@ -42,10 +42,10 @@ Anything k = Unit {0}
 
 -- the length, and a place inside
 pub at-end : (len x : ℕ) → x ≡ len → PlaceIn len (code 1 (x ∷ []))
-at-end len x h = record { place = x; carried = refl; missing = λ q. h; inside = λ q. absurd (q refl) }
+at-end len x h = record { reading = omega arith; place = x; carried = refl; missing = λ q. h; inside = λ q. absurd (q refl) }
 
-pub at-place : (len n x : ℕ) → (n ≡ 1 → ⊥) → x < len → PlaceIn len (code n (x ∷ []))
-at-place len n x other h = record { place = x; carried = refl; missing = λ q. absurd (other q); inside = λ q. h }
+pub at-place : (len n x : ℕ) → 2 ≤ n → n ≤ 8 → x < len → PlaceIn len (code n (x ∷ []))
+at-place len n x other row h = record { reading = row; place = x; carried = refl; missing = λ q. absurd (omega arith); inside = λ q. h }
 
 -- an "or" that does not hold
 pub neither : (a b : Bool) → (a || b) ≡ false → (a ≡ false) × (b ≡ false)

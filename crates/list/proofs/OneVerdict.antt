@@ -1,15 +1,17 @@
--- Number and values tell one verdict.
+-- Number and values tell one verdict, and one answer of a writer.
 -- Assumes nothing.
 use mathlib.Core.Path.{_≡_, refl, sym, ap, _∙_}
 use mathlib.Core.Bool.{cond}
 use lib.Dec.{eqb}
 use lib.ListN.{getD}
 use Rattle.list.specs.Outcomes.{Code}
-use Rattle.list.specs.Refusals.{codeOf, outcomeOf}
+use Rattle.list.specs.Refusals.{codeOf, outcomeOf, writeAnswerOf}
 use Rattle.list.specs.declared.types.Refusal.{Refusal}
 use Rattle.list.specs.declared.types.Refusal.the-variants.{BytesMissing, BadDayLength, TooManyEntries, BadMapByte, DefaultWritten, NoMinutes, BadWindow, BytesLeftOver, Overloaded, NoPlace, PlanBufferShort, ListBufferShort, UnknownPlace}
 use Rattle.list.specs.declared.types.Verdict.{Verdict}
 use Rattle.list.specs.declared.types.Verdict.the-variants.{Accepted, Refused}
+use Rattle.list.specs.declared.types.WriteAnswer.{WriteAnswer}
+use Rattle.list.specs.declared.types.WriteAnswer.the-variants.{Written, NotWritten}
 use Rattle.list.proofs.Inversion.{answered-refused}
 
 -- the refusal with these number and values
@@ -45,11 +47,18 @@ refusal-is (PlanBufferShort x) = refl
 refusal-is (ListBufferShort x) = refl
 refusal-is (UnknownPlace x) = refl
 
+-- so no two refusals have the same number and values
+one-refusal : (j k : Refusal) → codeOf j ≡ codeOf k → j ≡ k
+one-refusal j k e = sym (refusal-is j) ∙ ap refusalOf e ∙ refusal-is k
+
 pub one-verdict : {A : Type 0} (u v : Verdict) (x y : A) → outcomeOf u x ≡ outcomeOf v y → u ≡ v
 one-verdict Accepted Accepted x y e = refl
 one-verdict Accepted (Refused k) x y e = absurd (answered-refused refl e)
 one-verdict (Refused j) Accepted x y e = absurd (answered-refused refl (sym e))
-one-verdict (Refused j) (Refused k) x y e =
-    let codes : codeOf j ≡ codeOf k = cc e in
-    let same : j ≡ k = sym (refusal-is j) ∙ ap refusalOf codes ∙ refusal-is k in
-    ap Refused same
+one-verdict (Refused j) (Refused k) x y e = let codes : codeOf j ≡ codeOf k = cc e in ap Refused (one-refusal j k codes)
+
+pub one-write : (a b : WriteAnswer) → writeAnswerOf a ≡ writeAnswerOf b → a ≡ b
+one-write (Written m) (Written n) e = let same : m ≡ n = cc e in ap Written same
+one-write (Written m) (NotWritten k) e = absurd (answered-refused refl e)
+one-write (NotWritten j) (Written n) e = absurd (answered-refused refl (sym e))
+one-write (NotWritten j) (NotWritten k) e = let codes : codeOf j ≡ codeOf k = cc e in ap NotWritten (one-refusal j k codes)

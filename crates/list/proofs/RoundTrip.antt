@@ -147,9 +147,9 @@ module _ (bs : List ℕ) where
       (λ t.
       let long : 3 ≤ length bs = ltb-false _ _ t in
       by-step (λ _. Header f n) R P (headerFault 2 f n) _
-      (header-says 2 f n R (at-place _ 2 0 (omega arith) (omega arith)) (at-place _ 3 2 (omega arith) (omega arith)))
+      (header-says 2 f n R (at-place _ 2 0 (omega arith) (omega arith) (omega arith)) (at-place _ 3 2 (omega arith) (omega arith) (omega arith)))
       (λ _ h. by-step Entries R P (entriesFrom f n 3 (drop 3 bs)) _ (entries-say f n 3 (drop 3 bs) (length bs) (simp length-drop (omega arith)))
-      (λ x taken. by-row P R (ltb (x .1) (length bs)) _ _ (λ l. at-place _ 8 (x .1) (omega arith) (ltb-true _ _ l))
+      (λ x taken. by-row P R (ltb (x .1) (length bs)) _ _ (λ l. at-place _ 8 (x .1) (omega arith) (omega arith) (ltb-true _ _ l))
       (λ l. read-as long h x taken (ltb-false _ _ l)))))
 
   -- "every place carried lies inside the input, or, for 1, is its length"

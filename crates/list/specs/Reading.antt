@@ -1,5 +1,5 @@
 -- Reading: from bytes to a list value.
-use Prim.Native.Nat.{ℕ, zero, suc, _+_, _<_}
+use Prim.Native.Nat.{ℕ, zero, suc, _+_, _<_, _≤_}
 use mathlib.Core.Path.{_≡_}
 use mathlib.Core.List.{List, [], _∷_}
 use lib.ListN.{length, getD, drop}
@@ -44,8 +44,9 @@ abbrev pub listOr : Outcome DayList → DayList
 listOr (answered l) = l
 listOr (refused k) = emptyList
 
--- What a refusal of an input of this length carries: 1 the length, any other number a place inside the input.
+-- A refusal of an input of this length: one of the rows 1 to 8, of which 1 carries the length and any other a place inside the input.
 pub record PlaceIn (len : ℕ) (k : Code) : Type 0 where
+  pub reading : k .number ≤ 8
   pub place : ℕ
   pub carried : k .carries ≡ place ∷ []
   pub missing : k .number ≡ 1 → place ≡ len

@@ -59,7 +59,7 @@ pub enum Refusal {
     NoPlace(usize),
     // 11: a plan buffer is under H bytes; H.
     PlanBufferShort(usize),
-    // 12: the writer's buffer is too short; the bytes needed.
+    // 12: the buffer for a list's one form, or for a report, is too short; the bytes needed.
     ListBufferShort(usize),
     // 13: the place asked is n or more; that place.
     UnknownPlace(usize),
@@ -77,7 +77,7 @@ pub struct ReadAnswer {
     pub list: DayList,
 }
 
-// What writing answers: how many bytes the list's one form has, or why it was not written.
+// What writing to a lent buffer answers: how many bytes were stored, or why none was.
 pub enum WriteAnswer {
     Written(usize),
     NotWritten(Refusal),

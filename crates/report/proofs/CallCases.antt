@@ -8,15 +8,15 @@ use lib.Dec.{eqb}
 use lib.ListN.{length, getD}
 use lib.Seq.{getD-take}
 use Rattle.list.specs.Outcomes.{Code}
-use Rattle.list.specs.DayLists.{entriesOf, blank}
+use Rattle.list.specs.DayLists.{blank}
 use Rattle.list.specs.declared.types.DayList.{DayList}
 use Rattle.jackson.specs.Plans.{placesIn}
 use Rattle.codes.specs.Numbers.{three, numbersOf}
 use Rattle.codes.specs.declared.RefusalCode.{RefusalCode}
 use Rattle.report.specs.Text.{ascii, decimal, line}
 use Rattle.report.specs.Runs.{beginsRun, runEnd}
-use Rattle.report.specs.Reports.{entryLine, runLine, refusalLine}
-use Rattle.report.specs.Parts.{Puts, carriedText, runText}
+use Rattle.report.specs.Reports.{entryLine, entryLineAt, runLine, runLineAt, refusalLine}
+use Rattle.report.specs.Parts.{Puts, carriedText}
 use Rattle.report.proofs.Steps.{puts-nothing}
 use Rattle.report.proofs.RunCases.{place-read}
 
@@ -55,17 +55,14 @@ refusal-put {old} {new} {at} {next} k c e p = subst (λ (t : List ℕ). Puts old
 module _ {old : List ℕ} {at : ℕ} (plan : List ℕ) (t : ℕ) where
   pub run-put : {new : List ℕ} {next : ℕ} (e : ℕ) → t < length plan → true ≡ beginsRun (placesIn plan) t
       → e ≡ runEnd (length plan) (placesIn plan) t → Puts old at (runLine t e (getD plan t 0)) new next
-      → Puts old at (runText plan t) new next
+      → Puts old at (runLineAt (length plan) (placesIn plan) t) new next
   run-put e below begins end p = rw (← begins, ← end, ← place-read plan t below) p
 
-  pub run-none : false ≡ beginsRun (placesIn plan) t → Puts old at (runText plan t) old at
+  pub run-none : false ≡ beginsRun (placesIn plan) t → Puts old at (runLineAt (length plan) (placesIn plan) t) old at
   run-none begins = rw (← begins) (puts-nothing old at)
 
 -- The line of the entry at a place.
-abbrev pub entryText : DayList → List ℕ → List ℕ → ℕ → List ℕ
-entryText l ends starts i = entryLine i (getD (entriesOf l) i blank) (getD ends i 0) (getD starts i 0)
-
 pub entry-put : {old new : List ℕ} {at next : ℕ} (l : DayList) (ends starts : List ℕ) (i : ℕ) → i < l .n
     → Puts old at (entryLine i (getD (l .entries) i blank) (getD ends i 0) (getD starts i 0)) new next
-    → Puts old at (entryText l ends starts i) new next
+    → Puts old at (entryLineAt l (λ i. getD ends i 0) (λ i. getD starts i 0) i) new next
 entry-put l ends starts i below p = rw (getD-take (l .n) (l .entries) i blank below) p

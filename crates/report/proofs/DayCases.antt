@@ -1,15 +1,15 @@
 -- The report of a list that was read, from what planning it answers.
 -- Assumes nothing.
-use mathlib.Core.Path.{_≡_, refl, sym, ap, subst, _∙_}
+use mathlib.Core.Path.{_≡_, sym, ap, subst, _∙_}
 use mathlib.Core.List.{List, _++_}
 use Prim.Native.Nat.{ℕ, _<_, _≤_}
 use native.Mathlib.Omega.{arith}
 use borrow.Author.Tests.{le-ltb}
 use lib.ListN.{length, getD, take, length-take}
 use lib.Seq.{take-append-seam}
-use Rattle.list.specs.Outcomes.{Outcome, answered, refused}
-use Rattle.list.specs.Refusals.{codeOf, outcomeOf, readAnswerOf}
-use Rattle.list.specs.DayLists.{entriesOf, blank}
+use Rattle.list.specs.Outcomes.{Outcome, answered}
+use Rattle.list.specs.Refusals.{codeOf, outcomeOf}
+use Rattle.list.specs.DayLists.{entriesOf}
 use Rattle.list.specs.Checks.{WellFormed}
 use Rattle.list.specs.Reading.{readOf}
 use Rattle.list.specs.Promises.{Reads}
@@ -32,9 +32,8 @@ use Rattle.bounds.specs.BrokenEntries.{brokenIn}
 use Rattle.bounds.specs.Calls.{planChecks, planOf, leastEnds, greatestStarts, brokenOf, PlansDay}
 use Rattle.bounds.specs.declared.types.PlanAnswer.{PlanAnswer}
 use Rattle.bounds.proofs.EndCases.{by-place}
-use Rattle.report.specs.Text.{texts}
-use Rattle.report.specs.Reports.{headLine, entryLines, runLines, refusalLine, dayText, textOf, reportOf}
-use Rattle.report.specs.Parts.{Puts, answerText, narrowedDay}
+use Rattle.report.specs.Reports.{headLine, entryLines, runLines, refusalLine, dayText, plannedText, printed, reportOf}
+use Rattle.report.specs.Parts.{Puts, answerText}
 use Rattle.report.proofs.Texts.{texts-same}
 
 -- entries' lines look at the bounds of the list's own places alone
@@ -63,7 +62,7 @@ module _ (l : DayList) (well : WellFormed l) (old : List ℕ) (long : length old
 
   -- Rows 9 and 10.
   pub refused-put : {out text : List ℕ} {next : ℕ} (x : Refusal) → a .narrowed .verdict ≡ Refused x
-      → Puts out 0 (refusalLine (codeOf x)) text next → Puts out 0 (textOf (narrowedDay l)) text next
+      → Puts out 0 (refusalLine (codeOf x)) text next → Puts out 0 (printed (plannedText l)) text next
   refused-put x v p = rw (narrowed-is (Refused x) v) p
 
   -- The list answered, its windows and bounds, and the plan's bytes.
@@ -105,9 +104,12 @@ module _ (l : DayList) (well : WellFormed l) (old : List ℕ) (long : length old
     bytes-are : bytes ≡ schedule w
     bytes-are = plans .demand2 v .minutes
 
+    day-is : length bytes ≡ listWith l w .frame .h
+    day-is = plans .demand2 v .plan .long ∙ ap (λ (x : DayList). x .frame .h) list-is
+
     pub bytes-long : l .frame .h ≡ length (take (l .frame .h) new)
     unfolding listWith
-    bytes-long = sym (plans .demand2 v .plan .long ∙ ap (λ (x : DayList). x .frame .h) list-is)
+    bytes-long = sym day-is
 
     pub bytes-room : l .frame .h ≤ length new
     bytes-room = omega (arith, bytes-long, length-take (l .frame .h) new)
@@ -122,11 +124,11 @@ module _ (l : DayList) (well : WellFormed l) (old : List ℕ) (long : length old
     unfolding dayText
     answer-text =
         λ j.
-        headLine (w .h) (count-is j) (a .narrowed .moves) (broken-is j)
-        ++ (entries-are j ++ runLines (plans .demand2 v .plan .long j) (placesIn (bytes-are j)))
+        headLine (list-is j .frame .h) (list-is j .n) (a .narrowed .moves) (broken-is j)
+        ++ (entries-are j ++ runLines (day-is j) (placesIn (bytes-are j)))
 
     pub answered-put : {out text : List ℕ} {next : ℕ} → Puts out 0 (answerText a bytes) text next
-        → Puts out 0 (textOf (narrowedDay l)) text next
+        → Puts out 0 (printed (plannedText l)) text next
     answered-put {out} {text} {next} p =
         rw (narrowed-is Accepted v) (subst (λ (t : List ℕ). Puts out 0 t text next) answer-text p)
 
@@ -138,7 +140,7 @@ module _ (bs : List ℕ) (a : ReadAnswer) (reads : Reads bs a) where
   pub read-formed : a .verdict ≡ Accepted → WellFormed (a .list)
   read-formed v = read-well-formed bs (a .list) (read-is Accepted v)
 
-  pub read-put : {out text : List ℕ} {next : ℕ} → a .verdict ≡ Accepted → Puts out 0 (textOf (narrowedDay (a .list))) text next
+  pub read-put : {out text : List ℕ} {next : ℕ} → a .verdict ≡ Accepted → Puts out 0 (printed (plannedText (a .list))) text next
       → Puts out 0 (reportOf bs) text next
   unfolding reportOf
   read-put v p = rw (read-is Accepted v) p

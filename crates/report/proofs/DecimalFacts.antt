@@ -1,4 +1,4 @@
--- Numbers are printed in base ten: what that means, most plainly.
+-- Numbers are printed in base ten.
 -- Assumes nothing.
 use mathlib.Core.Path.{_≡_, refl}
 use mathlib.Core.List.{List, [], _∷_, _++_}
@@ -7,25 +7,18 @@ use native.Mathlib.Omega.{arith}
 use lib.ListN.{length, getD, length-append, List·getD-append}
 use lib.Seq.{getD-append-seam}
 use Rattle.jackson.proofs.Sums.{le-or-lt, below-suc}
-use Rattle.report.specs.Text.{decimal}
+use Rattle.report.specs.Text.{decimal, saysAfter, IsDecimal}
 use Rattle.report.proofs.Texts.{decimal-one, decimal-more}
-
--- the number that digits say in base ten, the most significant first, where v is what those before them say; 48 is the byte of 0
-abbrev pub saysAfter : ℕ → List ℕ → ℕ
-saysAfter v [] = v
-saysAfter v (b ∷ bs) = saysAfter (v * 10 + (b - 48)) bs
-
--- the bytes are the number x in base ten
-pub record IsDecimal (x : ℕ) (bytes : List ℕ) : Type 0 where
-  pub some : 1 ≤ length bytes
-  pub each : (i : ℕ) → i < length bytes → (48 ≤ getD bytes i 0) × (getD bytes i 0 ≤ 57)
-  -- of all numbers only 0 begins with a 0
-  pub first : 1 ≤ x → getD bytes 0 0 ≡ 48 → ⊥
-  pub value : saysAfter 0 bytes ≡ x
 
 says-append : (v : ℕ) (bs : List ℕ) (d : ℕ) → saysAfter v (bs ++ (d ∷ [])) ≡ saysAfter v bs * 10 + (d - 48)
 says-append v [] d = refl
 says-append v (b ∷ bs) d = says-append (v * 10 + (b - 48)) bs d
+
+-- a first digit 0 is the number 0, or has others after it
+zero-alone : (x : ℕ) (bs : List ℕ) → IsDecimal x bs → 1 ≤ x → getD bs 0 0 ≡ 48 → ⊥
+zero-alone x [] is more e = absurd (omega (arith, is .some))
+zero-alone x (b ∷ []) is more e = omega (arith, is .value, e)
+zero-alone x (b ∷ c ∷ bs) is more e = is .first (omega arith) e
 
 -- a number below ten
 one-digit : (x : ℕ) → x < 10 → IsDecimal x ((48 + x) ∷ [])
@@ -33,7 +26,7 @@ one-digit x less =
     record {
       some = omega arith;
       each = elim [ zero ↦ λ _. (omega arith, omega arith) | suc i ↦ λ h. absurd (omega arith) ];
-      first = λ h e. omega arith;
+      first = λ h. absurd (omega arith);
       value = omega arith;
     }
 
@@ -49,7 +42,7 @@ more-digits x bs more tenth =
           (λ j l. rw (List·getD-append bs (d ∷ []) 0 j l) (tenth .each j l))
           (rw (getD-append-seam bs d [] 0) (omega arith, omega arith))
           i (omega (arith, length-append bs (d ∷ [])));
-      first = λ h. rw (List·getD-append bs (d ∷ []) 0 0 (tenth .some)) (tenth .first (omega arith));
+      first = λ h. rw (List·getD-append bs (d ∷ []) 0 0 (tenth .some)) (zero-alone (x / 10) bs tenth (omega arith));
       value = omega (arith, says-append 0 bs d, tenth .value);
     }
 

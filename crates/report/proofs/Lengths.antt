@@ -38,12 +38,11 @@ use Rattle.bounds.proofs.EndBounds.{early-is}
 use Rattle.bounds.proofs.StartBounds.{late-is}
 use Rattle.bounds.proofs.Demands.{widest-formed, plans-windows}
 use Rattle.report.specs.Runs.{beginsRun, runEnd}
-use Rattle.report.specs.Reports.{entryLine, entryLines, runLine, runLines, refusalLine, dayText, textOf, reportOf}
+use Rattle.report.specs.Reports.{entryLineAt, entryLines, runLine, runLines, refusalLine, dayText, plannedText, printed, reportOf}
 use Rattle.report.specs.Calls.{enough}
 use Rattle.report.proofs.Texts.{texts-short}
 use Rattle.report.proofs.LineLengths.{head-short, entry-short, run-short, overload-short, no-place-short, at-short}
 use Rattle.report.proofs.RunFacts.{begins-entry, run-in-day}
-use Rattle.report.proofs.ReadNumbers.{read-number}
 
 broken-few : (whole : ℕ → Bool) (w : Windows) (m : ℕ → ℕ) → brokenIn whole w m ≤ w .n
 unfolding brokenIn
@@ -155,7 +154,7 @@ module _ (l : DayList) (formed : WellFormed l) where
 
     -- the line of an entry
     abbrev lineOf : ℕ → List ℕ
-    lineOf i = entryLine i (getD (entriesOf (listWith l w)) i blank) (leastEnd overloadOf whole w i) (greatestStart overloadOf whole w i)
+    lineOf = entryLineAt (listWith l w) (leastEnd overloadOf whole w) (greatestStart overloadOf whole w)
 
     line-short : (i : ℕ) → i < w .n → length (lineOf i) ≤ 56
     line-short i place =
@@ -175,17 +174,24 @@ module _ (l : DayList) (formed : WellFormed l) where
         (omega (arith, day, early-is overload-planner whole w there i place (best .settled) .end .within))
         (omega (arith, day, late-is overload-planner whole w there i place (best .settled) .start .below)))
 
+    listed-count : listWith l w .n ≡ w .n
+    unfolding listWith
+    listed-count = with-length w 0 (entriesOf l) ∙ sym count
+
+    listed-day : listWith l w .frame .h ≡ w .h
+    unfolding listWith
+    listed-day = sym (ap (λ (x : Windows). x .h) (best .entries))
+
     entries-short : length (entryLines (listWith l w) (leastEnd overloadOf whole w) (greatestStart overloadOf whole w)) ≤ 3584
-    unfolding entryLines listWith
+    unfolding entryLines
     entries-short =
-        let same : listWith l w .n ≡ w .n = with-length w 0 (entriesOf l) ∙ sym count in
-        omega (arith, few, texts-short (listWith l w .n) 56 lineOf (λ i place. line-short i (omega arith)))
+        omega (arith, few, listed-count, texts-short (listWith l w .n) 56 lineOf (λ i place. line-short i (omega (arith, listed-count))))
 
     day-short : length (dayText l v) ≤ enough
     unfolding dayText
     day-short =
         let broken = brokenIn whole w (placesIn (schedule w)) in
-        simp length-append
+        simp (length-append, listed-day, listed-count)
         (omega (
           arith,
           head-short (w .h) (w .n) (v .moves) broken day few moves-small (omega (arith, few, broken-few whole w (placesIn (schedule w)))),
@@ -207,13 +213,13 @@ unfolding reportOf
 report-short bs b = read (readOf bs) refl
   where
     read : (o : Outcome DayList) → readOf bs ≡ o
-        → length (textOf (andThen o (λ l. andThen (narrowing overloadOf (wholeIn l) (windowsOf l)) (λ v. answered (l, v))))) ≤ enough
+        → length (printed (andThen o plannedText)) ≤ enough
     read (refused k) e =
         let z = read-places (take 964 bs) k (first-bytes bs ∙ e) in
-        omega (arith, at-short k (z .place) (read-number bs k e) (z .carried) (omega (arith, carried-small _ k z, length-take 964 bs)))
+        omega (arith, at-short k (z .place) (z .reading) (z .carried) (omega (arith, carried-small _ k z, length-take 964 bs)))
     read (answered l) e = narrowed (narrowing overloadOf (wholeIn l) (windowsOf l)) refl
       where
         narrowed : (o : Outcome Narrowed) → narrowing overloadOf (wholeIn l) (windowsOf l) ≡ o
-            → length (textOf (andThen o (λ v. answered (l, v)))) ≤ enough
+            → length (printed (andThen o (λ v. answered (dayText l v)))) ≤ enough
         narrowed (refused k) q = omega (arith, narrowing-short l (read-well-formed bs l e) k q)
         narrowed (answered v) q = day-short l (read-well-formed bs l e) (read-typed bs l e b) v q

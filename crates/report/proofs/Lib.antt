@@ -6,10 +6,11 @@ pub mod DecimalFacts
 pub mod RunFacts
 -- How long a report is at most.
 mod LineLengths
-mod ReadNumbers
 pub mod Lengths
 -- Document 01's examples.
 pub mod Example
+-- The contract leaves one answer and one buffer.
+pub mod OneReport
 -- What the code's proofs cite, case by case.
 mod Steps
 mod RunCases

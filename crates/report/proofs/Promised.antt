@@ -1,14 +1,14 @@
 -- The promise of `report`, from the cases that code knows.
 -- Assumes nothing.
-use mathlib.Core.Path.{_≡_, refl, sym, ap, _∙_}
+use mathlib.Core.Path.{_≡_, refl, ap, _∙_}
 use mathlib.Core.List.{List}
 use Prim.Native.Nat.{ℕ, _≤_, _<_}
 use native.Mathlib.Nat.{zero-add}
 use native.Mathlib.Omega.{arith}
 use borrow.Author.Tests.{lt-ltb, le-ltb}
 use lib.ListN.{length, take}
-use lib.Seq.{sets, sets-eq, take-append-seam, length-sets}
-use Rattle.list.specs.Outcomes.{answered, refused}
+use lib.Seq.{sets-eq, take-append-seam, length-sets}
+use Rattle.list.specs.Outcomes.{answered}
 use Rattle.list.specs.Refusals.{writeAnswerOf}
 use Rattle.list.specs.Machine.{Bytes}
 use Rattle.list.specs.Steps.{Wrote}
@@ -17,15 +17,15 @@ use Rattle.list.specs.declared.types.Refusal.the-variants.{ListBufferShort}
 use Rattle.list.specs.declared.types.WriteAnswer.{WriteAnswer}
 use Rattle.list.specs.declared.types.WriteAnswer.the-variants.{Written, NotWritten}
 use Rattle.list.proofs.FirstBytes.{first-bytes}
-use Rattle.report.specs.Reports.{textOf, reportOf}
+use Rattle.report.specs.Reports.{reportOf}
 use Rattle.report.specs.Calls.{enough, Reports}
 use Rattle.report.specs.Parts.{Puts}
 use Rattle.report.proofs.Lengths.{report-short}
 
 -- the report of an input's first 964 bytes is the report of the whole input
-pub same-report : (bs : List ℕ) → reportOf (take 964 bs) ≡ reportOf bs
+same-report : (input bs : List ℕ) → take 964 input ≡ bs → reportOf input ≡ reportOf bs
 unfolding reportOf
-same-report bs = rw (first-bytes bs) refl
+same-report input bs e = rw (← e, first-bytes input)
 
 -- a text stored at the start of a buffer that has room for it
 stored-whole : {old text new : List ℕ} {next : ℕ} → length text ≤ length old → Wrote old 0 text new next → new ≡ stored (answered (length text)) text old
@@ -52,8 +52,8 @@ module _ (bs : List ℕ) (is : Bytes bs) (own text : List ℕ) (long : length ow
         record {
           outcome = outcome;
           buffer = buffer;
-          room = λ h. simp (le-ltb (length old) (length (reportOf bs)) (omega (arith, report-short bs is)));
-          first-bytes = same-report bs;
+          room = report-short bs is;
+          first-bytes = λ input. same-report input bs;
         }
 
     pub short-promised : length old < size → Reports bs old (NotWritten (ListBufferShort size)) old

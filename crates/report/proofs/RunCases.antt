@@ -1,16 +1,16 @@
 -- Runs of a plan, as code finds them.
 -- Assumes nothing.
 use mathlib.Core.Path.{_≡_, refl, sym, _∙_}
-use mathlib.Core.Bool.{Bool, true, false, not, _&&_, _||_}
+use mathlib.Core.Bool.{true, false, not}
 use mathlib.Core.List.{List, [], _∷_}
 use Prim.Native.Nat.{ℕ, zero, suc, _+_, _-_, _<_, _≤_}
 use native.Mathlib.Omega.{arith}
 use borrow.Author.Tests.{eq-eqb, ne-eqb, eqb-false, not-true}
 use lib.Dec.{eqb}
 use lib.ListN.{length, getD}
-use Rattle.jackson.specs.Plans.{idle, placesIn}
+use Rattle.jackson.specs.Plans.{placesIn}
 use Rattle.jackson.proofs.Sums.{le-or-lt}
-use Rattle.jackson.proofs.Searches.{First, first-below, one-first}
+use Rattle.jackson.proofs.Searches.{first-below, one-first}
 use Rattle.report.specs.Runs.{beginsRun, runEnd}
 
 -- a byte read is the place that has its minute

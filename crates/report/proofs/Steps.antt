@@ -1,13 +1,12 @@
 -- Steps of the report's writer, one after the other.
 -- Assumes nothing.
-use mathlib.Core.Path.{_≡_, refl, sym, ap, subst, _∙_}
+use mathlib.Core.Path.{_≡_, refl, sym, subst, _∙_}
 use mathlib.Core.List.{List, [], _∷_, _++_}
 use Prim.Native.Nat.{ℕ, _+_, _/_, _%_, _≤_, _<_}
 use native.Mathlib.Numerals.{add-one}
 use native.Mathlib.Omega.{arith}
 use lib.ListN.{length, getD, take, set}
 use lib.Seq.{take-suc, take-length}
-use Rattle.list.specs.Steps.{Wrote}
 use Rattle.list.proofs.Stores.{wrote-nothing, wrote-one, wrote-then, room-first, room-after}
 use Rattle.report.specs.Text.{decimal, texts}
 use Rattle.report.specs.Parts.{Puts}

@@ -4,19 +4,12 @@ use mathlib.Core.Bool.{cond}
 use mathlib.Core.List.{List, [], _∷_, _++_}
 use lib.ListN.{length, getD}
 use lib.Dec.{eqb}
-use Rattle.list.specs.Outcomes.{Outcome, answered, andThen}
 use Rattle.list.specs.Steps.{Wrote}
 use Rattle.list.specs.declared.types.Entry.{Entry}
-use Rattle.list.specs.declared.types.DayList.{DayList}
-use Rattle.jackson.specs.Windows.{windowsOf}
-use Rattle.jackson.specs.Intervals.{overloadOf}
 use Rattle.jackson.specs.Plans.{placesIn}
-use Rattle.narrow.specs.Rounds.{Narrowed, narrowing}
-use Rattle.narrow.specs.Calls.{wholeIn}
 use Rattle.bounds.specs.declared.types.PlanAnswer.{PlanAnswer}
 use Rattle.report.specs.Text.{ascii, decimal, line}
-use Rattle.report.specs.Runs.{beginsRun, runEnd}
-use Rattle.report.specs.Reports.{headLine, entryLines, runLine, runLines}
+use Rattle.report.specs.Reports.{headLine, entryLines, runLines}
 
 -- A step of the report's writer: if there is room for a text, it stores it from place at on and answers the place after it.
 abbrev pub Puts : List ℕ → ℕ → List ℕ → List ℕ → ℕ → Type 0
@@ -35,17 +28,9 @@ carriedText number values =
     ++ ((ascii " to " ++ decimal (getD values 1 0)) ++ (ascii " work " ++ decimal (getD values 2 0))))
     (cond (eqb number 10) (ascii " entry " ++ decimal (getD values 0 0)) (ascii " at " ++ decimal (getD values 0 0)))
 
--- the line of the run that begins at minute t of a plan, if one does
-abbrev pub runText : List ℕ → ℕ → List ℕ
-runText plan t = cond (beginsRun (placesIn plan) t) (runLine t (runEnd (length plan) (placesIn plan) t) (placesIn plan t)) []
-
 -- the text of an answer with a plan's bytes
 abbrev pub answerText : PlanAnswer → List ℕ → List ℕ
 answerText a plan =
     let l = a .narrowed .list in
     headLine (l .frame .h) (l .n) (a .narrowed .moves) (a .broken)
     ++ (entryLines l (λ i. getD (a .ends) i 0) (λ i. getD (a .starts) i 0) ++ runLines (length plan) (placesIn plan))
-
--- a list with its settled windows
-abbrev pub narrowedDay : DayList → Outcome (DayList × Narrowed)
-narrowedDay l = andThen (narrowing overloadOf (wholeIn l) (windowsOf l)) (λ v. answered (l, v))

@@ -1,4 +1,5 @@
--- The report of a day's bytes.
+-- The report of a day's bytes. That its numbers are in base ten is `decimal-is` of proofs/DecimalFacts.antt, that its runs are the maximal
+-- ones `runs-are` of proofs/RunFacts.antt; document 01's examples are `examples` of proofs/Example.antt.
 use Prim.Native.Nat.{ℕ}
 use mathlib.Core.Bool.{cond}
 use mathlib.Core.List.{List, [], _∷_, _++_}
@@ -64,16 +65,22 @@ entryLine place e end start =
     ∷ [])
 
 -- the lines of a list's entries, with the least end and the greatest start of each place
+abbrev pub entryLineAt : DayList → (ℕ → ℕ) → (ℕ → ℕ) → ℕ → List ℕ
+entryLineAt l end start i = entryLine i (getD (entriesOf l) i blank) (end i) (start i)
+
 unfoldable pub entryLines : DayList → (ℕ → ℕ) → (ℕ → ℕ) → List ℕ
-entryLines l end start = texts (l .n) (λ i. entryLine i (getD (entriesOf l) i blank) (end i) (start i))
+entryLines l end start = texts (l .n) (entryLineAt l end start)
 
 -- "per maximal run of one entry in the plan its first minute, its end, the place"
 unfoldable pub runLine : ℕ → ℕ → ℕ → List ℕ
 runLine s e k = line (decimal s ∷ decimal e ∷ decimal k ∷ [])
 
--- the lines of the runs in the h minutes of m
+-- the lines of the runs in the h minutes of m, each at the minute where it begins
+abbrev pub runLineAt : ℕ → (ℕ → ℕ) → ℕ → List ℕ
+runLineAt h m t = cond (beginsRun m t) (runLine t (runEnd h m t) (m t)) []
+
 unfoldable pub runLines : ℕ → (ℕ → ℕ) → List ℕ
-runLines h m = texts h (λ t. cond (beginsRun m t) (runLine t (runEnd h m t) (m t)) [])
+runLines h m = texts h (runLineAt h m)
 
 -- "Refusals print as `refused 7 at 3` (the number, then what it carries), `refused 9 from 2 to 5 work 4`, `refused 10 entry 0`."
 unfoldable pub refusalLine : Code → List ℕ
@@ -85,23 +92,25 @@ refusalLine k =
     ∷ cond (eqb (k .number) 9) (ascii "from" ∷ value 0 ∷ ascii "to" ∷ value 1 ∷ ascii "work" ∷ value 2 ∷ [])
     (cond (eqb (k .number) 10) (ascii "entry" ∷ value 0 ∷ []) (ascii "at" ∷ value 0 ∷ [])))
 
--- the report of a list that was narrowed: the settled windows stand in its entries' lines, and its runs are those of Jackson's schedule
+-- the text of a list that was narrowed: the settled windows stand in its entries' lines, and its runs are those of Jackson's schedule
 unfoldable pub dayText : DayList → Narrowed → List ℕ
 dayText l v =
     let w = v .windows in
+    let settled = listWith l w in
     let m = placesIn (schedule w) in
-    headLine (w .h) (w .n) (v .moves) (brokenIn (wholeIn l) w m)
-    ++ (entryLines (listWith l w) (leastEnd overloadOf (wholeIn l) w) (greatestStart overloadOf (wholeIn l) w)
-    ++ runLines (w .h) m)
+    headLine (settled .frame .h) (settled .n) (v .moves) (brokenIn (wholeIn l) w m)
+    ++ (entryLines settled (leastEnd overloadOf (wholeIn l) w) (greatestStart overloadOf (wholeIn l) w)
+    ++ runLines (settled .frame .h) m)
 
--- a list is read, rows 1 to 8, and narrowed, rows 9 and 10
-abbrev pub dayOf : List ℕ → Outcome (DayList × Narrowed)
-dayOf bs = andThen (readOf bs) (λ l. andThen (narrowing overloadOf (wholeIn l) (windowsOf l)) (λ v. answered (l, v)))
+-- the text of a list that was read, or row 9 or 10
+abbrev pub plannedText : DayList → Outcome (List ℕ)
+plannedText l = andThen (narrowing overloadOf (wholeIn l) (windowsOf l)) (λ v. answered (dayText l v))
 
-abbrev pub textOf : Outcome (DayList × Narrowed) → List ℕ
-textOf (answered x) = dayText (x .0) (x .1)
-textOf (refused k) = refusalLine k
+-- a text, or a refusal's line
+abbrev pub printed : Outcome (List ℕ) → List ℕ
+printed (answered text) = text
+printed (refused k) = refusalLine k
 
--- the report of an input's bytes
+-- the report of an input's bytes: they are read, rows 1 to 8, then the list is planned
 unfoldable pub reportOf : List ℕ → List ℕ
-reportOf bs = textOf (dayOf bs)
+reportOf bs = printed (andThen (readOf bs) plannedText)

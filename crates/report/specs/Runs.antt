@@ -24,6 +24,6 @@ pub record Run (h : ℕ) (m : ℕ → ℕ) (s e k : ℕ) : Type 0 where
   pub first : (t : ℕ) → t + 1 ≡ s → m t ≡ k → ⊥
   pub last : e < h → m e ≡ k → ⊥
 
--- the runs are those that begin at a minute of the day, each with its end
+-- the runs are those that begin at a minute of the day, each with its end: `runs-are` of proofs/RunFacts.antt
 abbrev pub RunsAre : ℕ → (ℕ → ℕ) → Type 0
 RunsAre h m = (s e k : ℕ) → Run h m s e k ↔ ((s < h) × (beginsRun m s ≡ true) × (e ≡ runEnd h m s) × (k ≡ m s))

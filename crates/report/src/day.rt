@@ -10,8 +10,8 @@ use list::types::Verdict;
 ghost use Prim.Native.Nat.{_≤_};
 ghost use lib.ListN.{getD};
 ghost use Rattle.list.specs.Checks.{WellFormed};
-ghost use Rattle.report.specs.Reports.{entryLines, textOf, reportOf};
-ghost use Rattle.report.specs.Parts.{Puts, answerText, narrowedDay};
+ghost use Rattle.report.specs.Reports.{entryLines, plannedText, printed, reportOf};
+ghost use Rattle.report.specs.Parts.{Puts, answerText};
 
 // The entries' lines, with a least end and a greatest start for each place.
 fn put_entries(
@@ -51,7 +51,7 @@ fn put_day(out: &mut [u8], answer: PlanAnswer, plan: &[u8]) -> usize
 // The report of a list that was read: rows 9 and 10, or the day.
 fn put_planned(out: &mut [u8], list: DayList) -> usize
     requires { ⌜ WellFormed list ⌝ }
-    ensures { λ next. ⌜ Puts (now (out .entry)) 0 (textOf (narrowedDay list)) (now (out .exit)) next ⌝ }
+    ensures { λ next. ⌜ Puts (now (out .entry)) 0 (printed (plannedText list)) (now (out .exit)) next ⌝ }
 {
     let mut plan = [0u8; 1440];
     let answer = plan_day(list, &mut plan);

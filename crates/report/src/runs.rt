@@ -1,14 +1,12 @@
 // The lines of a plan's runs.
 use crate::lines::put_run;
 ghost use mathlib.Core.Path.{_≡_};
-ghost use mathlib.Core.Bool.{cond};
-ghost use mathlib.Core.List.{[]};
 ghost use Prim.Native.Nat.{_<_};
 ghost use lib.ListN.{length};
 ghost use Rattle.jackson.specs.Plans.{placesIn};
 ghost use Rattle.report.specs.Runs.{beginsRun, runEnd};
-ghost use Rattle.report.specs.Reports.{runLines};
-ghost use Rattle.report.specs.Parts.{Puts, runText};
+ghost use Rattle.report.specs.Reports.{runLineAt, runLines};
+ghost use Rattle.report.specs.Parts.{Puts};
 
 // Whether an entry has minute t that did not have the minute before.
 fn begins_run(plan: &[u8], t: usize) -> bool
@@ -44,7 +42,7 @@ fn run_end(plan: &[u8], t: usize) -> usize
 // The line of the run that begins at minute t, if one does.
 fn put_run_at(out: &mut [u8], at: usize, plan: &[u8], t: usize) -> usize
     requires { ⌜ t < length (now plan) ⌝ }
-    ensures { λ next. ⌜ Puts (now (out .entry)) at (runText (now (plan .entry)) t) (now (out .exit)) next ⌝ }
+    ensures { λ next. ⌜ Puts (now (out .entry)) at (runLineAt (length (now (plan .entry))) (placesIn (now (plan .entry))) t) (now (out .exit)) next ⌝ }
 {
     if begins_run(plan, t) {
         return put_run(out, at, t, run_end(plan, t), plan[t]);

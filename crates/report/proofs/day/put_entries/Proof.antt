@@ -2,15 +2,16 @@
 -- Assumes nothing.
 use borrow.Author.Needs.{needs}
 use Prim.Native.Nat.{_-_}
+use lib.ListN.{getD}
 use Rattle.report.specs.Text.{texts}
-use Rattle.report.specs.Reports.{entryLines}
+use Rattle.report.specs.Reports.{entryLineAt, entryLines}
 use Rattle.report.proofs.Steps.{PutSoFar, so-far-none, texts-next, texts-done}
-use Rattle.report.proofs.CallCases.{entryText, entry-put}
+use Rattle.report.proofs.CallCases.{entry-put}
 use Rattle.report.proofs.day.put_entries.Statement.{statement}
 use Rattle.report.proofs.day.put_entries.Tie as tie
 
 abbrev Inv-loop : tie.InvT-loop
-Inv-loop out₀ at list ends starts n next₀ i₀ out next i = PutSoFar out₀ at (texts i (entryText list ends starts)) out next i (list .n)
+Inv-loop out₀ at list ends starts n next₀ i₀ out next i = PutSoFar out₀ at (texts i (entryLineAt list (λ j. getD ends j 0) (λ j. getD starts j 0))) out next i (list .n)
 
 abbrev μ-loop : tie.MeasureT-loop
 μ-loop out₀ at list ends starts n next₀ i₀ out next i = list .n - i
@@ -50,7 +51,7 @@ loop-less : tie.Need-loop-less Inv-loop μ-loop
 loop-less c = search needs
 
 loop-again : tie.Need-loop-again Inv-loop μ-loop
-loop-again c = texts-next (c .before .before .before .before .before .before .before .before .args .t3 .n) (entryText (c .before .before .before .before .before .before .before .before .args .t3) (c .before .before .before .before .before .before .before .before .args .t4) (c .before .before .before .before .before .before .before .before .args .t5)) (c .before .before .before .before .before .before .loop .inv) (c .before .before .before .before .before .loop-test .taken) (c .before .before .put-entry .kept .0) (entry-put (c .before .before .before .before .before .before .before .before .args .t3) (c .before .before .before .before .before .before .before .before .args .t4) (c .before .before .before .before .before .before .before .before .args .t5) (c .before .before .before .before .before .before .loop .i) (c .before .before .before .before .before .loop-test .taken) (c .before .before .put-entry .ensures))
+loop-again c = texts-next (c .before .before .before .before .before .before .before .before .args .t3 .n) (entryLineAt (c .before .before .before .before .before .before .before .before .args .t3) (λ j. getD (c .before .before .before .before .before .before .before .before .args .t4) j 0) (λ j. getD (c .before .before .before .before .before .before .before .before .args .t5) j 0)) (c .before .before .before .before .before .before .loop .inv) (c .before .before .before .before .before .loop-test .taken) (c .before .before .put-entry .kept .0) (entry-put (c .before .before .before .before .before .before .before .before .args .t3) (c .before .before .before .before .before .before .before .before .args .t4) (c .before .before .before .before .before .before .before .before .args .t5) (c .before .before .before .before .before .before .loop .i) (c .before .before .before .before .before .loop-test .taken) (c .before .before .put-entry .ensures))
 
 same-length : tie.Need-same-length Inv-loop μ-loop
 same-length c = c .before .loop .inv .long
