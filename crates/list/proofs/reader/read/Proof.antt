@@ -16,7 +16,10 @@ refused-with-requires : tie.Need-refused-with-requires
 refused-with-requires c κs = search needs
 
 returns : tie.Need-returns
-returns c = reads (c .before .before .before .args .bytes .now) _ (λ i. c .before .before .shared-slice-known .given i .fits) (answers-refused _ _ _ (c .refused-with .ensures) (read-short (c .before .before .before .args .bytes .now) (c .before .if1 .taken)))
+returns c =
+    let args = c .before .before .before .args in
+    reads (args .bytes .now) _ (λ i. c .before .before .shared-slice-known .given i .fits)
+    (answers-refused _ _ _ (c .refused-with .ensures) (read-short (args .bytes .now) (c .before .if1 .taken)))
 
 u16-at-requires : tie.Need-u16-at-requires
 u16-at-requires c κs = search needs
@@ -32,8 +35,12 @@ enum-told c = search needs
 
 read-body-requires : tie.Need-read-body-requires
 read-body-requires c κs =
-    let e : headerFault 2 (record { h = c .before .before .before .before .u16-at .result }) (getD (c .before .before .before .before .before .before .before .args .bytes .now) 2 0) ≡ answered tt = rw (c .enum-told .given .1) at (sym (c .before .before .header-fault .ensures)) in
-    (c .before .before .before .before .before .if1 .left, header-of 2 _ _ e .room, (ap (λ (x : ℕ). record { h = x }) (c .before .before .before .before .u16-at .ensures)), refl)
+    let args = c .before .before .before .before .before .before .before .args in
+    let if1 = c .before .before .before .before .before .if1 in
+    let u16-at = c .before .before .before .before .u16-at in
+    let e : headerFault 2 (record { h = u16-at .result }) (getD (args .bytes .now) 2 0) ≡ answered tt = rw (c .enum-told .given .1) at
+    (sym (c .before .before .header-fault .ensures)) in
+    (if1 .left, header-of 2 _ _ e .room, (ap (λ (x : ℕ). record { h = x }) (u16-at .ensures)), refl)
 
 enum-known-header : tie.Need-enum-known-header
 enum-known-header c = search needs
@@ -42,10 +49,28 @@ refused-with-requires-2 : tie.Need-refused-with-requires-2
 refused-with-requires-2 c κs = search needs
 
 returns-2 : tie.Need-returns-2
-returns-2 c = reads (c .before .before .before .before .before .before .before .before .args .bytes .now) _ (λ i. c .before .before .before .before .before .before .before .shared-slice-known .given i .fits) (rw (read-body (c .before .before .before .before .before .before .before .before .args .bytes .now) (record { h = c .before .before .before .before .before .u16-at .result }) (c .before .before .before .header-fault .result) (ap (λ (x : ℕ). record { h = x }) (c .before .before .before .before .before .u16-at .ensures)) (c .before .before .before .before .before .before .if1 .left) (c .before .before .before .header-fault .ensures) (c .before .enum-told .given .1)) (c .read-body .ensures))
+returns-2 c =
+    let args = c .before .before .before .before .before .before .before .before .args in
+    let shared-slice-known = c .before .before .before .before .before .before .before .shared-slice-known in
+    let if1 = c .before .before .before .before .before .before .if1 in
+    let u16-at = c .before .before .before .before .before .u16-at in
+    let header-fault = c .before .before .before .header-fault in
+    reads (args .bytes .now) _ (λ i. shared-slice-known .given i .fits)
+    (rw (read-body (args .bytes .now) (record { h = u16-at .result }) (header-fault .result)
+    (ap (λ (x : ℕ). record { h = x }) (u16-at .ensures)) (if1 .left) (header-fault .ensures) (c .before .enum-told .given .1))
+    (c .read-body .ensures))
 
 returns-3 : tie.Need-returns-3
-returns-3 c = reads (c .before .before .before .before .before .before .before .before .before .args .bytes .now) _ (λ i. c .before .before .before .before .before .before .before .before .shared-slice-known .given i .fits) (answers-refused _ _ _ (c .refused-with2 .ensures) (read-header (c .before .before .before .before .before .before .before .before .before .args .bytes .now) (record { h = c .before .before .before .before .before .before .u16-at .result }) (c .before .before .before .before .header-fault .result) (ap (λ (x : ℕ). record { h = x }) (c .before .before .before .before .before .before .u16-at .ensures)) (c .before .before .before .before .before .before .before .if1 .left) (c .before .before .before .before .header-fault .ensures) _ (c .before .before .header .given .1)))
+returns-3 c =
+    let args = c .before .before .before .before .before .before .before .before .before .args in
+    let shared-slice-known = c .before .before .before .before .before .before .before .before .shared-slice-known in
+    let if1 = c .before .before .before .before .before .before .before .if1 in
+    let u16-at = c .before .before .before .before .before .before .u16-at in
+    let header-fault = c .before .before .before .before .header-fault in
+    reads (args .bytes .now) _ (λ i. shared-slice-known .given i .fits)
+    (answers-refused _ _ _ (c .refused-with2 .ensures)
+    (read-header (args .bytes .now) (record { h = u16-at .result }) (header-fault .result)
+    (ap (λ (x : ℕ). record { h = x }) (u16-at .ensures)) (if1 .left) (header-fault .ensures) _ (c .before .before .header .given .1)))
 
 pub read-spec : {M : Type 1} → statement M
 read-spec =
