@@ -51,7 +51,7 @@ module _ (f : Frame) (e : Entry) where
   abbrev pub partsOf : Fields → ℕ → List ℕ
   partsOf m k = (k ∷ []) ++ afterMap m e
 
-  pub entry-parts : (m : Fields) (k : ℕ) → m ≡ fieldsIn f e → k ≡ mapOf m → entryBytes f e ≡ partsOf m k
+  entry-parts : (m : Fields) (k : ℕ) → m ≡ fieldsIn f e → k ≡ mapOf m → entryBytes f e ≡ partsOf m k
   unfolding entryBytes
   entry-parts m k p q = ap (λ (n : Fields). partsOf n (mapOf n)) (sym p) ∙ ap (λ (x : ℕ). partsOf m x) (sym q)
 

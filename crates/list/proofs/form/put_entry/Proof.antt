@@ -30,7 +30,7 @@ serial-room c =
     let e = c .before .before .before .before .before .args .e in
     room-after (c .put-u32 .ensures) (afterSerial (c .before .before .before .fields-in .result) e) (map-room (c .before .before))
 
--- the whole entry was stored
+-- the entry's one form was stored
 stored : (c : tie.After-put-times)
     → let args = c .before .before .before .before .before .before .before .before .before .before .before .before .before .args in
     Wrote (args .out .now) (args .at) (entryBytes (args .frame) (args .e)) (c .put-times .last .0) (c .put-times .result)

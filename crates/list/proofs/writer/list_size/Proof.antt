@@ -1,5 +1,5 @@
--- `writer::list_size` meets its contract. The loop's invariant is `Counted`: what was counted and what is left make the whole. The measure
--- is what is left of n.
+-- `writer::list_size` meets its contract. The loop's invariant is `Counted`: what was counted and what is left make the one form's
+-- length. The measure is what is left of n.
 -- Assumes nothing.
 use borrow.Author.Needs.{needs}
 use mathlib.Core.Path.{_≡_}
@@ -53,7 +53,7 @@ size-of-requires c κs = search needs
 add-size : tie.Need-add-size Inv-loop μ-loop
 add-size c =
     let start = c .before .before .before .before .before .before in
-    omega (arith, list-short (start .args .t1) (start .pre), counted c .whole)
+    omega (arith, list-short (start .args .t1) (start .pre), counted c .total)
 
 add-i : tie.Need-add-i Inv-loop μ-loop
 add-i c = search needs

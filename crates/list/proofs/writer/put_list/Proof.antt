@@ -1,5 +1,5 @@
--- `writer::put_list` meets its contract. The loop's invariant is `StoredSoFar`: storing the rest gives the whole. The measure is what is
--- left of n.
+-- `writer::put_list` meets its contract. The loop's invariant is `StoredSoFar`: storing the rest gives the one form. The measure is what
+-- is left of n.
 -- Assumes nothing.
 use borrow.Author.Needs.{needs}
 use mathlib.Core.Path.{_≡_, _∙_}

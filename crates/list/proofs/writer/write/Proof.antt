@@ -12,7 +12,7 @@ use Rattle.list.specs.Machine.{Typed}
 use Rattle.list.proofs.Walk.{length-mapped}
 use Rattle.list.proofs.InTypes.{each-serial, each-seal}
 use Rattle.list.proofs.WriteCases.{has-room}
-use Rattle.list.proofs.Promised.{write-refused, write-short, write-whole}
+use Rattle.list.proofs.Promised.{write-refused, write-short, write-done}
 use Rattle.list.proofs.writer.write.Statement.{statement}
 use Rattle.list.proofs.writer.write.Tie as tie
 
@@ -70,7 +70,7 @@ returns-2 c =
     let enum-told = c .before .before .before .before .before .before .enum-told in
     let list-size = c .before .before .before .before .before .list-size in
     let if1 = c .before .before .before .before .if1 in
-    write-whole (args .list) (args .out .now)
+    write-done (args .list) (args .out .now)
     (in-types (c .before .before .before .before .before .before .before .before .before .before)) _ _
     (well (args .list) (check .ensures) (enum-told .given .1)) (list-size .ensures) (if1 .left) (c .before .before .put-list .ensures)
 
