@@ -55,7 +55,8 @@ module _ (f : Frame) (at : ℕ) (m : Fields) (bs : List ℕ) where
   unfolding fieldsEntry
   fields-short h = simp (lt-ltb _ _ h)
 
-  pub fields-default : (e : Entry) → e ≡ entryAt f m bs → sizeOf m ≤ length bs → defaultWritten f m e ≡ true → refused (code 5 (at ∷ [])) ≡ fieldsEntry f at m bs
+  pub fields-default : (e : Entry) → e ≡ entryAt f m bs → sizeOf m ≤ length bs → defaultWritten f m e ≡ true
+      → refused (code 5 (at ∷ [])) ≡ fieldsEntry f at m bs
   unfolding fieldsEntry
   fields-default e q h t = rw (← q) (simp (le-ltb _ _ h, t))
 

@@ -95,7 +95,8 @@ module _ {xs ys : List ℕ} (a : Agree 964 xs ys) where
   body-same room =
       let all : 3 + length (drop 3 ys) ≡ length ys = omega (arith, length-drop 3 ys) in
       rw (frame-same, a .byte 2 (omega arith), entries-same f n 3 (agree-drop a 3 (15 * n) (omega arith)))
-      (same-after (TakenEntries f n (drop 3 ys) (length ys)) (PlaceIn (length ys)) (entriesFrom f n 3 (drop 3 ys)) _ _ (entries-say f n 3 (drop 3 ys) (length ys) all)
+      (same-after (TakenEntries f n (drop 3 ys) (length ys)) (PlaceIn (length ys)) (entriesFrom f n 3 (drop 3 ys)) _ _
+      (entries-say f n 3 (drop 3 ys) (length ys) all)
       (λ x es.
       let p : x .1 < length xs = omega arith in
       let q : x .1 < length ys = omega arith in

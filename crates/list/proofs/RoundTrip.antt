@@ -41,7 +41,8 @@ module _ (l : DayList) (t : Typed l) (w : WellFormed l) where
   counted : length (entriesOf l) ≡ l .n
   counted = simp length-take (omega (arith, t .long, sound .header .room))
 
-  entries-back : entriesFrom (l .frame) (l .n) 3 (bytesOfEntries (l .frame) (entriesOf l)) ≡ answered (entriesOf l, 3 + length (bytesOfEntries (l .frame) (entriesOf l)))
+  entries-back : entriesFrom (l .frame) (l .n) 3 (bytesOfEntries (l .frame) (entriesOf l))
+      ≡ answered (entriesOf l, 3 + length (bytesOfEntries (l .frame) (entriesOf l)))
   entries-back =
       let fits = every-take Fits (l .entries) (l .n) (λ i. record { serial = t .serial i; seal = t .seal i }) in
       rw counted at (entries-read-back (l .frame) 3 (entriesOf l) small fits (sound .entries))
@@ -50,7 +51,8 @@ module _ (l : DayList) (t : Typed l) (w : WellFormed l) where
   pub bytes-read-back : readOf (bytesOf l) ≡ answered (dayList (l .frame) (entriesOf l))
   unfolding bytesOf
   bytes-read-back =
-      let same : l .frame ≡ frameOf (bytesOf l) = ap (λ (x : ℕ). record { h = x }) (sym (u16-back (l .frame .h) (l .n ∷ bytesOfEntries (l .frame) (entriesOf l)) small)) in
+      let same : l .frame ≡ frameOf (bytesOf l) =
+      ap (λ (x : ℕ). record { h = x }) (sym (u16-back (l .frame .h) (l .n ∷ bytesOfEntries (l .frame) (entriesOf l)) small)) in
       read-body (bytesOf l) (l .frame) Accepted same (omega arith) (sym (header-passes 2 (l .frame) (l .n) (sound .header))) refl
       ∙ body-done (bytesOf l) (l .frame) (l .n) same refl (entriesOf l) _ entries-back (omega arith)
 
@@ -120,7 +122,8 @@ module _ (bs : List ℕ) where
 
     in-types : Bytes bs → Typed (dayList f es)
     in-types b =
-        let fits : (i : ℕ) → Fits (getD (dayList f es .entries) i blank) = λ i. every-at Fits es (64 - length es) i (record { serial = omega arith; seal = tt }) (taken .fits (bytes-drop bs 3 b)) in
+        let fits : (i : ℕ) → Fits (getD (dayList f es .entries) i blank) =
+        λ i. every-at Fits es (64 - length es) i (record { serial = omega arith; seal = tt }) (taken .fits (bytes-drop bs 3 b)) in
         record {
           long = simp (length-append, length-replicate) (omega (arith, taken .count, h .room));
           serial = λ i. fits i .serial;
