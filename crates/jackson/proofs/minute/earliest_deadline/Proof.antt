@@ -23,7 +23,16 @@ loop-holds : tie.Need-loop-holds Inv-loop μ-loop
 loop-holds c = search-start (c .pre)
 
 sooner-requires : tie.Need-sooner-requires Inv-loop μ-loop
-sooner-requires c κs = (search needs, λ h. omega (arith, c .before .loop .inv .held, search-found (smaller-ranks (λ (j : ℕ). getD (c .before .before .args .d .now) j 0)) (omega (arith, c .before .loop .inv .held)) (c .before .loop .inv) h))
+sooner-requires c κs =
+    let loop = c .before .loop in (
+      search needs,
+      λ h. omega (
+        arith,
+        loop .inv .held,
+        search-found (smaller-ranks (λ (j : ℕ). getD (c .before .before .args .d .now) j 0))
+            (omega (arith, loop .inv .held)) (loop .inv) h,
+      ),
+    )
 
 add-i : tie.Need-add-i Inv-loop μ-loop
 add-i c = search needs
