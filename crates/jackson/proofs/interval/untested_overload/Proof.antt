@@ -1,9 +1,20 @@
 -- The interval shown is the definition's.
 -- Assumes nothing.
 use borrow.Author.Needs.{needs}
+use Prim.Native.Nat.{_<_}
 use Rattle.jackson.proofs.IntervalCases.{none-overloaded, left-in, overload-shown}
 use Rattle.jackson.proofs.interval.untested_overload.Statement.{statement}
 use Rattle.jackson.proofs.interval.untested_overload.Tie as tie
+
+-- the left end found is one of the places
+left-below : (c : tie.After-left-end)
+    → c .left-end .result < c .before .before .before .before .before .before .before .before .before .before .before .before .places-held .result
+left-below c =
+    let args = c .before .before .before .before .before .before .before .before .before .before .before .before .before .args in
+    let places-held = c .before .before .before .before .before .before .before .before .before .before .before .before .places-held in
+    let right-end = c .before .before .before .before .before .right-end in
+    let if1 = c .before .before .before .before .if1 in
+    rw (c .left-end .ensures) (left-in (args .windows) _ (places-held .ensures) _ (right-end .ensures) (if1 .left))
 
 places-held-requires : tie.Need-places-held-requires
 places-held-requires c κs = search needs
@@ -28,22 +39,10 @@ left-end-requires : tie.Need-left-end-requires
 left-end-requires c κs = search needs
 
 mul-a : tie.Need-mul-a
-mul-a c =
-    let args = c .before .before .before .before .before .before .before .before .before .before .before .before .before .args in
-    let places-held = c .before .before .before .before .before .before .before .before .before .before .before .before .places-held in
-    let right-end = c .before .before .before .before .before .right-end in
-    let if1 = c .before .before .before .before .if1 in
-    let below = left-in (args .windows) (places-held .result) (places-held .ensures) (right-end .result) (right-end .ensures) (if1 .left) in
-    search (needs, below)
+mul-a c = let below = left-below c in search (needs, below)
 
 array-read-a : tie.Need-array-read-a
-array-read-a c =
-    let args = c .before .before .before .before .before .before .before .before .before .before .before .before .before .args in
-    let places-held = c .before .before .before .before .before .before .before .before .before .before .before .before .places-held in
-    let right-end = c .before .before .before .before .before .right-end in
-    let if1 = c .before .before .before .before .if1 in
-    let below = left-in (args .windows) (places-held .result) (places-held .ensures) (right-end .result) (right-end .ensures) (if1 .left) in
-    search (needs, below)
+array-read-a c = let below = left-below c in search (needs, below)
 
 work-in-requires : tie.Need-work-in-requires
 work-in-requires c κs = search needs

@@ -1,10 +1,23 @@
 -- The place chosen is the definition's, in each case.
 -- Assumes nothing.
 use borrow.Author.Needs.{needs}
+use Prim.Native.Nat.{_<_}
 use native.Mathlib.Omega.{arith}
 use Rattle.jackson.proofs.MinuteCases.{none-before, finished-before, found-place, interrupted, continued}
 use Rattle.jackson.proofs.minute.choice.Statement.{statement}
 use Rattle.jackson.proofs.minute.choice.Tie as tie
+
+-- where the entry that had the minute before is ready, a place was found
+found : (c : tie.Else2)
+    → c .before .before .before .earliest-deadline .result
+    < c .before .before .before .before .before .before .before .before .before .before .places-held .result
+found c =
+    let args = c .before .before .before .before .before .before .before .before .before .before .before .args in
+    let places-held = c .before .before .before .before .before .before .before .before .before .before .places-held in
+    let earliest-deadline = c .before .before .before .earliest-deadline in
+    let is-ready = c .before .is-ready in
+    found-place (args .windows) _ (places-held .ensures) (args .t) (args .last) _ (earliest-deadline .ensures) (is-ready .result)
+    (is-ready .ensures) (c .before .before .if1 .left) (omega (arith, places-held .ensures)) (c .if2 .left)
 
 places-held-requires : tie.Need-places-held-requires
 places-held-requires c κs = search needs
@@ -48,24 +61,10 @@ cast-if3 : tie.Need-cast-if3
 cast-if3 c = search needs
 
 mul-if3 : tie.Need-mul-if3
-mul-if3 c =
-    let args = c .before .before .before .before .before .before .before .before .before .before .before .args in
-    let places-held = c .before .before .before .before .before .before .before .before .before .before .places-held in
-    let earliest-deadline = c .before .before .before .earliest-deadline in
-    let is-ready = c .before .is-ready in
-    let below = found-place (args .windows) (places-held .result) (places-held .ensures) (args .t) (args .last) (earliest-deadline .result)
-    (earliest-deadline .ensures) (is-ready .result) (is-ready .ensures) (c .before .before .if1 .left) (omega (arith, places-held .ensures))
-    (c .if2 .left) in search (needs, below)
+mul-if3 c = let below = found c in search (needs, below)
 
 array-read-if3 : tie.Need-array-read-if3
-array-read-if3 c =
-    let args = c .before .before .before .before .before .before .before .before .before .before .before .args in
-    let places-held = c .before .before .before .before .before .before .before .before .before .before .places-held in
-    let earliest-deadline = c .before .before .before .earliest-deadline in
-    let is-ready = c .before .is-ready in
-    let below = found-place (args .windows) (places-held .result) (places-held .ensures) (args .t) (args .last) (earliest-deadline .result)
-    (earliest-deadline .ensures) (is-ready .result) (is-ready .ensures) (c .before .before .if1 .left) (omega (arith, places-held .ensures))
-    (c .if2 .left) in search (needs, below)
+array-read-if3 c = let below = found c in search (needs, below)
 
 mul-if3-2 : tie.Need-mul-if3-2
 mul-if3-2 c = search needs
