@@ -49,8 +49,10 @@ work-in-requires c κs = search needs
 
 returns-2 : tie.Need-returns-2
 returns-2 c =
-    let args = c .before .before .before .before .before .before .before .before .before .before .before .before .before .before .before .before .before .args in
-    let places-held = c .before .before .before .before .before .before .before .before .before .before .before .before .before .before .before .before .places-held in
+    let args =
+    c .before .before .before .before .before .before .before .before .before .before .before .before .before .before .before .before .before .args in
+    let places-held =
+    c .before .before .before .before .before .before .before .before .before .before .before .before .before .before .before .before .places-held in
     let right-end = c .before .before .before .before .before .before .before .before .before .right-end in
     let if1 = c .before .before .before .before .before .before .before .before .if1 in
     let left-end = c .before .before .before .before .left-end in

@@ -7,14 +7,14 @@ use lib.ListN.{getD}
 use Rattle.jackson.specs.Counting.{smaller}
 use Rattle.jackson.specs.Plans.{idle}
 use Rattle.jackson.specs.Minutes.{isReady}
-use Rattle.jackson.specs.Steps.{arrived}
+use Rattle.jackson.specs.Steps.{stateAt}
 use Rattle.jackson.proofs.Scans.{smaller-ranks}
 use Rattle.jackson.proofs.ScanSteps.{Searched, search-start, search-next, search-done, search-found}
 use Rattle.jackson.proofs.minute.earliest_deadline.Statement.{statement}
 use Rattle.jackson.proofs.minute.earliest_deadline.Tie as tie
 
 abbrev Inv-loop : tie.InvT-loop
-Inv-loop count t r d left k₀ i₀ k i = Searched idle (isReady (arrived count t r d left)) (smaller (λ (j : ℕ). getD d j 0)) count k i
+Inv-loop count t r d left k₀ i₀ k i = Searched idle (isReady (stateAt count t r d left)) (smaller (λ (j : ℕ). getD d j 0)) count k i
 
 abbrev μ-loop : tie.MeasureT-loop
 μ-loop count t r d left k₀ i₀ k i = count - i

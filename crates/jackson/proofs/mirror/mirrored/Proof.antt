@@ -1,4 +1,4 @@
--- Both sides are turned.
+-- Both sides are mirrored.
 -- Assumes nothing.
 use borrow.Author.Needs.{needs}
 use Rattle.jackson.proofs.MirrorCases.{mirror-held}

@@ -1,4 +1,4 @@
--- The loop's invariant is `MirroredSoFar`, the measure what is left of the entries.
+-- A side is mirrored entry by entry. The loop's invariant is `MirroredSoFar`, the measure what is left of the entries.
 -- Assumes nothing.
 use borrow.Author.Needs.{needs}
 use Prim.Native.Nat.{_-_}
