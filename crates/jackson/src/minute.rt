@@ -22,7 +22,7 @@ fn is_ready(t: u16, r: u16, left: u16) -> bool
     if r <= t { 0 < left } else { false }
 }
 
-// The better of place i and the best so far, k or 255 for none: i if it is ready and its d is smaller, else k.
+// The better of place i and the best so far k, 255 for none: i if it is ready and its d is smaller.
 fn sooner(i: usize, k: u8, t: u16, r: &[u16; 64], d: &[u16; 64], left: &[u16; 64]) -> u8
     requires { ⌜ i < 64 ⌝ }
     requires { ⌜ ((k ≡ idle → ⊥) → k < 64) ⌝ }
