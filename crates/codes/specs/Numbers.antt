@@ -1,4 +1,4 @@
--- A refusal as a value of code.
+-- A refusal as numbers.
 use Prim.Native.Nat.{ℕ}
 use mathlib.Core.List.{List, [], _∷_}
 use lib.ListN.{length, getD}

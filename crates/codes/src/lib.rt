@@ -1,5 +1,6 @@
 // Refusals as numbers, for printing and for callers in other languages.
-// Promises: `numbers_of` gives each refusal its number of document 01 and the values that it carries. Uses the crate list.
+// Promises: `numbers_of` gives every refusal document 01's number and the values that it carries, by equality with the definition of specs/.
+// Uses the crate list.
 use list::types::Refusal;
 ghost use mathlib.Core.Path.{_≡_};
 ghost use mathlib.Core.List.{[], _∷_};
@@ -14,6 +15,7 @@ pub struct RefusalCode {
     pub values: [u64; 3],
 }
 
+// A refusal that carries one value.
 fn with_one(number: u8, value: usize) -> RefusalCode
     ensures { λ c. ⌜ c ≡ numbersOf (code number (value ∷ [])) ⌝ }
 {
@@ -24,7 +26,7 @@ fn with_one(number: u8, value: usize) -> RefusalCode
     }
 }
 
-// Beside the definition `codeOf`, the one place that goes through all refusals.
+// The one place in code that goes through all refusals, as `codeOf` does among the definitions.
 pub fn numbers_of(x: Refusal) -> RefusalCode
     ensures { λ c. ⌜ c ≡ numbersOf (codeOf x) ⌝ }
 {

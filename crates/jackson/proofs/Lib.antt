@@ -9,9 +9,9 @@ pub mod PlanFacts
 -- cite Law and ListLaws, and Runs and Schedules for days that are running.
 mod Counted
 mod OneMinute
-pub mod PlanWork
+mod PlanWork
 pub mod Runs
-pub mod Endpoints
+mod Endpoints
 pub mod Choices
 pub mod ShownInterval
 pub mod Schedules

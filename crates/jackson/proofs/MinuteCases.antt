@@ -13,7 +13,7 @@ use Rattle.jackson.specs.Counting.{same, better, smaller}
 use Rattle.jackson.specs.Windows.{withLeft, windowsIn}
 use Rattle.jackson.specs.Plans.{idle}
 use Rattle.jackson.specs.Minutes.{State, isReady, earliestDeadline, chosen}
-use Rattle.jackson.specs.Steps.{arrived, IsAfter}
+use Rattle.jackson.specs.Steps.{stateAt, IsAfter}
 use Rattle.jackson.specs.declared.types.WindowSet.{WindowSet}
 use Rattle.jackson.specs.declared.types.Day.{Day}
 use Rattle.jackson.proofs.Sums.{le-or-lt, same-cases}
@@ -30,7 +30,7 @@ module _ (t r left : ℕ) where
 -- the better of place i and the best so far: b says whether i is ready
 module _ (i k t : ℕ) (r d left : List ℕ) (b : Bool) (says : b ≡ leb (getD r i 0) t && ltb 0 (getD left i 0)) where
   abbrev passes : ℕ → Bool
-  passes = isReady (arrived 64 t r d left)
+  passes = isReady (stateAt 64 t r d left)
 
   abbrev sooner : ℕ → ℕ → Bool
   sooner = smaller (λ j. getD d j 0)
@@ -47,8 +47,9 @@ module _ (i k t : ℕ) (r d left : List ℕ) (b : Bool) (says : b ≡ leb (getD 
   pub no-smaller : (k ≡ 255 → ⊥) → getD d k 0 ≤ getD d i 0 → k ≡ better idle passes sooner i k
   no-smaller z h = stays idle passes sooner i k z (le-ltb (getD d i 0) (getD d k 0) h)
 
--- the choice: k is the ready place with the smallest d of the n that the arrays hold, b says whether the entry that had the minute before is ready
-module _ (s : WindowSet) (n : ℕ) (holds : n ≡ min (s .n) 64) (t last k : ℕ) (first : k ≡ earliestDeadline (arrived n t (s .r) (s .d) (s .p))) where
+-- the choice: k is the ready place with the smallest d of the n that the arrays hold, b says whether the entry that had the minute before is
+-- ready
+module _ (s : WindowSet) (n : ℕ) (holds : n ≡ min (s .n) 64) (t last k : ℕ) (first : k ≡ earliestDeadline (stateAt n t (s .r) (s .d) (s .p))) where
   abbrev now : State
   now = record { windows = windowsIn s; t = t; last = last }
 

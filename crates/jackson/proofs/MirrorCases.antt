@@ -14,13 +14,13 @@ use Rattle.jackson.specs.declared.types.WindowSet.{WindowSet}
 use Rattle.jackson.proofs.Sums.{le-or-lt, same-cases}
 use Rattle.jackson.proofs.HeldWindows.{held}
 
--- both sides turned
+-- both sides mirrored
 pub mirror-held : (s : WindowSet) (count : ℕ) → count ≡ min (s .n) 64 → (r d : List ℕ)
     → MirroredSide (s .h) count (s .r) (s .d) r → MirroredSide (s .h) count (s .d) (s .r) d
     → MirrorOf s (record { h = s .h; n = s .n; r = r; d = d; p = s .p })
 mirror-held s count e r d a b = record { windows = held s r d _ _ (rw e at a) (rw e at b); n = refl }
 
--- the first i entries are turned
+-- the first i entries are mirrored
 pub record MirroredSoFar (h count : ℕ) (side other xs : List ℕ) (i : ℕ) : Type 0 where
   pub held : count ≤ 64
   pub passed : i ≤ count

@@ -14,7 +14,7 @@ use Rattle.jackson.specs.Mirrors.{mirror, mirrorPlan, mirrorBytes}
 use Rattle.jackson.proofs.Sums.{le-or-lt, same-cases, same-ne, between-is}
 use Rattle.jackson.proofs.Sums.{sum-le, sum-lt, sum-cong, sum-zero, sum-reverse, count-between}
 use Rattle.jackson.proofs.Listed.{list-length, list-at}
-use Rattle.jackson.proofs.Searches.{First, first-below, last-below, last-first, first-last, turn-back}
+use Rattle.jackson.proofs.Searches.{First, first-below, last-below, first-last, reverse-twice}
 
 -- Mirrors.
 
@@ -54,13 +54,10 @@ mirror-mirror w release deadline =
 
 -- and so is a plan, in the day's minutes
 pub mirror-twice : (h : ℕ) (m : ℕ → ℕ) (t : ℕ) → t < h → mirrorPlan h (mirrorPlan h m) t ≡ m t
-mirror-twice h m t below = ap m (turn-back h t below)
+mirror-twice h m t below = ap m (reverse-twice h t below)
 
--- starts and ends change places
-pub mirror-end : (h : ℕ) (m : ℕ → ℕ) (i : ℕ) → endOf h (mirrorPlan h m) i ≡ h - startOf h m i
-mirror-end h m i = last-first h (λ t. eqb (m t) i)
-
-pub mirror-start : (h : ℕ) (m : ℕ → ℕ) (i : ℕ) → startOf h (mirrorPlan h m) i ≡ h - endOf h m i
+-- a start in the mirror is an end
+mirror-start : (h : ℕ) (m : ℕ → ℕ) (i : ℕ) → startOf h (mirrorPlan h m) i ≡ h - endOf h m i
 mirror-start h m i = first-last h (λ t. eqb (m t) i)
 
 -- Starts and ends.

@@ -12,7 +12,6 @@ use Rattle.jackson.specs.Intervals.{work, Fits}
 use Rattle.jackson.specs.Rules.{Ready, Follows}
 use Rattle.jackson.proofs.Sums.{le-or-lt, from-to, same-cases, same-ne, sum-zero}
 use Rattle.jackson.proofs.Counted.{counted, counted-is, work-over, work-under}
-use Rattle.jackson.proofs.PlanWork.{plan-fits}
 use Rattle.jackson.proofs.OneMinute.{minute-fits}
 
 -- at minute 0 the rest of the day is the day
@@ -73,7 +72,3 @@ module _ (w : Windows) (t₀ : ℕ) (m : ℕ → ℕ) (left : ℕ → ℕ → �
             (λ h. let z = ready i t l h k e in omega (arith, z .released, z .unfinished, in-time fits i t l h (omega arith)))
             (λ h. absurd (omega (arith, run .before t h)));
       }
-
-  -- if there is any plan of it, the run is one
-  pub run-planned : t₀ ≤ w .h → ((i : ℕ) → i < w .n → 1 ≤ w .p i → w .d i ≤ w .h) → (x : ℕ → ℕ) → Plan (restFrom t₀ w) x → Plan (restFrom t₀ w) m
-  run-planned started in-day x plan = run-plan started in-day (plan-fits (restFrom t₀ w) x plan)

@@ -17,7 +17,7 @@ not-ltb a b h = go (ltb a b) refl
     go true e = absurd (h e)
     go false e = ltb-false a b e
 
--- "is strictly better" is an order in which those that are not better than one another count as equal
+-- being strictly better is an order in which those that are not better than one another count as equal
 pub record Ranks (before : ℕ → ℕ → Bool) : Type 0 where
   pub asym : (i k : ℕ) → before i k ≡ true → before k i ≡ true → ⊥
   pub over : (i j k : ℕ) → before i k ≡ true → (before j k ≡ true → ⊥) → before i j ≡ true

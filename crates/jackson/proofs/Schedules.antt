@@ -49,19 +49,6 @@ module _ (s : State) where
 
 -- Minutes after one another.
 
-module _ (s : State) (j : ℕ) where
-  -- k minutes later than j minutes later is j + k minutes later
-  pub later-later : (k : ℕ) → later k (later j s) ≡ later (j + k) s
-  unfolding later
-  later-later zero = let z : j + 0 ≡ j = omega arith in rw z
-  later-later (suc k) =
-      let z : j + suc k ≡ suc (j + k) = omega arith in
-      rw z (ap (λ (x : State). minuteOf x .next) (later-later k))
-
-  -- so they have the same place
-  pub place-later : (k : ℕ) → placeAt (later j s) k ≡ placeAt s (j + k)
-  place-later k = ap (λ (x : State). minuteOf x .place) (later-later k)
-
 module _ (s : State) where
   -- the state k minutes later has the same windows, but for the minutes left
   pub later-keeps : (k : ℕ) → later k s .windows ≡ withLeft (s .windows) (later k s .windows .p)

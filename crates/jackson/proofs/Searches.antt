@@ -48,7 +48,7 @@ last-cong zero f g h = refl
 last-cong (suc n) f g h = rw (h n (omega arith), last-cong n f g (λ i l. h i (omega arith)))
 
 -- the same numbers the other way round: a search for the last is one for the first
-pub last-first : (h : ℕ) (f : ℕ → Bool) → lastBelow h (λ t. f (h - suc t)) ≡ h - firstBelow h f
+last-first : (h : ℕ) (f : ℕ → Bool) → lastBelow h (λ t. f (h - suc t)) ≡ h - firstBelow h f
 unfolding firstBelow lastBelow
 last-first zero f = refl
 last-first (suc h) f =
@@ -60,25 +60,25 @@ last-first (suc h) f =
     go true x y e = omega arith
     go false x y e = omega arith
 
--- a number's place the other way round, taken twice
-pub turn-back : (h t : ℕ) → t < h → h - suc (h - suc t) ≡ t
-turn-back h t l = omega arith
+-- a number the other way round, taken twice
+pub reverse-twice : (h t : ℕ) → t < h → h - suc (h - suc t) ≡ t
+reverse-twice h t l = omega arith
 
 module _ (h : ℕ) (f : ℕ → Bool) where
-  last-turned : lastBelow h f ≡ h - firstBelow h (λ t. f (h - suc t))
-  last-turned = last-cong h _ _ (λ t l. ap f (sym (turn-back h t l))) ∙ last-first h (λ t. f (h - suc t))
+  last-reverse : lastBelow h f ≡ h - firstBelow h (λ t. f (h - suc t))
+  last-reverse = last-cong h _ _ (λ t l. ap f (sym (reverse-twice h t l))) ∙ last-first h (λ t. f (h - suc t))
 
   pub first-last : firstBelow h (λ t. f (h - suc t)) ≡ h - lastBelow h f
-  first-last = omega (arith, last-turned, first-below h (λ t. f (h - suc t)) .within)
+  first-last = omega (arith, last-reverse, first-below h (λ t. f (h - suc t)) .within)
 
   -- what a search for the last answers
   pub last-below : Last h f (lastBelow h f)
   last-below =
       let t = firstBelow h (λ t. f (h - suc t)) in
       let first = first-below h (λ t. f (h - suc t)) in
-      let e : h - suc t ≡ lastBelow h f - 1 = omega (arith, last-turned) in
+      let e : h - suc t ≡ lastBelow h f - 1 = omega (arith, last-reverse) in
       record {
-        within = omega (arith, last-turned);
-        passes = λ l. rw (← e) (first .passes (omega (arith, last-turned)));
-        none-after = λ i k l p. first .none-before (h - suc i) (omega (arith, last-turned)) (rw (turn-back h i l) p);
+        within = omega (arith, last-reverse);
+        passes = λ l. rw (← e) (first .passes (omega (arith, last-reverse)));
+        none-after = λ i k l p. first .none-before (h - suc i) (omega (arith, last-reverse)) (rw (reverse-twice h i l) p);
       }

@@ -1,21 +1,20 @@
 -- The overload test accepts windows exactly without overload, and else shows the interval with the smallest b, and with it the largest a.
 -- Assumes nothing.
 use mathlib.Core.Path.{_≡_, refl}
-use mathlib.Core.Bool.{Bool, true, false, cond, and-eq-true-iff}
-use mathlib.Core.List.{[], _∷_}
+use mathlib.Core.Bool.{true, and-eq-true-iff}
 use Prim.Native.Nat.{ℕ, _-_, _<_, _≤_}
 use native.Mathlib.Omega.{arith}
 use borrow.Author.Tests.{ltb-true, ltb-false, lt-ltb}
 use lib.Dec.{ltb}
-use Rattle.list.specs.Outcomes.{Code, code, Outcome, answered, refused}
+use Rattle.list.specs.Outcomes.{Code, Outcome, answered, refused}
+use Rattle.list.proofs.Inversion.{Says, by-row}
 use Rattle.jackson.specs.Windows.{Windows}
 use Rattle.jackson.specs.Intervals.{work, Overloaded, Shown, NoOverload, ShowsOverload, isOverloaded, leftOf, leftEnd, rightOf, rightEnd, overloadOf}
 use Rattle.jackson.proofs.Scans.{smaller-ranks, larger-ranks, best-below, best-some, best-smallest, best-largest}
 
 -- what the overload test says by its answer, and by a refusal
 abbrev Row9 : Windows → Outcome (Unit {0}) → Type 0
-Row9 w (answered _) = NoOverload w
-Row9 w (refused k) = ShowsOverload w k
+Row9 w = Says (λ _. NoOverload w) (ShowsOverload w)
 
 module _ (w : Windows) where
   -- the left end found for b is below n exactly if there is one, and is then the largest
@@ -73,14 +72,9 @@ module _ (w : Windows) where
   test-says : Row9 w (overloadOf w)
   unfolding overloadOf
   test-says =
-      go (ltb (rightEnd w) (w .n)) _ _
-      (λ e. ends-shown (ltb-true _ _ e))
+      by-row (λ _. NoOverload w) (ShowsOverload w) (ltb (rightEnd w) (w .n)) _ _
+      (λ e. record { a = _; b = _; carries = refl; shown = ends-shown (ltb-true _ _ e) })
       (λ e a b o. omega (arith, ltb-false (rightEnd w) (w .n) e, right-smallest a b o .0))
-    where
-      go : (t : Bool) (a b : ℕ) → (t ≡ true → Shown w a b) → (t ≡ false → NoOverload w)
-          → Row9 w (cond t (refused (code 9 (a ∷ b ∷ work w a b ∷ []))) (answered tt))
-      go true a b shown none = record { a = a; b = b; carries = refl; shown = shown refl }
-      go false a b shown none = none refl
 
   -- windows are accepted exactly if no interval is overloaded
   pub accepted-none : overloadOf w ≡ answered tt → NoOverload w

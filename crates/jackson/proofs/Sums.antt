@@ -46,7 +46,7 @@ same-refl a = rw (eq-eqb a a refl)
 pub same-ne : (a b : ℕ) → (a ≡ b → ⊥) → same a b ≡ 0
 same-ne a b h = rw (ne-eqb a b h)
 
--- what counts only between two bounds: the whole if a ≤ r and d ≤ b, else nothing
+-- x, counted only if a ≤ r and d ≤ b
 pub between-is : (a b r d x : ℕ) → a ≤ r → d ≤ b → cond (leb a r && leb d b) x 0 ≡ x
 between-is a b r d x h k = rw (le-leb a r h, le-leb d b k)
 
@@ -58,7 +58,7 @@ between-in a b r d x = go (leb a r) (leb d b) refl refl
     go true false e f some = absurd (omega arith)
     go false t e f some = absurd (omega arith)
 
--- so it is at most what the whole is at most then
+-- so a bound on x in that case is a bound on it
 pub between-le : (a b r d x y : ℕ) → (a ≤ r → d ≤ b → x ≤ y) → cond (leb a r && leb d b) x 0 ≤ y
 between-le a b r d x y h =
     le-or-lt 1 (cond (leb a r && leb d b) x 0)

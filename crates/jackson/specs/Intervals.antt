@@ -16,8 +16,8 @@ work w a b = sum (w .n) (λ i. cond (leb a (w .r i) && leb (w .d i) b) (w .p i) 
 abbrev pub Fits : Windows → Type 0
 Fits w = (a b : ℕ) → work w a b ≤ b - a
 
--- "For a an earliest and b a latest minute of the list ..: With a below b, it is overloaded if the work exceeds b - a; other pairs
--- are no intervals."
+-- "For a an earliest and b a latest minute of the list, .. With a below b, it is overloaded if the work exceeds b - a; other pairs are no
+-- intervals."
 pub record Overloaded (w : Windows) (a b : ℕ) : Type 0 where
   pub earliest : (i : ℕ) × (i < w .n) × (w .r i ≡ a)
   pub latest : (j : ℕ) × (j < w .n) × (w .d j ≡ b)

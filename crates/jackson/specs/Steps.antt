@@ -11,8 +11,8 @@ use Rattle.jackson.specs.Minutes.{State, stateOf, after}
 use Rattle.jackson.specs.declared.types.Day.{Day}
 
 -- the state at minute t of n entries held in arrays, nobody having had the minute before
-abbrev pub arrived : ℕ → ℕ → List ℕ → List ℕ → List ℕ → State
-arrived n t r d left = record { windows = columns 0 n r d left; t = t; last = idle }
+abbrev pub stateAt : ℕ → ℕ → List ℕ → List ℕ → List ℕ → State
+stateAt n t r d left = record { windows = columns 0 n r d left; t = t; last = idle }
 
 -- the day after place k, or none, had its minute
 pub record IsAfter (day : Day) (k : ℕ) (next : Day) : Type 0 where

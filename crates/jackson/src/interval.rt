@@ -54,7 +54,7 @@ fn is_overloaded(count: usize, r: &[u16; 64], d: &[u16; 64], p: &[u16; 64], a: u
     ((b - a) as u32) < work_in(count, r, d, p, a, b)
 }
 
-// The better of place i and the best so far, k or count for none: i if its r is the left end of an overloaded interval that ends at b, and larger; else k.
+// The better of place i and the best so far k, count for none: i if an overloaded interval goes from its r to b and that r is larger.
 fn larger_left(
     count: usize,
     r: &[u16; 64],
@@ -95,7 +95,7 @@ fn left_end(count: usize, r: &[u16; 64], d: &[u16; 64], p: &[u16; 64], b: u16) -
     k
 }
 
-// The better of place i and the best so far, k or count for none: i if its d is the right end of an overloaded interval, and smaller; else k.
+// The better of place i and the best so far k, count for none: i if an overloaded interval ends at its d and that d is smaller.
 fn smaller_right(
     count: usize,
     r: &[u16; 64],

@@ -13,7 +13,7 @@ ghost use Rattle.jackson.specs.Windows.{windowsIn};
 ghost use Rattle.jackson.specs.Plans.{idle};
 ghost use Rattle.jackson.specs.Minutes.{isReady, earliestDeadline, chosen};
 ghost use Rattle.jackson.specs.Planning.{Advances};
-ghost use Rattle.jackson.specs.Steps.{arrived, IsAfter};
+ghost use Rattle.jackson.specs.Steps.{stateAt, IsAfter};
 
 // An entry has its r reached and minutes left.
 fn is_ready(t: u16, r: u16, left: u16) -> bool
@@ -22,11 +22,11 @@ fn is_ready(t: u16, r: u16, left: u16) -> bool
     if r <= t { 0 < left } else { false }
 }
 
-// The better of place i and the best so far, k or 255 for none: i if it is ready and its d is smaller, else k.
+// The better of place i and the best so far k, 255 for none: i if it is ready and its d is smaller.
 fn sooner(i: usize, k: u8, t: u16, r: &[u16; 64], d: &[u16; 64], left: &[u16; 64]) -> u8
     requires { ⌜ i < 64 ⌝ }
     requires { ⌜ ((k ≡ idle → ⊥) → k < 64) ⌝ }
-    ensures { λ x. ⌜ x ≡ better idle (isReady (arrived 64 t (now (r .entry)) (now (d .entry)) (now (left .entry)))) (smaller (λ j. getD (now (d .entry)) j 0)) i k ⌝ }
+    ensures { λ x. ⌜ x ≡ better idle (isReady (stateAt 64 t (now (r .entry)) (now (d .entry)) (now (left .entry)))) (smaller (λ j. getD (now (d .entry)) j 0)) i k ⌝ }
 {
     if !is_ready(t, r[i], left[i]) {
         return k;
@@ -43,7 +43,7 @@ fn sooner(i: usize, k: u8, t: u16, r: &[u16; 64], d: &[u16; 64], left: &[u16; 64
 // The ready place with the smallest d, the lowest among equals, 255 for none.
 fn earliest_deadline(count: usize, t: u16, r: &[u16; 64], d: &[u16; 64], left: &[u16; 64]) -> u8
     requires { ⌜ count ≤ 64 ⌝ }
-    ensures { λ k. ⌜ k ≡ earliestDeadline (arrived count t (now (r .entry)) (now (d .entry)) (now (left .entry))) ⌝ }
+    ensures { λ k. ⌜ k ≡ earliestDeadline (stateAt count t (now (r .entry)) (now (d .entry)) (now (left .entry))) ⌝ }
 {
     let mut k: u8 = 255;
     let mut i: usize = 0;

@@ -37,13 +37,13 @@ pub fn mirrored(windows: WindowSet) -> WindowSet
     let r = windows.r;
     let d = windows.d;
     let p = windows.p;
-    let first = mirrored_side(h, count, r, &d);
-    let end = mirrored_side(h, count, d, &r);
+    let release = mirrored_side(h, count, r, &d);
+    let deadline = mirrored_side(h, count, d, &r);
     WindowSet {
         h: h,
         n: n,
-        r: first,
-        d: end,
+        r: release,
+        d: deadline,
         p: p,
     }
 }

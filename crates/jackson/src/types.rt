@@ -10,7 +10,7 @@ pub struct WindowSet {
     pub p: [u16; 64],
 }
 
-// A day that is being planned: its minute t, the entry that had the minute before, 255 for none, and the windows, where p is the minutes left.
+// A day in planning: its minute t, the entry that had the minute before, 255 for none, and the windows, where p is the minutes left.
 pub struct Day {
     pub windows: WindowSet,
     pub t: u16,

@@ -1,10 +1,9 @@
 -- The value check, case by case: what code knows at the header, at each entry, and after the last.
 -- Assumes nothing.
-use Rattle.list.specs.declared.types.Frame.{Frame}
-use mathlib.Core.List.{[], _∷_}
-use borrow.Author.Tests.{eq-eqb, ne-eqb, lt-ltb, le-ltb}
 use mathlib.Core.Path.{_≡_}
+use mathlib.Core.List.{[], _∷_}
 use Prim.Native.Nat.{ℕ, _+_, _≤_, _<_}
+use borrow.Author.Tests.{eq-eqb, ne-eqb, lt-ltb, le-ltb}
 use lib.ListN.{length, getD, drop}
 use Rattle.list.specs.Outcomes.{answered, andThen, code, refused}
 use Rattle.list.specs.Refusals.{verdictOf}
@@ -12,6 +11,7 @@ use Rattle.list.specs.Entries.{entryFault}
 use Rattle.list.specs.DayLists.{entriesOf}
 use Rattle.list.specs.Checks.{headerFault, entriesFault, checkOf}
 use Rattle.list.specs.declared.types.Entry.{Entry}
+use Rattle.list.specs.declared.types.Frame.{Frame}
 use Rattle.list.specs.declared.types.DayList.{DayList}
 use Rattle.list.specs.declared.types.Refusal.{Refusal}
 use Rattle.list.specs.declared.types.Verdict.{Verdict}

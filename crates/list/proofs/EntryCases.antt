@@ -1,6 +1,5 @@
 -- What `fieldsEntry` and `entryOf` are, case by case, from the facts that code has at each answer.
 -- Assumes nothing.
-use Rattle.list.specs.declared.types.Seal.the-variants.{Number}
 use mathlib.Core.Path.{_≡_, sym, _∙_}
 use mathlib.Core.Bool.{Bool, true, false, cond, _&&_}
 use mathlib.Core.List.{List, [], _∷_}
@@ -14,6 +13,7 @@ use Rattle.list.specs.Numbers.{u16At, u32At}
 use Rattle.list.specs.Maps.{rPlace, dPlace, pPlace, sizeOf, mapFields, mapAnswerOf}
 use Rattle.list.specs.Entries.{defaultR, defaultD, sealOf, entryAt, entryFault, entryOf, fieldsEntry, defaultWritten}
 use Rattle.list.specs.declared.types.Seal.{Seal}
+use Rattle.list.specs.declared.types.Seal.the-variants.{Number}
 use Rattle.list.specs.declared.types.Entry.{Entry}
 use Rattle.list.specs.declared.types.Frame.{Frame}
 use Rattle.list.specs.declared.types.Refusal.{Refusal}
@@ -55,7 +55,8 @@ module _ (f : Frame) (at : ℕ) (m : Fields) (bs : List ℕ) where
   unfolding fieldsEntry
   fields-short h = simp (lt-ltb _ _ h)
 
-  pub fields-default : (e : Entry) → e ≡ entryAt f m bs → sizeOf m ≤ length bs → defaultWritten f m e ≡ true → refused (code 5 (at ∷ [])) ≡ fieldsEntry f at m bs
+  pub fields-default : (e : Entry) → e ≡ entryAt f m bs → sizeOf m ≤ length bs → defaultWritten f m e ≡ true
+      → refused (code 5 (at ∷ [])) ≡ fieldsEntry f at m bs
   unfolding fieldsEntry
   fields-default e q h t = rw (← q) (simp (le-ltb _ _ h, t))
 

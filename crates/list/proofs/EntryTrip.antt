@@ -74,7 +74,8 @@ entry-back f e rest h fits s =
     (sym (u16-read bs (pPlace m) (e .p) _ (omega arith) p-here)) refl
 
 -- an entry that fits and is sound is read back from its one form, whatever follows
-pub entry-reads-back : (f : Frame) (at : ℕ) (e : Entry) (rest : List ℕ) → f .h < 65536 → Fits e → Sound f e → entryOf f at (entryBytes f e ++ rest) ≡ answered (e, length (entryBytes f e))
+pub entry-reads-back : (f : Frame) (at : ℕ) (e : Entry) (rest : List ℕ) → f .h < 65536 → Fits e → Sound f e
+    → entryOf f at (entryBytes f e ++ rest) ≡ answered (e, length (entryBytes f e))
 entry-reads-back f at e rest h fits s =
     let m = fieldsIn f e in
     let bs = formBefore f e rest in
@@ -165,7 +166,8 @@ module _ (f : Frame) (at : ℕ) (bs : List ℕ) (len : ℕ) (all : at + length b
   fields-say legal h =
       by-row (TakenEntry f bs) (PlaceIn len) (ltb (length bs) (sizeOf m)) _ _ (λ t. at-end len _ all)
       (λ l. by-row (TakenEntry f bs) (PlaceIn len) (defaultWritten f m e) _ _ (λ t. here h 5 (omega arith) (omega arith))
-      (λ w. by-step (λ _. Sound f e) (PlaceIn len) (TakenEntry f bs) (entryFault f at e) _ (fault-says f at e (PlaceIn len) (here h 6 (omega arith) (omega arith)) (here h 7 (omega arith) (omega arith)))
+      (λ w. by-step (λ _. Sound f e) (PlaceIn len) (TakenEntry f bs) (entryFault f at e) _
+      (fault-says f at e (PlaceIn len) (here h 6 (omega arith) (omega arith)) (here h 7 (omega arith) (omega arith)))
       (λ _ s. taken legal (ltb-false _ _ l) w s)))
 
   -- what reading one entry says

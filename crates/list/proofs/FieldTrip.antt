@@ -17,17 +17,17 @@ bytes-drop bs k h i = rw getD-drop (h (k + i))
 pub u16-back : (x : ℕ) (tail : List ℕ) → x < 65536 → u16At (u16Bytes x ++ tail) 0 ≡ x
 u16-back x tail h = omega arith
 
-pub u32-back : (x : ℕ) (tail : List ℕ) → x < 2 ^ 32 → u32At (u32Bytes x ++ tail) 0 ≡ x
+u32-back : (x : ℕ) (tail : List ℕ) → x < 2 ^ 32 → u32At (u32Bytes x ++ tail) 0 ≡ x
 u32-back x tail h = omega (arith, u16-back (x % 65536) [] (omega arith), u16-back (x / 65536) [] (omega arith))
 
-pub u16-form : (a b : ℕ) → a < 256 → b < 256 → u16Bytes (a + 256 * b) ≡ a ∷ b ∷ []
+u16-form : (a b : ℕ) → a < 256 → b < 256 → u16Bytes (a + 256 * b) ≡ a ∷ b ∷ []
 u16-form a b p q =
     let low : (a + 256 * b) % 256 ≡ a = omega arith in
     let high : (a + 256 * b) / 256 ≡ b = omega arith in
     let byte : b % 256 ≡ b = omega arith in
     rw (low, high, byte)
 
-pub u32-form : (x y : ℕ) → x < 65536 → y < 65536 → u32Bytes (x + 65536 * y) ≡ u16Bytes x ++ u16Bytes y
+u32-form : (x y : ℕ) → x < 65536 → y < 65536 → u32Bytes (x + 65536 * y) ≡ u16Bytes x ++ u16Bytes y
 u32-form x y p q =
     let low : (x + 65536 * y) % 65536 ≡ x = omega arith in
     let high : (x + 65536 * y) / 65536 ≡ y = omega arith in

@@ -23,7 +23,7 @@ use Rattle.list.proofs.Sound.{Header, header-says}
 use Rattle.list.proofs.EntryTrip.{TakenEntry, entry-says}
 use Rattle.list.proofs.ListTrip.{TakenEntries, entries-say}
 
--- two inputs that both have n bytes, and the same ones
+-- two inputs that have the same first n bytes
 record Agree (n : ℕ) (xs ys : List ℕ) : Type 0 where
   left : n ≤ length xs
   right : n ≤ length ys
@@ -95,7 +95,8 @@ module _ {xs ys : List ℕ} (a : Agree 964 xs ys) where
   body-same room =
       let all : 3 + length (drop 3 ys) ≡ length ys = omega (arith, length-drop 3 ys) in
       rw (frame-same, a .byte 2 (omega arith), entries-same f n 3 (agree-drop a 3 (15 * n) (omega arith)))
-      (same-after (TakenEntries f n (drop 3 ys) (length ys)) (PlaceIn (length ys)) (entriesFrom f n 3 (drop 3 ys)) _ _ (entries-say f n 3 (drop 3 ys) (length ys) all)
+      (same-after (TakenEntries f n (drop 3 ys) (length ys)) (PlaceIn (length ys)) (entriesFrom f n 3 (drop 3 ys)) _ _
+      (entries-say f n 3 (drop 3 ys) (length ys) all)
       (λ x es.
       let p : x .1 < length xs = omega arith in
       let q : x .1 < length ys = omega arith in
@@ -109,16 +110,12 @@ module _ {xs ys : List ℕ} (a : Agree 964 xs ys) where
       rw (frame-same, a .byte 2 (omega arith), le-ltb _ _ p, le-ltb _ _ q)
       (same-after (λ _. Header f n) Anything (headerFault 2 f n) _ _ (header-says 2 f n Anything tt tt) (λ _ h. body-same (h .room)))
 
--- for any limit of 964 or more, the bytes within the limit are read as the whole input is
-pub within-limit : (limit : ℕ) (bs : List ℕ) → 964 ≤ limit → readOf (take limit bs) ≡ readOf bs
-within-limit limit bs h = go (leb (length bs) limit) refl
-  where
-    go : (t : Bool) → leb (length bs) limit ≡ t → readOf (take limit bs) ≡ readOf bs
-    go true e = ap readOf (take-all limit bs (leb-true _ _ e))
-    go false e =
-        let long : limit < length bs = leb-false _ _ e in
-        read-same (record { left = omega (arith, length-take limit bs); right = omega arith; byte = λ i l. getD-take limit bs i 0 (omega arith) })
-
--- so no program needs more than 964 bytes
+-- an input is read as its first 964 bytes are
 pub first-bytes : (bs : List ℕ) → readOf (take 964 bs) ≡ readOf bs
-first-bytes bs = within-limit 964 bs (omega arith)
+first-bytes bs = go (leb (length bs) 964) refl
+  where
+    go : (t : Bool) → leb (length bs) 964 ≡ t → readOf (take 964 bs) ≡ readOf bs
+    go true e = ap readOf (take-all 964 bs (leb-true _ _ e))
+    go false e =
+        let long : 964 < length bs = leb-false _ _ e in
+        read-same (record { left = omega (arith, length-take 964 bs); right = omega arith; byte = λ i l. getD-take 964 bs i 0 l })

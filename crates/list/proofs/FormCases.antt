@@ -32,6 +32,13 @@ pub times-stored : (m : Fields) (e : Entry) {old o₁ o₂ new : List ℕ} {at a
     → Wrote old at (timesBytes m e) new next
 times-stored m e w₁ w₂ w₃ = wrote-then w₁ (wrote-then w₂ w₃)
 
+-- what follows an entry's serial, and what follows its map byte
+abbrev pub afterSerial : Fields → Entry → List ℕ
+afterSerial m e = sealBytes (e .seal) ++ timesBytes m e
+
+abbrev pub afterMap : Fields → Entry → List ℕ
+afterMap m e = u32Bytes (e .serial) ++ afterSerial m e
+
 module _ (f : Frame) (e : Entry) where
   pub entry-length : length (entryBytes f e) ≡ sizeOf (fieldsIn f e)
   unfolding entryBytes
@@ -42,9 +49,9 @@ module _ (f : Frame) (e : Entry) where
 
   -- the entry's bytes, from the fields m and the map byte k that code found
   abbrev pub partsOf : Fields → ℕ → List ℕ
-  partsOf m k = (k ∷ []) ++ (u32Bytes (e .serial) ++ (sealBytes (e .seal) ++ timesBytes m e))
+  partsOf m k = (k ∷ []) ++ afterMap m e
 
-  pub entry-parts : (m : Fields) (k : ℕ) → m ≡ fieldsIn f e → k ≡ mapOf m → entryBytes f e ≡ partsOf m k
+  entry-parts : (m : Fields) (k : ℕ) → m ≡ fieldsIn f e → k ≡ mapOf m → entryBytes f e ≡ partsOf m k
   unfolding entryBytes
   entry-parts m k p q = ap (λ (n : Fields). partsOf n (mapOf n)) (sym p) ∙ ap (λ (x : ℕ). partsOf m x) (sym q)
 

@@ -69,7 +69,8 @@ entries-say f (suc k) at bs len all =
     (λ x one.
     let more = drop (x .1) bs in
     let left : (at + x .1) + length more ≡ len = omega (arith, one .within, length-drop (x .1) bs) in
-    by-step (TakenEntries f k more len) (PlaceIn len) (TakenEntries f (suc k) bs len) (entriesFrom f k (at + x .1) more) _ (entries-say f k (at + x .1) more len left)
+    by-step (TakenEntries f k more len) (PlaceIn len) (TakenEntries f (suc k) bs len) (entriesFrom f k (at + x .1) more) _
+    (entries-say f k (at + x .1) more len left)
     (λ y es.
     record {
       count = ap suc (es .count);

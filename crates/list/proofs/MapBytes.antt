@@ -1,4 +1,5 @@
--- The bit meanings of all 256 map bytes, by computed tests: the legal ones are the eight pairs k and k + 32 that code names, and each is the map byte of its fields.
+-- The bit meanings of all 256 map bytes, by computed tests: the legal ones are the eight pairs k and k + 32 that code names, and each is the
+-- map byte of its fields.
 -- Assumes nothing.
 use mathlib.Core.Path.{_≡_, refl, _∙_, sym}
 use mathlib.Core.Bool.{Bool, true, false, not, _||_, Bool·beq}
@@ -64,7 +65,8 @@ pub map-form : (b : ℕ) → b < 256 → legalMap b ≡ true → mapOf (fieldsOf
 map-form b h e =
     eqb-true _ _ (simp e at (at 256 (λ k. not (legalMap k) || eqb (mapOf (fieldsOf k)) k) refl b h))
 
-flags-back : (s r d : Bool) (k : Kind) (at : ℕ) → let m : Fields = record { seal = s; r = r; d = d; kind = k } in mapAnswerOf at (Follow m) ≡ mapFields at (mapOf m)
+flags-back : (s r d : Bool) (k : Kind) (at : ℕ)
+    → let m : Fields = record { seal = s; r = r; d = d; kind = k } in mapAnswerOf at (Follow m) ≡ mapFields at (mapOf m)
 flags-back true true true Pause at = refl
 flags-back true true true Whole at = refl
 flags-back true true false Pause at = refl

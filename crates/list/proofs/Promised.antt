@@ -25,7 +25,7 @@ use Rattle.list.specs.declared.types.Verdict.the-variants.{Refused}
 use Rattle.list.specs.declared.types.ReadAnswer.{ReadAnswer}
 use Rattle.list.specs.declared.types.WriteAnswer.{WriteAnswer}
 use Rattle.list.specs.declared.types.WriteAnswer.the-variants.{Written, NotWritten}
-use Rattle.list.proofs.WriteCases.{written-whole}
+use Rattle.list.proofs.WriteCases.{list-written}
 use Rattle.list.proofs.RoundTrip.{written-reads-back, read-one-form}
 
 pub reads : (bs : List ℕ) (a : ReadAnswer) → Bytes bs → AnswersAs (readOf bs) a → Reads bs a
@@ -37,7 +37,9 @@ module _ (l : DayList) (old : List ℕ) (t : Typed l) where
       record {
         outcome = p;
         buffer = q;
-        back = λ count e. subst (λ (bs : List ℕ). (b : DayList) × (readOf (take count bs) ≡ answered b) × SameList b l) (sym q) (written-reads-back l old count t e);
+        back =
+            λ count e. subst (λ (bs : List ℕ). (b : DayList) × (readOf (take count bs) ≡ answered b) × SameList b l) (sym q)
+            (written-reads-back l old count t e);
       }
 
   pub write-refused : (v : Verdict) (x : Refusal) → verdictOf v ≡ checkOf l → v ≡ Refused x → Writes l old (NotWritten x) old
@@ -51,7 +53,8 @@ module _ (l : DayList) (old : List ℕ) (t : Typed l) where
       let q : writeOf l (length old) ≡ refused (code 12 (length (bytesOf l) ∷ [])) = rw w (simp (lt-ltb _ _ k)) in
       promised (NotWritten (ListBufferShort size)) old (rw (q, z)) (rw q)
 
-  pub write-whole : (size : ℕ) (new : List ℕ) → WellFormed l → size ≡ length (bytesOf l) → size ≤ length old → new ≡ sets old 0 (bytesOf l) → Writes l old (Written size) new
-  write-whole size new w z h q₀ =
-      let q = written-whole l (length old) w (omega (arith, z)) in
+  pub write-done : (size : ℕ) (new : List ℕ) → WellFormed l → size ≡ length (bytesOf l) → size ≤ length old → new ≡ sets old 0 (bytesOf l)
+      → Writes l old (Written size) new
+  write-done size new w z h q₀ =
+      let q = list-written l (length old) w (omega (arith, z)) in
       promised (Written size) new (rw (q, z)) (rw q (q₀ ∙ sets-eq (bytesOf l) old 0 (omega (arith, z)) ∙ rw zero-add))

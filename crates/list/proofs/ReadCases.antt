@@ -32,6 +32,12 @@ use Rattle.list.proofs.EntryTrip.{TakenEntry, entry-says}
 abbrev pub before : List Entry → Outcome (List Entry × ℕ) → Outcome (List Entry × ℕ)
 before es o = andThen o (λ more. answered (es ++ more .0, more .1))
 
+-- one entry, and k more after it
+abbrev oneMore : Frame → ℕ → ℕ → List ℕ → Outcome (List Entry × ℕ)
+oneMore f k at bs =
+    andThen (entryOf f at bs)
+    (λ one. andThen (entriesFrom f k (at + one .1) (drop (one .1) bs)) (λ more. answered (one .0 ∷ more .0, more .1)))
+
 -- i of n entries were read, up to place at
 pub record SoFar (f : Frame) (n : ℕ) (bs : List ℕ) (entries : List Entry) (at i : ℕ) : Type 0 where
   pub passed : i ≤ n
@@ -44,7 +50,8 @@ before-nothing : (o : Outcome (List Entry × ℕ)) → o ≡ before [] o
 before-nothing (answered p) = refl
 before-nothing (refused k) = refl
 
-before-one : (es : List Entry) (e : Entry) (o : Outcome (List Entry × ℕ)) → before es (andThen o (λ more. answered (e ∷ more .0, more .1))) ≡ before (es ++ (e ∷ [])) o
+before-one : (es : List Entry) (e : Entry) (o : Outcome (List Entry × ℕ))
+    → before es (andThen o (λ more. answered (e ∷ more .0, more .1))) ≡ before (es ++ (e ∷ [])) o
 before-one es e (answered p) = ap (λ (l : List Entry). answered (l, p .1)) (sym (append-assoc es (e ∷ []) (p .0)))
 before-one es e (refused k) = refl
 
@@ -58,7 +65,8 @@ start f n bs h =
       rest = rw sub-zero (before-nothing _);
     }
 
-padded : (f : Frame) (n : ℕ) (es all : List Entry) → length es ≡ n → all ≡ es ++ replicate (64 - n) blank → record { frame = f; n = n; entries = all } ≡ dayList f es
+padded : (f : Frame) (n : ℕ) (es all : List Entry) → length es ≡ n → all ≡ es ++ replicate (64 - n) blank
+    → record { frame = f; n = n; entries = all } ≡ dayList f es
 padded f n es all k w = rw (w, ← k)
 
 -- what is left from place at on, as code lends it
@@ -69,28 +77,32 @@ rest-lent bs at = take-all (length bs - at) (drop at bs) (omega (arith, length-d
 abbrev pub ReadHere : Frame → ℕ → List ℕ → EntryAnswer → Type 0
 ReadHere f at bs a = entryAnswerOf a ≡ entryOf f at (take (length bs - at) (drop at bs))
 
-pub taken-here : (f : Frame) (at : ℕ) (bs : List ℕ) (a : EntryAnswer) (e : Entry) (size : ℕ) → ReadHere f at bs a → a ≡ Taken e size → entryOf f at (drop at bs) ≡ answered (e, size)
+taken-here : (f : Frame) (at : ℕ) (bs : List ℕ) (a : EntryAnswer) (e : Entry) (size : ℕ) → ReadHere f at bs a → a ≡ Taken e size
+    → entryOf f at (drop at bs) ≡ answered (e, size)
 taken-here f at bs a e size q t = rw (t, rest-lent bs at) at (sym q)
 
-refused-here : (f : Frame) (at : ℕ) (bs : List ℕ) (a : EntryAnswer) (x : Refusal) → ReadHere f at bs a → a ≡ NotTaken x → entryOf f at (drop at bs) ≡ refused (codeOf x)
+refused-here : (f : Frame) (at : ℕ) (bs : List ℕ) (a : EntryAnswer) (x : Refusal) → ReadHere f at bs a → a ≡ NotTaken x
+    → entryOf f at (drop at bs) ≡ refused (codeOf x)
 refused-here f at bs a x q t = rw (t, rest-lent bs at) at (sym q)
 
 -- an entry that was taken lies inside the input
-pub size-here : (f : Frame) (at : ℕ) (bs : List ℕ) (a : EntryAnswer) (e : Entry) (size : ℕ) → at ≤ length bs → ReadHere f at bs a → a ≡ Taken e size → at + size ≤ length bs
+pub size-here : (f : Frame) (at : ℕ) (bs : List ℕ) (a : EntryAnswer) (e : Entry) (size : ℕ) → at ≤ length bs → ReadHere f at bs a
+    → a ≡ Taken e size → at + size ≤ length bs
 size-here f at bs a e size h q t =
     let rest = drop at bs in
     let taken : TakenEntry f rest (e, size) = rw (taken-here f at bs a e size q t) at (entry-says f at rest _ refl) in
     omega (arith, taken .within, length-drop at bs)
 
 module _ {f : Frame} {n : ℕ} {bs : List ℕ} {entries : List Entry} {at i : ℕ} (s : SoFar f n bs entries at i) where
-  turn : i < n → entriesFrom f n 3 (drop 3 bs) ≡ before (take i entries) (andThen (entryOf f at (drop at bs)) (λ one. andThen (entriesFrom f (n - (i + 1)) (at + one .1) (drop (one .1) (drop at bs))) (λ more. answered (one .0 ∷ more .0, more .1))))
+  turn : i < n → entriesFrom f n 3 (drop 3 bs) ≡ before (take i entries) (oneMore f (n - (i + 1)) at (drop at bs))
   unfolding entriesFrom
   turn h = let q : n - i ≡ suc (n - (i + 1)) = omega arith in s .rest ∙ rw q
 
   pub entry-refused : (a : EntryAnswer) (x : Refusal) → i < n → ReadHere f at bs a → a ≡ NotTaken x → entriesFrom f n 3 (drop 3 bs) ≡ refused (codeOf x)
   entry-refused a x h q t = rw (turn h, refused-here f at bs a x q t)
 
-  pub next : (a : EntryAnswer) (e : Entry) (size : ℕ) → n ≤ 64 → i < n → ReadHere f at bs a → a ≡ Taken e size → SoFar f n bs (set entries i e) (at + size) (i + 1)
+  pub next : (a : EntryAnswer) (e : Entry) (size : ℕ) → n ≤ 64 → i < n → ReadHere f at bs a → a ≡ Taken e size
+      → SoFar f n bs (set entries i e) (at + size) (i + 1)
   next a e size room h q t =
       record {
         passed = omega arith;
@@ -106,8 +118,11 @@ module _ {f : Frame} {n : ℕ} {bs : List ℕ} {entries : List Entry} {at i : �
       taken : take (i + 1) (set entries i e) ≡ take i entries ++ (e ∷ [])
       taken = rw add-one (take-suc-set entries i e (omega (arith, s .long)))
 
-      rest-after : before (take i entries) (andThen (entryOf f at (drop at bs)) (λ one. andThen (entriesFrom f (n - (i + 1)) (at + one .1) (drop (one .1) (drop at bs))) (λ more. answered (one .0 ∷ more .0, more .1)))) ≡ before (take (i + 1) (set entries i e)) (entriesFrom f (n - (i + 1)) (at + size) (drop (at + size) bs))
-      rest-after = rw (taken-here f at bs a e size q t, taken, ← drop-drop size at bs) (before-one (take i entries) e (entriesFrom f (n - (i + 1)) (at + size) (drop size (drop at bs))))
+      rest-after : before (take i entries) (oneMore f (n - (i + 1)) at (drop at bs))
+          ≡ before (take (i + 1) (set entries i e)) (entriesFrom f (n - (i + 1)) (at + size) (drop (at + size) bs))
+      rest-after =
+          rw (taken-here f at bs a e size q t, taken, ← drop-drop size at bs)
+          (before-one (take i entries) e (entriesFrom f (n - (i + 1)) (at + size) (drop size (drop at bs))))
 
   pub done : n ≤ i → entriesFrom f n 3 (drop 3 bs) ≡ answered (take i entries, at)
   unfolding entriesFrom
@@ -119,8 +134,9 @@ module _ {f : Frame} {n : ℕ} {bs : List ℕ} {entries : List Entry} {at i : �
   list-is room h =
       let k : length (take i entries) ≡ n = simp length-take (omega (arith, s .long, s .passed)) in
       let z : i ≡ n = omega (arith, s .passed) in
-      let whole : entries ≡ take i entries ++ replicate (64 - n) blank = sym (take-append-drop i entries) ∙ ap (λ (l : List Entry). take i entries ++ l) (s .unused ∙ rw z) in
-      padded f n (take i entries) entries k whole
+      let all : entries ≡ take i entries ++ replicate (64 - n) blank =
+      sym (take-append-drop i entries) ∙ ap (λ (l : List Entry). take i entries ++ l) (s .unused ∙ rw z) in
+      padded f n (take i entries) entries k all
 
 -- after the entries: row 8, or the list
 module _ (bs : List ℕ) (f : Frame) (n : ℕ) (p : f ≡ frameOf bs) (q : n ≡ countOf bs) where
@@ -138,7 +154,8 @@ module _ (bs : List ℕ) (f : Frame) (n : ℕ) (p : f ≡ frameOf bs) (q : n ≡
   body-done es end e h = rw (body, e) (simp (le-ltb _ _ h))
 
 -- an answer made of a refusal, and one made of a list
-pub answers-refused : (o : Outcome DayList) (a : ReadAnswer) (x : Refusal) → a ≡ record { verdict = Refused x; list = emptyList } → o ≡ refused (codeOf x) → AnswersAs o a
+pub answers-refused : (o : Outcome DayList) (a : ReadAnswer) (x : Refusal) → a ≡ record { verdict = Refused x; list = emptyList }
+    → o ≡ refused (codeOf x) → AnswersAs o a
 answers-refused o a x p q = record { outcome = rw (p, q); beside = rw (p, q) }
 
 pub answers-list : (o : Outcome DayList) (l : DayList) → o ≡ answered l → AnswersAs o (record { verdict = Accepted; list = l })

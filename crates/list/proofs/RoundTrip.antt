@@ -28,7 +28,7 @@ use Rattle.list.proofs.Sound.{Header, header-says, header-passes, Sound
 use Rattle.list.proofs.FieldTrip.{bytes-drop, u16-back, u16-stands, byte-stands}
 use Rattle.list.proofs.EntryTrip.{Fits}
 use Rattle.list.proofs.ReadCases.{read-body, body-done}
-use Rattle.list.proofs.WriteCases.{list-short, has-room, written-whole}
+use Rattle.list.proofs.WriteCases.{list-short, has-room, list-written}
 use Rattle.list.proofs.ListTrip.{TakenEntries, entries-say, entries-read-back, every-take, every-at}
 
 module _ (l : DayList) (t : Typed l) (w : WellFormed l) where
@@ -41,7 +41,8 @@ module _ (l : DayList) (t : Typed l) (w : WellFormed l) where
   counted : length (entriesOf l) ≡ l .n
   counted = simp length-take (omega (arith, t .long, sound .header .room))
 
-  entries-back : entriesFrom (l .frame) (l .n) 3 (bytesOfEntries (l .frame) (entriesOf l)) ≡ answered (entriesOf l, 3 + length (bytesOfEntries (l .frame) (entriesOf l)))
+  entries-back : entriesFrom (l .frame) (l .n) 3 (bytesOfEntries (l .frame) (entriesOf l))
+      ≡ answered (entriesOf l, 3 + length (bytesOfEntries (l .frame) (entriesOf l)))
   entries-back =
       let fits = every-take Fits (l .entries) (l .n) (λ i. record { serial = t .serial i; seal = t .seal i }) in
       rw counted at (entries-read-back (l .frame) 3 (entriesOf l) small fits (sound .entries))
@@ -50,7 +51,8 @@ module _ (l : DayList) (t : Typed l) (w : WellFormed l) where
   pub bytes-read-back : readOf (bytesOf l) ≡ answered (dayList (l .frame) (entriesOf l))
   unfolding bytesOf
   bytes-read-back =
-      let same : l .frame ≡ frameOf (bytesOf l) = ap (λ (x : ℕ). record { h = x }) (sym (u16-back (l .frame .h) (l .n ∷ bytesOfEntries (l .frame) (entriesOf l)) small)) in
+      let same : l .frame ≡ frameOf (bytesOf l) =
+      ap (λ (x : ℕ). record { h = x }) (sym (u16-back (l .frame .h) (l .n ∷ bytesOfEntries (l .frame) (entriesOf l)) small)) in
       read-body (bytesOf l) (l .frame) Accepted same (omega arith) (sym (header-passes 2 (l .frame) (l .n) (sound .header))) refl
       ∙ body-done (bytesOf l) (l .frame) (l .n) same refl (entriesOf l) _ entries-back (omega arith)
 
@@ -69,7 +71,7 @@ module _ (l : DayList) (room : ℕ) where
       by-step (λ _. SoundList l) Anything Answer (checkOf l) _ (check-says l Anything tt tt (λ _. tt) (λ _. tt))
       (λ _ s. by-row Answer Anything (ltb room (length (bytesOf l))) _ _ (λ t. tt) (λ t. (well-formed l s, refl)))
 
--- "a well-formed list survives writing and reading": from the bytes that the writer answers, an equal list is read
+-- a well-formed list survives writing and reading: from the bytes that the writer stored, an equal list is read
 pub written-reads-back : (l : DayList) (old : List ℕ) (count : ℕ) → Typed l → writeOf l (length old) ≡ answered count
     → (back : DayList) × (readOf (take count (bufferAfter (writeOf l (length old)) l old)) ≡ answered back) × SameList back l
 written-reads-back l old count t e =
@@ -84,12 +86,11 @@ pub survives : (l : DayList) (old : List ℕ) → Typed l → WellFormed l → l
     → (count : ℕ) × (writeOf l (length old) ≡ answered count)
     × ((back : DayList) × (readOf (take count (bufferAfter (writeOf l (length old)) l old)) ≡ answered back) × SameList back l)
 survives l old t w h =
-    let e = written-whole l (length old) w h in (length (bytesOf l), e, written-reads-back l old (length (bytesOf l)) t e)
+    let e = list-written l (length old) w h in (length (bytesOf l), e, written-reads-back l old (length (bytesOf l)) t e)
 
--- what an accepted list is: sound, with blank places after its entries, and the list whose one form was read
+-- what an accepted list is: sound, and the list whose one form was read
 record ReadAs (bs : List ℕ) (l : DayList) : Type 0 where
   sound : SoundList l
-  filled : l ≡ dayList (l .frame) (entriesOf l)
   form : Bytes bs → bytesOf l ≡ bs
   typed : Bytes bs → Typed l
 
@@ -109,19 +110,20 @@ module _ (bs : List ℕ) where
     abbrev es : List Entry
     es = x .0
 
-    whole : entriesOf (dayList f es) ≡ es
-    whole = take-append-seam es _
+    kept : entriesOf (dayList f es) ≡ es
+    kept = take-append-seam es _
 
     one-form : Bytes bs → bytesOf (dayList f es) ≡ bs
     unfolding bytesOf
     one-form b =
         let none : taken .rest ≡ [] = drop-of-length-le (taken .rest) {i = 0} (omega (arith, taken .left)) in
         let body : drop 3 bs ≡ bytesOfEntries f es = taken .form (bytes-drop bs 3 b) ∙ rw none (append-nil _) in
-        rw (whole, taken .count, ← body, ← byte-stands bs 2 long, ← u16-stands bs b 0 (omega arith))
+        rw (kept, taken .count, ← body, ← byte-stands bs 2 long, ← u16-stands bs b 0 (omega arith))
 
     in-types : Bytes bs → Typed (dayList f es)
     in-types b =
-        let fits : (i : ℕ) → Fits (getD (dayList f es .entries) i blank) = λ i. every-at Fits es (64 - length es) i (record { serial = omega arith; seal = tt }) (taken .fits (bytes-drop bs 3 b)) in
+        let fits : (i : ℕ) → Fits (getD (dayList f es .entries) i blank) =
+        λ i. every-at Fits es (64 - length es) i (record { serial = omega arith; seal = tt }) (taken .fits (bytes-drop bs 3 b)) in
         record {
           long = simp (length-append, length-replicate) (omega (arith, taken .count, h .room));
           serial = λ i. fits i .serial;
@@ -131,8 +133,7 @@ module _ (bs : List ℕ) where
     read-as : ReadAs bs (dayList f es)
     read-as =
         record {
-          sound = record { header = rw (taken .count) h; entries = rw whole (taken .sound) };
-          filled = ap (dayList f) (sym whole);
+          sound = record { header = rw (taken .count) h; entries = rw kept (taken .sound) };
           form = one-form;
           typed = in-types;
         }
@@ -152,7 +153,7 @@ module _ (bs : List ℕ) where
       (λ x taken. by-row P R (ltb (x .1) (length bs)) _ _ (λ l. at-place _ 8 (x .1) (omega arith) (omega arith) (ltb-true _ _ l))
       (λ l. read-as long h x taken (ltb-false _ _ l)))))
 
-  -- "every place carried lies inside the input, or, for 1, is its length"
+  -- what 1 carries is the input's length, and any other refusal carries a place inside the input
   pub read-places : (k : Code) → readOf bs ≡ refused k → PlaceIn (length bs) k
   read-places k e = rw e at read-says
 
@@ -164,10 +165,6 @@ module _ (bs : List ℕ) where
     pub read-well-formed : WellFormed l
     read-well-formed = well-formed l (accepted .sound)
 
-    -- every place from n on is blank in an accepted list
-    pub read-filled : l ≡ dayList (l .frame) (entriesOf l)
-    read-filled = accepted .filled
-
     -- an accepted list is one that the machine's types hold
     pub read-typed : Bytes bs → Typed l
     read-typed = accepted .typed
@@ -176,21 +173,17 @@ module _ (bs : List ℕ) where
     pub read-one-form : Bytes bs → bytesOf l ≡ bs
     read-one-form = accepted .form
 
-    -- "accepted bytes survive reading and writing", byte for byte, in every buffer that has room
+    -- accepted bytes survive reading and writing, byte for byte, in every buffer that has room
     pub read-writes-back : Bytes bs → (old : List ℕ) → length bs ≤ length old
         → (writeOf l (length old) ≡ answered (length bs)) × (bufferAfter (writeOf l (length old)) l old ≡ bs ++ drop (length bs) old)
     read-writes-back b old h =
         let form = read-one-form b in
-        let written : writeOf l (length old) ≡ answered (length bs) = rw form at (written-whole l (length old) read-well-formed (rw form h)) in
+        let written : writeOf l (length old) ≡ answered (length bs) = rw form at (list-written l (length old) read-well-formed (rw form h)) in
         (written, rw (written, form))
 
 -- no list's one form has more than 963 bytes
 pub longest : (l : DayList) → WellFormed l → length (bytesOf l) ≤ 963
 longest l w = list-short l (has-room l w)
-
--- no longer input is accepted
-pub longest-read : (bs : List ℕ) (l : DayList) → readOf bs ≡ answered l → Bytes bs → length bs ≤ 963
-longest-read bs l e b = rw (read-one-form bs l e b) at (longest l (read-well-formed bs l e))
 
 -- 64 entries that write all their fields
 fullest : DayList

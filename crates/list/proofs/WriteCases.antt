@@ -31,7 +31,7 @@ restBytes l i = bytesOfEntries (l .frame) (drop i (entriesOf l))
 -- i entries were counted
 pub record Counted (l : DayList) (size i : ℕ) : Type 0 where
   pub passed : i ≤ l .n
-  pub whole : size + length (restBytes l i) ≡ length (bytesOf l)
+  pub total : size + length (restBytes l i) ≡ length (bytesOf l)
 
 -- i entries were stored, up to place at, in a buffer that held from after the header
 pub record StoredSoFar (l : DayList) (from out : List ℕ) (at i : ℕ) : Type 0 where
@@ -49,23 +49,28 @@ module _ (l : DayList) (enough : l .n ≤ length (l .entries)) where
   unfolding bytesOfEntries
   rest-done i h = rw (walk-done (l .entries) (l .n) enough i h)
 
-  pub counted-next : (size k i : ℕ) (e₀ : Entry) (m : Fields) → Counted l size i → i < l .n → m ≡ fieldsIn (l .frame) (getD (l .entries) i e₀) → k ≡ sizeOf m → Counted l (size + k) (i + 1)
+  pub counted-next : (size k i : ℕ) (e₀ : Entry) (m : Fields) → Counted l size i → i < l .n
+      → m ≡ fieldsIn (l .frame) (getD (l .entries) i e₀) → k ≡ sizeOf m → Counted l (size + k) (i + 1)
   counted-next size k i e₀ m c h p z =
       let e = getD (l .entries) i e₀ in
-      let q : length (restBytes l i) ≡ length (entryBytes (l .frame) e) + length (restBytes l (i + 1)) = rw (rest-next i e₀ h) (length-append (entryBytes (l .frame) e) (restBytes l (i + 1))) in
+      let q : length (restBytes l i) ≡ length (entryBytes (l .frame) e) + length (restBytes l (i + 1)) =
+      rw (rest-next i e₀ h) (length-append (entryBytes (l .frame) e) (restBytes l (i + 1))) in
       let w : k ≡ length (entryBytes (l .frame) e) = z ∙ ap sizeOf p ∙ sym (entry-length (l .frame) e) in
       record {
         passed = omega arith;
-        whole = omega (arith, c .whole, q, w);
+        total = omega (arith, c .total, q, w);
       }
 
   pub counted-done : (size i : ℕ) → Counted l size i → l .n ≤ i → size ≡ length (bytesOf l)
-  counted-done size i c h = omega (arith, c .whole, ap (λ (bs : List ℕ). length bs) (rest-done i h))
+  counted-done size i c h = omega (arith, c .total, ap (λ (bs : List ℕ). length bs) (rest-done i h))
 
-  pub stored-room : (from out : List ℕ) (at i : ℕ) (e₀ : Entry) → StoredSoFar l from out at i → i < l .n → at + length (entryBytes (l .frame) (getD (l .entries) i e₀)) ≤ length out
-  stored-room from out at i e₀ s h = room-first (entryBytes (l .frame) (getD (l .entries) i e₀)) (restBytes l (i + 1)) at (length out) (rw (rest-next i e₀ h) at (s .room))
+  pub stored-room : (from out : List ℕ) (at i : ℕ) (e₀ : Entry) → StoredSoFar l from out at i → i < l .n
+      → at + length (entryBytes (l .frame) (getD (l .entries) i e₀)) ≤ length out
+  stored-room from out at i e₀ s h =
+      room-first (entryBytes (l .frame) (getD (l .entries) i e₀)) (restBytes l (i + 1)) at (length out) (rw (rest-next i e₀ h) at (s .room))
 
-  pub stored-next : (from out new : List ℕ) (at next i : ℕ) (e₀ : Entry) → StoredSoFar l from out at i → i < l .n → Wrote out at (entryBytes (l .frame) (getD (l .entries) i e₀)) new next → StoredSoFar l from new next (i + 1)
+  pub stored-next : (from out new : List ℕ) (at next i : ℕ) (e₀ : Entry) → StoredSoFar l from out at i → i < l .n
+      → Wrote out at (entryBytes (l .frame) (getD (l .entries) i e₀)) new next → StoredSoFar l from new next (i + 1)
   stored-next from out new at next i e₀ s h w =
       record {
         passed = omega arith;
@@ -93,14 +98,15 @@ module _ (l : DayList) where
   list-short h = omega (arith, list-length, entries-short (l .frame) (entriesOf l), length-take (l .n) (l .entries))
 
   pub counted-start : Counted l 3 0
-  counted-start = record { passed = omega arith; whole = sym list-length }
+  counted-start = record { passed = omega arith; total = sym list-length }
 
   -- the header and the entries one after the other
   pub list-stored : {old o : List ℕ} {next : ℕ} → Wrote old 0 (u16Bytes (l .frame .h)) o next → sets (set o 2 (l .n)) 3 (restBytes l 0) ≡ sets old 0 (bytesOf l)
   unfolding bytesOf
   list-stored {old} {o} w = rw (w .stored)
 
-  pub stored-start : (old o : List ℕ) (next : ℕ) → Wrote old 0 (u16Bytes (l .frame .h)) o next → length (bytesOf l) ≤ length old → StoredSoFar l (set o 2 (l .n)) (set o 2 (l .n)) 3 0
+  pub stored-start : (old o : List ℕ) (next : ℕ) → Wrote old 0 (u16Bytes (l .frame .h)) o next → length (bytesOf l) ≤ length old
+      → StoredSoFar l (set o 2 (l .n)) (set o 2 (l .n)) 3 0
   stored-start old o next w h =
       record {
         passed = omega arith;
@@ -114,6 +120,6 @@ module _ (l : DayList) where
   has-room w = sound-list l w .header .room
 
   -- a well-formed list that has room is written
-  pub written-whole : (room : ℕ) → WellFormed l → length (bytesOf l) ≤ room → writeOf l room ≡ answered (length (bytesOf l))
+  pub list-written : (room : ℕ) → WellFormed l → length (bytesOf l) ≤ room → writeOf l room ≡ answered (length (bytesOf l))
   unfolding writeOf
-  written-whole room w h = rw w (simp (le-ltb _ _ h))
+  list-written room w h = rw w (simp (le-ltb _ _ h))

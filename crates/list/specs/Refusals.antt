@@ -1,4 +1,5 @@
 -- The number and the carried values of each case of an answer, as "Where a list is turned back" has them.
+use Prim.Native.Nat.{ℕ}
 use mathlib.Core.List.{[], _∷_}
 use Rattle.list.specs.Outcomes.{Code, code, Outcome, answered, refused}
 use Rattle.list.specs.declared.types.Refusal.{Refusal}
@@ -9,7 +10,6 @@ use Rattle.list.specs.declared.types.DayList.{DayList}
 use Rattle.list.specs.declared.types.ReadAnswer.{ReadAnswer}
 use Rattle.list.specs.declared.types.WriteAnswer.{WriteAnswer}
 use Rattle.list.specs.declared.types.WriteAnswer.the-variants.{Written, NotWritten}
-use Prim.Native.Nat.{ℕ}
 
 abbrev pub codeOf : Refusal → Code
 codeOf (BytesMissing len) = code 1 (len ∷ [])

@@ -18,7 +18,7 @@ pub enum MapAnswer {
     Follow(Fields),
 }
 
-// The fields that follow a legal map byte: bits 0 and 4 stand, bits 6 and 7 are clear; the second byte of a pair is whole.
+// The fields that follow a legal map byte: bits 0 and 4 stand, bits 6 and 7 are clear; the second byte of a pair says whole.
 pub(crate) fn map_answer(map: u8) -> MapAnswer
     ensures { λ a. ⌜ ((at : ℕ) → mapAnswerOf at a ≡ mapFields at map) ⌝ }
 {

@@ -55,7 +55,7 @@ pub enum Refusal {
     BytesLeftOver(usize),
     // 9: the interval from a to b is overloaded; a, b and its work.
     Overloaded(u16, u16, u32),
-    // 10: a whole entry has no place; the entry.
+    // 10: a whole entry has no place; the entry's place.
     NoPlace(usize),
     // 11: a plan buffer is under H bytes; H.
     PlanBufferShort(usize),

@@ -13,13 +13,13 @@ use Rattle.codes.specs.declared.RefusalCode.{RefusalCode}
 use Rattle.codes.proofs.numbers_of.Statement.{statement}
 use Rattle.codes.proofs.numbers_of.Tie as tie
 
--- the refusal that carries three
+-- the refusal that carries three values
 three-values : {x : Refusal} {a b work : ℕ} → x ≡ Overloaded a b work → record { number = 9; count = 3; values = a ∷ b ∷ work ∷ [] } ≡ numbersOf (codeOf x)
 three-values q = rw q
 
 -- a refusal that carries one value
-one : {r : RefusalCode} {x y : Refusal} {k v : ℕ} → r ≡ numbersOf (code k (v ∷ [])) → x ≡ y → codeOf y ≡ code k (v ∷ []) → r ≡ numbersOf (codeOf x)
-one p q s = rw (p, q, s)
+one-value : {r : RefusalCode} {x y : Refusal} {k v : ℕ} → r ≡ numbersOf (code k (v ∷ [])) → x ≡ y → codeOf y ≡ code k (v ∷ []) → r ≡ numbersOf (codeOf x)
+one-value p q s = rw (p, q, s)
 
 enum-known-x : tie.Need-enum-known-x
 enum-known-x c = search needs
@@ -106,43 +106,43 @@ with-one-requires-12 : tie.Need-with-one-requires-12
 with-one-requires-12 c κs = search needs
 
 returns : tie.Need-returns
-returns c = one (c .with-one .ensures) (c .before .before .x .given .1) refl
+returns c = one-value (c .with-one .ensures) (c .before .before .x .given .1) refl
 
 returns-2 : tie.Need-returns-2
-returns-2 c = one (c .with-one2 .ensures) (c .before .enum-told .given .1) refl
+returns-2 c = one-value (c .with-one2 .ensures) (c .before .enum-told .given .1) refl
 
 returns-3 : tie.Need-returns-3
-returns-3 c = one (c .with-one3 .ensures) (c .before .before .x2 .given .1) refl
+returns-3 c = one-value (c .with-one3 .ensures) (c .before .before .x2 .given .1) refl
 
 returns-4 : tie.Need-returns-4
-returns-4 c = one (c .with-one4 .ensures) (c .before .before .x3 .given .1) refl
+returns-4 c = one-value (c .with-one4 .ensures) (c .before .before .x3 .given .1) refl
 
 returns-5 : tie.Need-returns-5
-returns-5 c = one (c .with-one5 .ensures) (c .before .before .x4 .given .1) refl
+returns-5 c = one-value (c .with-one5 .ensures) (c .before .before .x4 .given .1) refl
 
 returns-6 : tie.Need-returns-6
-returns-6 c = one (c .with-one6 .ensures) (c .before .before .x5 .given .1) refl
+returns-6 c = one-value (c .with-one6 .ensures) (c .before .before .x5 .given .1) refl
 
 returns-7 : tie.Need-returns-7
-returns-7 c = one (c .with-one7 .ensures) (c .before .before .x6 .given .1) refl
+returns-7 c = one-value (c .with-one7 .ensures) (c .before .before .x6 .given .1) refl
 
 returns-8 : tie.Need-returns-8
-returns-8 c = one (c .with-one8 .ensures) (c .before .before .x7 .given .1) refl
+returns-8 c = one-value (c .with-one8 .ensures) (c .before .before .x7 .given .1) refl
 
 returns-9 : tie.Need-returns-9
 returns-9 c = three-values (c .before .x8 .given .1)
 
 returns-10 : tie.Need-returns-10
-returns-10 c = one (c .with-one9 .ensures) (c .before .before .x9 .given .1) refl
+returns-10 c = one-value (c .with-one9 .ensures) (c .before .before .x9 .given .1) refl
 
 returns-11 : tie.Need-returns-11
-returns-11 c = one (c .with-one10 .ensures) (c .before .before .x10 .given .1) refl
+returns-11 c = one-value (c .with-one10 .ensures) (c .before .before .x10 .given .1) refl
 
 returns-12 : tie.Need-returns-12
-returns-12 c = one (c .with-one11 .ensures) (c .before .before .x11 .given .1) refl
+returns-12 c = one-value (c .with-one11 .ensures) (c .before .before .x11 .given .1) refl
 
 returns-13 : tie.Need-returns-13
-returns-13 c = one (c .with-one12 .ensures) (c .before .before .x12 .given .1) refl
+returns-13 c = one-value (c .with-one12 .ensures) (c .before .before .x12 .given .1) refl
 
 pub numbers-of-spec : {M : Type 1} → statement M
 numbers-of-spec =

@@ -15,13 +15,20 @@ enum-told-2 : tie.Need-enum-told-2
 enum-told-2 c = search needs
 
 returns : tie.Need-returns
-returns c = not-filled (c .before .before .before .before .args .list) (c .before .before .before .before .args .plan .now) (c .before .before .start-day .result) (c .before .before .start-day .ensures) _ (c .enum-told2 .given .1)
+returns c =
+    let args = c .before .before .before .before .args in
+    let start-day = c .before .before .start-day in
+    not-filled (args .list) (args .plan .now) (start-day .result) (start-day .ensures) _ (c .enum-told2 .given .1)
 
 cast-h : tie.Need-cast-h
 cast-h c = search needs
 
 returns-2 : tie.Need-returns-2
-returns-2 c = too-short (c .before .before .before .before .before .before .before .args .list) (c .before .before .before .before .before .before .before .args .plan .now) (c .before .before .before .before .before .start-day .result) (c .before .before .before .before .before .start-day .ensures) (c .before .before .before .enum-told .given .1) (c .if1 .taken)
+returns-2 c =
+    let args = c .before .before .before .before .before .before .before .args in
+    let start-day = c .before .before .before .before .before .start-day in
+    let enum-told = c .before .before .before .enum-told in
+    too-short (args .list) (args .plan .now) (start-day .result) (start-day .ensures) (enum-told .given .1) (c .if1 .taken)
 
 untested-overload-requires : tie.Need-untested-overload-requires
 untested-overload-requires c κs = search needs
@@ -33,7 +40,14 @@ enum-told-4 : tie.Need-enum-told-4
 enum-told-4 c = search needs
 
 returns-3 : tie.Need-returns-3
-returns-3 c = not-planned (c .before .before .before .before .before .before .before .before .before .before .args .list) (c .before .before .before .before .before .before .before .before .before .before .args .plan .now) (c .before .before .before .before .before .before .before .before .start-day .result) (c .before .before .before .before .before .before .before .before .start-day .ensures) (c .before .before .before .before .before .before .enum-told .given .1) (c .before .before .before .if1 .left) (c .before .before .untested-overload .result) (c .before .before .untested-overload .ensures) _ (c .enum-told4 .given .1)
+returns-3 c =
+    let args = c .before .before .before .before .before .before .before .before .before .before .args in
+    let start-day = c .before .before .before .before .before .before .before .before .start-day in
+    let enum-told = c .before .before .before .before .before .before .enum-told in
+    let if1 = c .before .before .before .if1 in
+    let untested-overload = c .before .before .untested-overload in
+    not-planned (args .list) (args .plan .now) (start-day .result) (start-day .ensures) (enum-told .given .1) (if1 .left)
+    (untested-overload .result) (untested-overload .ensures) _ (c .enum-told4 .given .1)
 
 store-places-requires : tie.Need-store-places-requires
 store-places-requires c κs = search needs
@@ -42,7 +56,15 @@ same-length : tie.Need-same-length
 same-length c = search needs
 
 returns-4 : tie.Need-returns-4
-returns-4 c = planned (c .before .before .before .before .before .before .before .before .before .before .before .before .before .before .args .list) (c .before .before .before .before .before .before .before .before .before .before .before .before .before .before .args .plan .now) (c .before .before .before .before .before .before .before .before .before .before .before .before .start-day .result) (c .before .before .before .before .before .before .before .before .before .before .before .before .start-day .ensures) (c .before .before .before .before .before .before .before .before .before .before .enum-told .given .1) (c .before .before .before .before .before .before .before .if1 .left) (c .before .before .before .before .before .before .untested-overload .result) (c .before .before .before .before .before .before .untested-overload .ensures) _ (c .before .before .before .before .enum-told3 .given .1) (c .before .before .store-places .ensures)
+returns-4 c =
+    let args = c .before .before .before .before .before .before .before .before .before .before .before .before .before .before .args in
+    let start-day = c .before .before .before .before .before .before .before .before .before .before .before .before .start-day in
+    let enum-told = c .before .before .before .before .before .before .before .before .before .before .enum-told in
+    let if1 = c .before .before .before .before .before .before .before .if1 in
+    let untested-overload = c .before .before .before .before .before .before .untested-overload in
+    let enum-told3 = c .before .before .before .before .enum-told3 in
+    planned (args .list) (args .plan .now) (start-day .result) (start-day .ensures) (enum-told .given .1) (if1 .left)
+    (untested-overload .result) (untested-overload .ensures) _ (enum-told3 .given .1) (c .before .before .store-places .ensures)
 
 pub schedule-spec : {M : Type 1} → statement M
 schedule-spec =

@@ -21,7 +21,12 @@ day-start-requires : tie.Need-day-start-requires
 day-start-requires c κs = search needs
 
 returns : tie.Need-returns
-returns c = not-started (c .before .before .before .before .before .args .list) (c .before .before .before .before .check .result) (c .before .before .before .before .check .ensures) (c .before .no-windows .result) (c .day-start .result) (c .day-start .ensures) _ (c .before .before .enum-told2 .given .1) (c .before .no-windows .ensures)
+returns c =
+    let args = c .before .before .before .before .before .args in
+    let check = c .before .before .before .before .check in
+    let no-windows = c .before .no-windows in
+    not-started (args .list) (check .result) (check .ensures) (no-windows .result) (c .day-start .result) (c .day-start .ensures) _
+    (c .before .before .enum-told2 .given .1) (no-windows .ensures)
 
 untested-windows-requires : tie.Need-untested-windows-requires
 untested-windows-requires c κs = search needs
@@ -30,7 +35,12 @@ day-start-requires-2 : tie.Need-day-start-requires-2
 day-start-requires-2 c κs = search needs
 
 returns-2 : tie.Need-returns-2
-returns-2 c = started (c .before .before .before .before .before .args .list) (c .before .before .before .before .check .result) (c .before .before .before .before .check .ensures) (c .before .untested-windows .result) (c .day-start2 .result) (c .day-start2 .ensures) (c .before .before .enum-told .given .1) (c .before .untested-windows .ensures)
+returns-2 c =
+    let args = c .before .before .before .before .before .args in
+    let check = c .before .before .before .before .check in
+    let untested-windows = c .before .untested-windows in
+    started (args .list) (check .result) (check .ensures) (untested-windows .result) (c .day-start2 .result) (c .day-start2 .ensures)
+    (c .before .before .enum-told .given .1) (untested-windows .ensures)
 
 pub start-day-spec : {M : Type 1} → statement M
 start-day-spec =

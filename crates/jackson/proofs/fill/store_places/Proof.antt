@@ -21,7 +21,9 @@ minute-requires : tie.Need-minute-requires Inv-loop μ-loop
 minute-requires c κs = search needs
 
 slice-write-plan : tie.Need-slice-write-plan Inv-loop μ-loop
-slice-write-plan c = let long = store-long _ _ _ _ _ _ (c .before .before .loop .inv) in let room = c .before .before .loop .inv .room in search (needs, long, room)
+slice-write-plan c =
+    let loop = c .before .before .loop in
+    let long = store-long _ _ _ _ _ _ (loop .inv) in let room = loop .inv .room in search (needs, long, room)
 
 add-i : tie.Need-add-i Inv-loop μ-loop
 add-i c = search needs
@@ -30,7 +32,9 @@ loop-less : tie.Need-loop-less Inv-loop μ-loop
 loop-less c = search needs
 
 loop-again : tie.Need-loop-again Inv-loop μ-loop
-loop-again c = store-next _ _ _ _ _ _ _ _ (c .before .before .before .loop .inv) (c .before .before .loop-test .taken) (c .before .minute .ensures)
+loop-again c =
+    let loop = c .before .before .before .loop in
+    store-next _ _ _ _ _ _ _ _ (loop .inv) (c .before .before .loop-test .taken) (c .before .minute .ensures)
 
 same-length : tie.Need-same-length Inv-loop μ-loop
 same-length c = store-long _ _ _ _ _ _ (c .before .loop .inv)

@@ -22,7 +22,12 @@ same-length : tie.Need-same-length
 same-length c = search needs
 
 returns-2 : tie.Need-returns-2
-returns-2 c = has-room (windowsIn (c .before .before .before .before .before .before .before .before .args .windows)) (c .before .before .before .before .before .before .before .before .args .plan .now) _ (c .before .before .before .before .before .if1 .left) (rw (c .before .before .before .before .day-start .ensures) at (c .before .before .store-places .ensures))
+returns-2 c =
+    let args = c .before .before .before .before .before .before .before .before .args in
+    let if1 = c .before .before .before .before .before .if1 in
+    let day-start = c .before .before .before .before .day-start in
+    has-room (windowsIn (args .windows)) (args .plan .now) _ (if1 .left)
+    (rw (day-start .ensures) at (c .before .before .store-places .ensures))
 
 pub untested-schedule-spec : {M : Type 1} → statement M
 untested-schedule-spec =

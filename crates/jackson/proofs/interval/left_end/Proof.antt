@@ -21,7 +21,9 @@ loop-holds : tie.Need-loop-holds Inv-loop μ-loop
 loop-holds c = search-start (c .pre)
 
 larger-left-requires : tie.Need-larger-left-requires Inv-loop μ-loop
-larger-left-requires c κs = (c .before .loop .inv .held, (c .loop-test .taken, search-in (larger-ranks (λ (j : ℕ). getD (c .before .before .args .r .now) j 0)) (c .before .loop .inv)))
+larger-left-requires c κs =
+    let loop = c .before .loop in
+    (loop .inv .held, (c .loop-test .taken, search-in (larger-ranks (λ (j : ℕ). getD (c .before .before .args .r .now) j 0)) (loop .inv)))
 
 add-i : tie.Need-add-i Inv-loop μ-loop
 add-i c = search needs

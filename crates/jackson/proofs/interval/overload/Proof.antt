@@ -15,7 +15,10 @@ enum-told-2 : tie.Need-enum-told-2
 enum-told-2 c = search needs
 
 returns : tie.Need-returns
-returns c = not-tested (c .before .before .before .args .list) (c .before .before .check .result) (c .before .before .check .ensures) _ (c .enum-told2 .given .1)
+returns c =
+    let args = c .before .before .before .args in
+    let check = c .before .before .check in
+    not-tested (args .list) (check .result) (check .ensures) _ (c .enum-told2 .given .1)
 
 untested-windows-requires : tie.Need-untested-windows-requires
 untested-windows-requires c κs = search needs
@@ -24,7 +27,12 @@ untested-overload-requires : tie.Need-untested-overload-requires
 untested-overload-requires c κs = search needs
 
 returns-2 : tie.Need-returns-2
-returns-2 c = tested (c .before .before .before .before .before .args .list) (c .before .before .before .before .check .result) (c .before .before .before .before .check .ensures) (c .untested-overload .result) (c .before .untested-windows .result) (c .before .before .enum-told .given .1) (c .before .untested-windows .ensures) (c .untested-overload .ensures)
+returns-2 c =
+    let args = c .before .before .before .before .before .args in
+    let check = c .before .before .before .before .check in
+    let untested-windows = c .before .untested-windows in
+    tested (args .list) (check .result) (check .ensures) (c .untested-overload .result) (untested-windows .result)
+    (c .before .before .enum-told .given .1) (untested-windows .ensures) (c .untested-overload .ensures)
 
 pub overload-spec : {M : Type 1} → statement M
 overload-spec =

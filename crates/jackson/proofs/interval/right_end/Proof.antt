@@ -21,7 +21,9 @@ loop-holds : tie.Need-loop-holds Inv-loop μ-loop
 loop-holds c = search-start (c .pre)
 
 smaller-right-requires : tie.Need-smaller-right-requires Inv-loop μ-loop
-smaller-right-requires c κs = (c .before .loop .inv .held, (c .loop-test .taken, search-in (smaller-ranks (λ (j : ℕ). getD (c .before .before .args .d .now) j 0)) (c .before .loop .inv)))
+smaller-right-requires c κs =
+    let loop = c .before .loop in
+    (loop .inv .held, (c .loop-test .taken, search-in (smaller-ranks (λ (j : ℕ). getD (c .before .before .args .d .now) j 0)) (loop .inv)))
 
 add-i : tie.Need-add-i Inv-loop μ-loop
 add-i c = search needs

@@ -19,7 +19,10 @@ element-copy-out-if2-2 : tie.Need-element-copy-out-if2-2
 element-copy-out-if2-2 c = search needs
 
 returns : tie.Need-returns
-returns c = right-stays (c .before .before .before .before .args .count) (c .before .before .before .before .args .r .now) (c .before .before .before .before .args .d .now) (c .before .before .before .before .args .p .now) (c .before .before .before .before .args .i) (c .before .before .before .before .args .k) (c .before .before .before .if1 .taken) (c .if2 .taken)
+returns c =
+    let args = c .before .before .before .before .args in
+    let if1 = c .before .before .before .if1 in
+    right-stays (args .count) (args .r .now) (args .d .now) (args .p .now) (args .i) (args .k) (if1 .taken) (c .if2 .taken)
 
 mul-left-end : tie.Need-mul-left-end
 mul-left-end c = search needs
@@ -31,12 +34,22 @@ left-end-requires : tie.Need-left-end-requires
 left-end-requires c κs = search needs
 
 returns-2 : tie.Need-returns-2
-returns-2 c = ⊎-elim (λ w. right-smaller (c .before .before .before .before .args .count) (c .before .before .before .before .args .r .now) (c .before .before .before .before .args .d .now) (c .before .before .before .before .args .p .now) (c .before .before .before .before .args .i) (c .before .before .before .before .args .k) _ (c .before .left-end .ensures) (c .if3 .taken) (w .0 .taken) (w .3 .left))
-    (λ w. right-first (c .before .before .before .before .args .count) (c .before .before .before .before .args .r .now) (c .before .before .before .before .args .d .now) (c .before .before .before .before .args .p .now) (c .before .before .before .before .args .i) (c .before .before .before .before .args .k) _ (c .before .left-end .ensures) (c .if3 .taken) (c .before .before .before .before .pre .1 .1) (w .left))
-    (c .before .before .before .if1 .came)
+returns-2 c =
+    let pre = c .before .before .before .before .pre in
+    let args = c .before .before .before .before .args in
+    let if1 = c .before .before .before .if1 in
+    let left-end = c .before .left-end in
+    ⊎-elim (λ w. right-smaller (args .count) (args .r .now) (args .d .now) (args .p .now) (args .i) (args .k) _ (left-end .ensures)
+    (c .if3 .taken) (w .0 .taken) (w .3 .left))
+    (λ w. right-first (args .count) (args .r .now) (args .d .now) (args .p .now) (args .i) (args .k) _ (left-end .ensures) (c .if3 .taken)
+    (pre .1 .1) (w .left))
+    (if1 .came)
 
 returns-3 : tie.Need-returns-3
-returns-3 c = right-unfit (c .before .before .before .before .args .count) (c .before .before .before .before .args .r .now) (c .before .before .before .before .args .d .now) (c .before .before .before .before .args .p .now) (c .before .before .before .before .args .i) (c .before .before .before .before .args .k) _ (c .before .left-end .ensures) (c .if3 .left)
+returns-3 c =
+    let args = c .before .before .before .before .args in
+    right-unfit (args .count) (args .r .now) (args .d .now) (args .p .now) (args .i) (args .k) _ (c .before .left-end .ensures)
+    (c .if3 .left)
 
 pub smaller-right-spec : {M : Type 1} → statement M
 smaller-right-spec =

@@ -1,9 +1,20 @@
 -- The interval shown is the definition's.
 -- Assumes nothing.
 use borrow.Author.Needs.{needs}
+use Prim.Native.Nat.{_<_}
 use Rattle.jackson.proofs.IntervalCases.{none-overloaded, left-in, overload-shown}
 use Rattle.jackson.proofs.interval.untested_overload.Statement.{statement}
 use Rattle.jackson.proofs.interval.untested_overload.Tie as tie
+
+-- the left end found is one of the places
+left-below : (c : tie.After-left-end)
+    → c .left-end .result < c .before .before .before .before .before .before .before .before .before .before .before .before .places-held .result
+left-below c =
+    let args = c .before .before .before .before .before .before .before .before .before .before .before .before .before .args in
+    let places-held = c .before .before .before .before .before .before .before .before .before .before .before .before .places-held in
+    let right-end = c .before .before .before .before .before .right-end in
+    let if1 = c .before .before .before .before .if1 in
+    rw (c .left-end .ensures) (left-in (args .windows) _ (places-held .ensures) _ (right-end .ensures) (if1 .left))
 
 places-held-requires : tie.Need-places-held-requires
 places-held-requires c κs = search needs
@@ -12,7 +23,11 @@ right-end-requires : tie.Need-right-end-requires
 right-end-requires c κs = search needs
 
 returns : tie.Need-returns
-returns c = none-overloaded (c .before .before .before .before .before .before .before .before .before .args .windows) (c .before .before .before .before .before .before .before .before .places-held .result) (c .before .before .before .before .before .before .before .before .places-held .ensures) (c .before .right-end .result) (c .before .right-end .ensures) (c .if1 .taken)
+returns c =
+    let args = c .before .before .before .before .before .before .before .before .before .args in
+    let places-held = c .before .before .before .before .before .before .before .before .places-held in
+    let right-end = c .before .right-end in
+    none-overloaded (args .windows) (places-held .result) (places-held .ensures) (right-end .result) (right-end .ensures) (c .if1 .taken)
 
 mul-b : tie.Need-mul-b
 mul-b c = search needs
@@ -24,16 +39,25 @@ left-end-requires : tie.Need-left-end-requires
 left-end-requires c κs = search needs
 
 mul-a : tie.Need-mul-a
-mul-a c = let below = left-in (c .before .before .before .before .before .before .before .before .before .before .before .before .before .args .windows) (c .before .before .before .before .before .before .before .before .before .before .before .before .places-held .result) (c .before .before .before .before .before .before .before .before .before .before .before .before .places-held .ensures) (c .before .before .before .before .before .right-end .result) (c .before .before .before .before .before .right-end .ensures) (c .before .before .before .before .if1 .left) in search (needs, below)
+mul-a c = let below = left-below c in search (needs, below)
 
 array-read-a : tie.Need-array-read-a
-array-read-a c = let below = left-in (c .before .before .before .before .before .before .before .before .before .before .before .before .before .args .windows) (c .before .before .before .before .before .before .before .before .before .before .before .before .places-held .result) (c .before .before .before .before .before .before .before .before .before .before .before .before .places-held .ensures) (c .before .before .before .before .before .right-end .result) (c .before .before .before .before .before .right-end .ensures) (c .before .before .before .before .if1 .left) in search (needs, below)
+array-read-a c = let below = left-below c in search (needs, below)
 
 work-in-requires : tie.Need-work-in-requires
 work-in-requires c κs = search needs
 
 returns-2 : tie.Need-returns-2
-returns-2 c = overload-shown (c .before .before .before .before .before .before .before .before .before .before .before .before .before .before .before .before .before .args .windows) (c .before .before .before .before .before .before .before .before .before .before .before .before .before .before .before .before .places-held .result) (c .before .before .before .before .before .before .before .before .before .before .before .before .before .before .before .before .places-held .ensures) (c .before .before .before .before .before .before .before .before .before .right-end .result) (c .before .before .before .before .before .before .before .before .before .right-end .ensures) (c .before .before .before .before .left-end .result) (c .work-in .result) (c .before .before .before .before .before .before .before .before .if1 .left) (c .before .before .before .before .left-end .ensures) (c .work-in .ensures)
+returns-2 c =
+    let args =
+    c .before .before .before .before .before .before .before .before .before .before .before .before .before .before .before .before .before .args in
+    let places-held =
+    c .before .before .before .before .before .before .before .before .before .before .before .before .before .before .before .before .places-held in
+    let right-end = c .before .before .before .before .before .before .before .before .before .right-end in
+    let if1 = c .before .before .before .before .before .before .before .before .if1 in
+    let left-end = c .before .before .before .before .left-end in
+    overload-shown (args .windows) (places-held .result) (places-held .ensures) (right-end .result) (right-end .ensures) (left-end .result)
+    (c .work-in .result) (if1 .left) (left-end .ensures) (c .work-in .ensures)
 
 pub untested-overload-spec : {M : Type 1} → statement M
 untested-overload-spec =

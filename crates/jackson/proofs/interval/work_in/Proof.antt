@@ -53,7 +53,10 @@ loop-less : tie.Need-loop-less Inv-loop μ-loop
 loop-less c = search needs
 
 loop-again : tie.Need-loop-again Inv-loop μ-loop
-loop-again c = sum-next _ _ _ _ _ (c .before .before .before .before .before .loop .inv) (c .before .before .before .before .loop-test .taken) (c .share .ensures) (c .share .ok)
+loop-again c =
+    let loop = c .before .before .before .before .before .loop in
+    let loop-test = c .before .before .before .before .loop-test in
+    sum-next _ _ _ _ _ (loop .inv) (loop-test .taken) (c .share .ensures) (c .share .ok)
 
 returns : tie.Need-returns Inv-loop μ-loop
 unfolding work

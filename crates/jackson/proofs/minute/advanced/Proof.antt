@@ -29,8 +29,11 @@ add-t15 : tie.Need-add-t15
 add-t15 c = search needs
 
 returns : tie.Need-returns
-returns c = ⊎-elim (λ w. rw (w .3) (after-place (c .before .before .before .args .day) (c .before .before .before .args .k) _ (w .2 .ensures)))
-    (λ w. rw (w .1) (after-none (c .before .before .before .args .day) (c .before .before .before .args .k) (let long : length (c .before .before .before .args .day .windows .p) ≡ 64 = search (needs, length-mapped) in omega (arith, long, w .0 .left))))
+returns c =
+    let args = c .before .before .before .args in
+    ⊎-elim (λ w. rw (w .3) (after-place (args .day) (args .k) _ (w .2 .ensures)))
+    (λ w. rw (w .1) (after-none (args .day) (args .k)
+    (let long : length (args .day .windows .p) ≡ 64 = search (needs, length-mapped) in omega (arith, long, w .0 .left))))
     (c .before .if1 .came)
 
 pub advanced-spec : {M : Type 1} → statement M

@@ -7,14 +7,14 @@ use lib.ListN.{getD}
 use Rattle.jackson.specs.Counting.{smaller}
 use Rattle.jackson.specs.Plans.{idle}
 use Rattle.jackson.specs.Minutes.{isReady}
-use Rattle.jackson.specs.Steps.{arrived}
+use Rattle.jackson.specs.Steps.{stateAt}
 use Rattle.jackson.proofs.Scans.{smaller-ranks}
 use Rattle.jackson.proofs.ScanSteps.{Searched, search-start, search-next, search-done, search-found}
 use Rattle.jackson.proofs.minute.earliest_deadline.Statement.{statement}
 use Rattle.jackson.proofs.minute.earliest_deadline.Tie as tie
 
 abbrev Inv-loop : tie.InvT-loop
-Inv-loop count t r d left k₀ i₀ k i = Searched idle (isReady (arrived count t r d left)) (smaller (λ (j : ℕ). getD d j 0)) count k i
+Inv-loop count t r d left k₀ i₀ k i = Searched idle (isReady (stateAt count t r d left)) (smaller (λ (j : ℕ). getD d j 0)) count k i
 
 abbrev μ-loop : tie.MeasureT-loop
 μ-loop count t r d left k₀ i₀ k i = count - i
@@ -23,7 +23,16 @@ loop-holds : tie.Need-loop-holds Inv-loop μ-loop
 loop-holds c = search-start (c .pre)
 
 sooner-requires : tie.Need-sooner-requires Inv-loop μ-loop
-sooner-requires c κs = (search needs, λ h. omega (arith, c .before .loop .inv .held, search-found (smaller-ranks (λ (j : ℕ). getD (c .before .before .args .d .now) j 0)) (omega (arith, c .before .loop .inv .held)) (c .before .loop .inv) h))
+sooner-requires c κs =
+    let loop = c .before .loop in (
+      search needs,
+      λ h. omega (
+        arith,
+        loop .inv .held,
+        search-found (smaller-ranks (λ (j : ℕ). getD (c .before .before .args .d .now) j 0))
+            (omega (arith, loop .inv .held)) (loop .inv) h,
+      ),
+    )
 
 add-i : tie.Need-add-i Inv-loop μ-loop
 add-i c = search needs

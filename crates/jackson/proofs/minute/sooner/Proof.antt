@@ -21,13 +21,21 @@ is-ready-requires : tie.Need-is-ready-requires
 is-ready-requires c κs = search needs
 
 returns : tie.Need-returns
-returns c = not-ready (c .before .before .before .before .args .i) (c .before .before .before .before .args .k) (c .before .before .before .before .args .t) (c .before .before .before .before .args .r .now) (c .before .before .before .before .args .d .now) (c .before .before .before .before .args .left .now) (c .before .is-ready .result) (c .before .is-ready .ensures) (c .if1 .taken)
+returns c =
+    let args = c .before .before .before .before .args in
+    let is-ready = c .before .is-ready in
+    not-ready (args .i) (args .k) (args .t) (args .r .now) (args .d .now) (args .left .now) (is-ready .result) (is-ready .ensures)
+    (c .if1 .taken)
 
 cast-result : tie.Need-cast-result
 cast-result c = search needs
 
 returns-2 : tie.Need-returns-2
-returns-2 c = first-ready (c .before .before .before .before .before .args .i) (c .before .before .before .before .before .args .k) (c .before .before .before .before .before .args .t) (c .before .before .before .before .before .args .r .now) (c .before .before .before .before .before .args .d .now) (c .before .before .before .before .before .args .left .now) (c .before .before .is-ready .result) (c .before .before .is-ready .ensures) (c .before .if1 .left) (c .if2 .taken)
+returns-2 c =
+    let args = c .before .before .before .before .before .args in
+    let is-ready = c .before .before .is-ready in
+    first-ready (args .i) (args .k) (args .t) (args .r .now) (args .d .now) (args .left .now) (is-ready .result) (is-ready .ensures)
+    (c .before .if1 .left) (c .if2 .taken)
 
 mul-if3 : tie.Need-mul-if3
 mul-if3 c = search needs
@@ -45,10 +53,21 @@ cast-result-2 : tie.Need-cast-result-2
 cast-result-2 c = search needs
 
 returns-3 : tie.Need-returns-3
-returns-3 c = smaller-deadline (c .before .before .before .before .before .before .before .before .args .i) (c .before .before .before .before .before .before .before .before .args .k) (c .before .before .before .before .before .before .before .before .args .t) (c .before .before .before .before .before .before .before .before .args .r .now) (c .before .before .before .before .before .before .before .before .args .d .now) (c .before .before .before .before .before .before .before .before .args .left .now) (c .before .before .before .before .before .is-ready .result) (c .before .before .before .before .before .is-ready .ensures) (c .before .before .before .before .if1 .left) (c .before .before .before .if2 .left) (c .if3 .taken)
+returns-3 c =
+    let args = c .before .before .before .before .before .before .before .before .args in
+    let is-ready = c .before .before .before .before .before .is-ready in
+    let if1 = c .before .before .before .before .if1 in
+    let if2 = c .before .before .before .if2 in
+    smaller-deadline (args .i) (args .k) (args .t) (args .r .now) (args .d .now) (args .left .now) (is-ready .result) (is-ready .ensures)
+    (if1 .left) (if2 .left) (c .if3 .taken)
 
 returns-4 : tie.Need-returns-4
-returns-4 c = no-smaller (c .before .before .before .before .before .before .before .before .args .i) (c .before .before .before .before .before .before .before .before .args .k) (c .before .before .before .before .before .before .before .before .args .t) (c .before .before .before .before .before .before .before .before .args .r .now) (c .before .before .before .before .before .before .before .before .args .d .now) (c .before .before .before .before .before .before .before .before .args .left .now) (c .before .before .before .before .before .is-ready .result) (c .before .before .before .before .before .is-ready .ensures) (c .before .before .before .if2 .left) (c .if3 .left)
+returns-4 c =
+    let args = c .before .before .before .before .before .before .before .before .args in
+    let is-ready = c .before .before .before .before .before .is-ready in
+    let if2 = c .before .before .before .if2 in
+    no-smaller (args .i) (args .k) (args .t) (args .r .now) (args .d .now) (args .left .now) (is-ready .result) (is-ready .ensures)
+    (if2 .left) (c .if3 .left)
 
 pub sooner-spec : {M : Type 1} → statement M
 sooner-spec =

@@ -1,4 +1,4 @@
--- Both sides are turned.
+-- Both sides are mirrored.
 -- Assumes nothing.
 use borrow.Author.Needs.{needs}
 use Rattle.jackson.proofs.MirrorCases.{mirror-held}
@@ -15,7 +15,12 @@ mirrored-side-requires-2 : tie.Need-mirrored-side-requires-2
 mirrored-side-requires-2 c κs = search needs
 
 returns : tie.Need-returns
-returns c = mirror-held (c .before .before .before .before .before .before .before .before .args .windows) _ (c .before .before .before .before .before .before .before .places-held .ensures) (c .before .before .mirrored-side .result) (c .mirrored-side2 .result) (c .before .before .mirrored-side .ensures) (c .mirrored-side2 .ensures)
+returns c =
+    let args = c .before .before .before .before .before .before .before .before .args in
+    let places-held = c .before .before .before .before .before .before .before .places-held in
+    let mirrored-side = c .before .before .mirrored-side in
+    mirror-held (args .windows) _ (places-held .ensures) (mirrored-side .result) (c .mirrored-side2 .result) (mirrored-side .ensures)
+    (c .mirrored-side2 .ensures)
 
 pub mirrored-spec : {M : Type 1} → statement M
 mirrored-spec = tie.close (tie.spec places-held-requires mirrored-side-requires mirrored-side-requires-2 returns)

@@ -1,4 +1,4 @@
--- The loop's invariant is `MirroredSoFar`, the measure what is left of the entries.
+-- A side is mirrored entry by entry. The loop's invariant is `MirroredSoFar`, the measure what is left of the entries.
 -- Assumes nothing.
 use borrow.Author.Needs.{needs}
 use Prim.Native.Nat.{_-_}
@@ -37,7 +37,9 @@ loop-less : tie.Need-loop-less Inv-loop μ-loop
 loop-less c = search needs
 
 loop-again : tie.Need-loop-again Inv-loop μ-loop
-loop-again c = side-next _ _ _ _ _ _ _ (c .before .before .before .loop .inv) (c .before .before .loop-test .taken) (c .minutes-after .ensures)
+loop-again c =
+    let loop = c .before .before .before .loop in
+    side-next _ _ _ _ _ _ _ (loop .inv) (c .before .before .loop-test .taken) (c .minutes-after .ensures)
 
 returns : tie.Need-returns Inv-loop μ-loop
 returns c = side-done _ _ _ _ _ _ (c .before .loop .inv) (c .loop-test .left)

@@ -29,7 +29,10 @@ zeros-requires-3 : tie.Need-zeros-requires-3 Inv-loop μ-loop
 zeros-requires-3 c κs = search needs
 
 loop-holds : tie.Need-loop-holds Inv-loop μ-loop
-loop-holds c = rw (c .zeros3 .ensures, c .before .zeros2 .ensures, c .before .before .zeros .ensures) (copy-start _ _ (omega (arith, c .before .before .before .places-held .ensures)))
+loop-holds c =
+    let places-held = c .before .before .before .places-held in
+    rw (c .zeros3 .ensures, c .before .zeros2 .ensures, c .before .before .zeros .ensures)
+    (copy-start _ _ (omega (arith, places-held .ensures)))
 
 mul-r : tie.Need-mul-r Inv-loop μ-loop
 mul-r c = search needs
@@ -77,8 +80,11 @@ loop-again : tie.Need-loop-again Inv-loop μ-loop
 loop-again c = copy-next _ _ _ _ _ _ (c .before .loop .inv) (c .loop-test .taken)
 
 returns : tie.Need-returns Inv-loop μ-loop
-returns c = let long : length (c .before .before .before .before .before .before .args .t1 .entries) ≡ 64 = search (needs, length-mapped) in
-    copy-done (c .before .before .before .before .before .before .args .t1) long _ _ _ _ _ (c .before .before .before .before .before .places-held .ensures) (c .before .loop .inv) (c .loop-test .left)
+returns c =
+    let args = c .before .before .before .before .before .before .args in
+    let places-held = c .before .before .before .before .before .places-held in
+    let long : length (args .t1 .entries) ≡ 64 = search (needs, length-mapped) in
+    copy-done (args .t1) long _ _ _ _ _ (places-held .ensures) (c .before .loop .inv) (c .loop-test .left)
 
 pub untested-windows-spec : {M : Type 1} → statement M
 untested-windows-spec =

@@ -1,10 +1,10 @@
 -- `bytes::u16_at` meets its contract: each element of a byte slice is below 256.
 -- Assumes nothing.
 use borrow.Author.Needs.{needs}
+use Prim.Native.Nat.{_+_}
 use native.Mathlib.Omega.{arith}
 use Rattle.list.proofs.bytes.u16_at.Statement.{statement}
 use Rattle.list.proofs.bytes.u16_at.Tie as tie
-use Prim.Native.Nat.{_+_}
 
 shared-slice-read-result : tie.Need-shared-slice-read-result
 shared-slice-read-result c = search needs

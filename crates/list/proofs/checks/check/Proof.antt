@@ -1,8 +1,7 @@
 -- `checks::check` meets its contract. The loop's invariant: the entries passed are sound, so those left decide. The measure is
 -- what is left of n.
 -- Assumes nothing.
-use borrow.Author.Needs.{needs}
-use borrow.Author.Needs.{zero≤}
+use borrow.Author.Needs.{needs, zero≤}
 use mathlib.Core.Path.{_≡_, sym, _∙_}
 use Prim.Native.Nat.{_≤_, _-_}
 use native.Mathlib.Omega.{arith}
@@ -33,18 +32,22 @@ enum-told-2 : tie.Need-enum-told-2 Inv-loop μ-loop
 enum-told-2 c = search needs
 
 returns : tie.Need-returns Inv-loop μ-loop
-returns c = check-header (c .before .before .before .before .args .t1) _ _ (c .before .before .header-fault .ensures) (c .enum-told2 .given .1)
+returns c =
+    let list = c .before .before .before .before .args .t1 in
+    check-header list _ _ (c .before .before .header-fault .ensures) (c .enum-told2 .given .1)
 
 cast-count : tie.Need-cast-count Inv-loop μ-loop
 cast-count c = search needs
 
 loop-holds : tie.Need-loop-holds Inv-loop μ-loop
 loop-holds c =
-    let v = c .before .before .header-fault .result in
-    let w = c .before .before .header-fault .ensures in
+    let list = c .before .before .before .before .args .t1 in
+    let header-fault = c .before .before .header-fault in
+    let v = header-fault .result in
+    let w = header-fault .ensures in
     let a : v ≡ Accepted = c .enum-told .given .1 in
-    let e : headerFault 0 ((c .before .before .before .before .args .t1) .frame) ((c .before .before .before .before .args .t1) .n) ≡ answered tt = rw a at (sym w) in
-    (zero≤, header-of 0 ((c .before .before .before .before .args .t1) .frame) ((c .before .before .before .before .args .t1) .n) e .room, check-entries (c .before .before .before .before .args .t1) v w a)
+    let e : headerFault 0 (list .frame) (list .n) ≡ answered tt = rw a at (sym w) in
+    (zero≤, header-of 0 (list .frame) (list .n) e .room, check-entries list v w a)
 
 mul-entry-fault : tie.Need-mul-entry-fault Inv-loop μ-loop
 mul-entry-fault c = search needs
@@ -63,8 +66,13 @@ enum-told-4 c = search needs
 
 returns-2 : tie.Need-returns-2 Inv-loop μ-loop
 returns-2 c =
-    let len : length ((c .before .before .before .before .before .before .before .before .before .before .before .args .t1) .entries) ≡ 64 = search (needs, length-mapped) in
-    check-refused (c .before .before .before .before .before .before .before .before .before .before .before .args .t1) (omega (arith, len, c .before .before .before .before .before .before .loop .inv .1)) (c .before .before .before .before .before .before .loop .i) _ (c .before .before .entry-fault .result) (c .before .before .entry-fault .ensures) (c .before .before .before .before .before .loop-test .taken) _ (c .enum-told4 .given .1) ∙ sym (c .before .before .before .before .before .before .loop .inv .2)
+    let list = c .before .before .before .before .before .before .before .before .before .before .before .args .t1 in
+    let loop = c .before .before .before .before .before .before .loop in
+    let loop-test = c .before .before .before .before .before .loop-test in
+    let entry-fault = c .before .before .entry-fault in
+    let len : length (list .entries) ≡ 64 = search (needs, length-mapped) in
+    check-refused list (omega (arith, len, loop .inv .1)) (loop .i) _ (entry-fault .result) (entry-fault .ensures)
+    (loop-test .taken) _ (c .enum-told4 .given .1) ∙ sym (loop .inv .2)
 
 add-i : tie.Need-add-i Inv-loop μ-loop
 add-i c = search needs
@@ -74,16 +82,23 @@ loop-less c = search needs
 
 loop-again : tie.Need-loop-again Inv-loop μ-loop
 loop-again c =
-    let len : length ((c .before .before .before .before .before .before .before .before .before .before .before .args .t1) .entries) ≡ 64 = search (needs, length-mapped) in (
-      omega (arith, c .before .before .before .before .before .loop-test .taken),
-      c .before .before .before .before .before .before .loop .inv .1,
-      c .before .before .before .before .before .before .loop .inv .2 ∙ check-next (c .before .before .before .before .before .before .before .before .before .before .before .args .t1) (omega (arith, len, c .before .before .before .before .before .before .loop .inv .1)) (c .before .before .before .before .before .before .loop .i) _ (c .before .before .entry-fault .result) (c .before .before .entry-fault .ensures) (c .before .before .before .before .before .loop-test .taken) (c .enum-told3 .given .1),
+    let list = c .before .before .before .before .before .before .before .before .before .before .before .args .t1 in
+    let loop = c .before .before .before .before .before .before .loop in
+    let loop-test = c .before .before .before .before .before .loop-test in
+    let entry-fault = c .before .before .entry-fault in
+    let len : length (list .entries) ≡ 64 = search (needs, length-mapped) in (
+      omega (arith, loop-test .taken),
+      loop .inv .1,
+      loop .inv .2 ∙ check-next list (omega (arith, len, loop .inv .1)) (loop .i) _ (entry-fault .result) (entry-fault .ensures)
+          (loop-test .taken) (c .enum-told3 .given .1),
     )
 
 returns-3 : tie.Need-returns-3 Inv-loop μ-loop
 returns-3 c =
-    let len : length ((c .before .before .before .before .before .before .args .t1) .entries) ≡ 64 = search (needs, length-mapped) in
-    sym (c .before .loop .inv .2 ∙ check-done (c .before .before .before .before .before .before .args .t1) (omega (arith, len, c .before .loop .inv .1)) (c .before .loop .i) (c .loop-test .left))
+    let list = c .before .before .before .before .before .before .args .t1 in
+    let loop = c .before .loop in
+    let len : length (list .entries) ≡ 64 = search (needs, length-mapped) in
+    sym (loop .inv .2 ∙ check-done list (omega (arith, len, loop .inv .1)) (loop .i) (c .loop-test .left))
 
 pub check-spec : {M : Type 1} → statement M
 check-spec =

@@ -12,7 +12,10 @@ returns : tie.Need-returns
 returns c = no-minutes (c .before .before .args .frame) (c .before .before .args .place) (c .before .before .args .e) (c .if1 .taken)
 
 returns-2 : tie.Need-returns-2
-returns-2 c = past-day (c .before .before .before .before .before .args .frame) (c .before .before .before .before .before .args .place) (c .before .before .before .before .before .args .e) (c .before .before .before .if1 .left) (c .if2 .taken)
+returns-2 c =
+    let args = c .before .before .before .before .before .args in
+    let if1 = c .before .before .before .if1 in
+    past-day (args .frame) (args .place) (args .e) (if1 .left) (c .if2 .taken)
 
 cast-if3 : tie.Need-cast-if3
 cast-if3 c = search needs
@@ -27,10 +30,19 @@ add-if3 : tie.Need-add-if3
 add-if3 c = search needs
 
 returns-3 : tie.Need-returns-3
-returns-3 c = too-short (c .before .before .before .before .before .before .before .before .before .args .frame) (c .before .before .before .before .before .before .before .before .before .args .place) (c .before .before .before .before .before .before .before .before .before .args .e) (c .before .before .before .before .before .before .before .if1 .left) (c .before .before .before .before .if2 .left) (c .if3 .taken)
+returns-3 c =
+    let args = c .before .before .before .before .before .before .before .before .before .args in
+    let if1 = c .before .before .before .before .before .before .before .if1 in
+    let if2 = c .before .before .before .before .if2 in
+    too-short (args .frame) (args .place) (args .e) (if1 .left) (if2 .left) (c .if3 .taken)
 
 returns-4 : tie.Need-returns-4
-returns-4 c = sym (faultless (c .before .before .before .before .before .before .before .before .before .args .frame) (c .before .before .before .before .before .before .before .before .before .args .place) (c .before .before .before .before .before .before .before .before .before .args .e) (record { some-minutes = omega (arith, c .before .before .before .before .before .before .before .if1 .left); in-day = c .before .before .before .before .if2 .left; room = c .if3 .left }))
+returns-4 c =
+    let args = c .before .before .before .before .before .before .before .before .before .args in
+    let if1 = c .before .before .before .before .before .before .before .if1 in
+    let if2 = c .before .before .before .before .if2 in
+    sym (faultless (args .frame) (args .place) (args .e)
+    (record { some-minutes = omega (arith, if1 .left); in-day = if2 .left; room = c .if3 .left }))
 
 pub entry-fault-spec : {M : Type 1} → statement M
 entry-fault-spec =

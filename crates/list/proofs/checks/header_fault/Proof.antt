@@ -11,13 +11,20 @@ returns : tie.Need-returns
 returns c = no-day (c .before .args .place) (c .before .args .frame) (c .before .args .n) (c .if1 .taken)
 
 returns-2 : tie.Need-returns-2
-returns-2 c = long-day (c .before .before .args .place) (c .before .before .args .frame) (c .before .before .args .n) (c .before .if1 .left) (c .if2 .taken)
+returns-2 c =
+    let args = c .before .before .args in
+    long-day (args .place) (args .frame) (args .n) (c .before .if1 .left) (c .if2 .taken)
 
 returns-3 : tie.Need-returns-3
-returns-3 c = too-many (c .before .before .before .args .place) (c .before .before .before .args .frame) (c .before .before .before .args .n) (c .before .before .if1 .left) (c .before .if2 .left) (c .if3 .taken)
+returns-3 c =
+    let args = c .before .before .before .args in
+    too-many (args .place) (args .frame) (args .n) (c .before .before .if1 .left) (c .before .if2 .left) (c .if3 .taken)
 
 returns-4 : tie.Need-returns-4
-returns-4 c = sym (header-passes (c .before .before .before .args .place) (c .before .before .before .args .frame) (c .before .before .before .args .n) (record { some-minutes = omega (arith, c .before .before .if1 .left); one-day = c .before .if2 .left; room = c .if3 .left }))
+returns-4 c =
+    let args = c .before .before .before .args in
+    sym (header-passes (args .place) (args .frame) (args .n)
+    (record { some-minutes = omega (arith, c .before .before .if1 .left); one-day = c .before .if2 .left; room = c .if3 .left }))
 
 pub header-fault-spec : {M : Type 1} → statement M
 header-fault-spec = tie.close (tie.spec returns returns-2 returns-3 returns-4)

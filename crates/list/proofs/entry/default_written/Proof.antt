@@ -12,7 +12,10 @@ at-default-requires : tie.Need-at-default-requires
 at-default-requires c κs = search needs
 
 returns : tie.Need-returns
-returns c = default-r-written (c .before .before .before .args .frame) (c .before .before .before .args .m) (c .before .before .before .args .e) _ _ (c .before .before .default-r .ensures) (c .before .at-default .ensures) (c .if1 .taken)
+returns c =
+    let args = c .before .before .before .args in
+    default-r-written (args .frame) (args .m) (args .e) _ _ (c .before .before .default-r .ensures) (c .before .at-default .ensures)
+    (c .if1 .taken)
 
 default-d-requires : tie.Need-default-d-requires
 default-d-requires c κs = search needs
@@ -21,7 +24,12 @@ at-default-requires-2 : tie.Need-at-default-requires-2
 at-default-requires-2 c κs = search needs
 
 returns-2 : tie.Need-returns-2
-returns-2 c = default-d-decides (c .before .before .before .before .before .args .frame) (c .before .before .before .before .before .args .m) (c .before .before .before .before .before .args .e) _ _ (c .before .before .before .before .default-r .ensures) (c .before .before .before .at-default .ensures) (c .before .before .if1 .left) _ _ (c .before .default-d .ensures) (c .at-default2 .ensures)
+returns-2 c =
+    let args = c .before .before .before .before .before .args in
+    let default-r = c .before .before .before .before .default-r in
+    let at-default = c .before .before .before .at-default in
+    default-d-decides (args .frame) (args .m) (args .e) _ _ (default-r .ensures) (at-default .ensures) (c .before .before .if1 .left) _ _
+    (c .before .default-d .ensures) (c .at-default2 .ensures)
 
 pub default-written-spec : {M : Type 1} → statement M
 default-written-spec =

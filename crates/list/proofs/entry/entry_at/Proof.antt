@@ -38,10 +38,18 @@ u16-at-requires c κs = search needs
 
 returns : tie.Need-returns
 returns c =
-    entry-is (c .before .before .before .before .before .before .before .before .before .before .before .args .frame) (c .before .before .before .before .before .before .before .before .before .before .before .args .m) (now (c .before .before .before .before .before .before .before .before .before .before .before .args .rest)) _ _ _ _ _ _ _ _ _ _
-    (c .before .before .before .before .before .before .before .before .u32-at .ensures) (c .before .before .before .before .before .before .before .before .before .seal-at .ensures)
-    (c .before .before .before .before .before .minute-at .ensures) (c .before .before .before .before .before .before .before .r-place .ensures) (c .before .before .before .before .before .before .default-r .ensures)
-    (c .before .before .minute-at2 .ensures) (c .before .before .before .before .d-place .ensures) (c .before .before .before .default-d .ensures)
+    let args = c .before .before .before .before .before .before .before .before .before .before .before .args in
+    let seal-at = c .before .before .before .before .before .before .before .before .before .seal-at in
+    let u32-at = c .before .before .before .before .before .before .before .before .u32-at in
+    let r-place = c .before .before .before .before .before .before .before .r-place in
+    let default-r = c .before .before .before .before .before .before .default-r in
+    let minute-at = c .before .before .before .before .before .minute-at in
+    let d-place = c .before .before .before .before .d-place in
+    let default-d = c .before .before .before .default-d in
+    entry-is (args .frame) (args .m) (now (args .rest)) _ _ _ _ _ _ _ _ _ _
+    (u32-at .ensures) (seal-at .ensures)
+    (minute-at .ensures) (r-place .ensures) (default-r .ensures)
+    (c .before .before .minute-at2 .ensures) (d-place .ensures) (default-d .ensures)
     (c .u16-at .ensures) (c .before .p-place .ensures)
 
 pub entry-at-spec : {M : Type 1} → statement M

@@ -29,10 +29,19 @@ read-fields-requires : tie.Need-read-fields-requires
 read-fields-requires c κs = search needs
 
 returns-2 : tie.Need-returns-2
-returns-2 c = entry-broken (c .before .before .before .before .before .before .args .frame) (c .before .before .before .before .before .before .args .at) (now (c .before .before .before .before .before .before .args .rest)) (c .before .before .before .before .if1 .left) (c .before .before .map-answer .result) (c .before .before .map-answer .ensures) (c .enum-told .given .1)
+returns-2 c =
+    let args = c .before .before .before .before .before .before .args in
+    let if1 = c .before .before .before .before .if1 in
+    let map-answer = c .before .before .map-answer in
+    entry-broken (args .frame) (args .at) (now (args .rest)) (if1 .left) (map-answer .result) (map-answer .ensures) (c .enum-told .given .1)
 
 returns-3 : tie.Need-returns-3
-returns-3 c = c .read-fields .ensures ∙ entry-legal (c .before .before .before .before .before .before .before .before .args .frame) (c .before .before .before .before .before .before .before .before .args .at) (now (c .before .before .before .before .before .before .before .before .args .rest)) (c .before .before .before .before .before .before .if1 .left) (c .before .before .before .before .map-answer .result) (c .before .before .before .before .map-answer .ensures) _ (c .before .before .answer .given .1)
+returns-3 c =
+    let args = c .before .before .before .before .before .before .before .before .args in
+    let if1 = c .before .before .before .before .before .before .if1 in
+    let map-answer = c .before .before .before .before .map-answer in
+    c .read-fields .ensures ∙ entry-legal (args .frame) (args .at) (now (args .rest)) (if1 .left) (map-answer .result)
+    (map-answer .ensures) _ (c .before .before .answer .given .1)
 
 pub read-entry-spec : {M : Type 1} → statement M
 read-entry-spec =

@@ -15,7 +15,9 @@ add-t12 : tie.Need-add-t12
 add-t12 c = search needs
 
 returns : tie.Need-returns
-returns c = fields-short (c .before .before .before .args .frame) (c .before .before .before .args .at) (c .before .before .before .args .m) (now (c .before .before .before .args .rest)) (omega (arith, c .if1 .taken, c .before .size-of .ensures))
+returns c =
+    let args = c .before .before .before .args in
+    fields-short (args .frame) (args .at) (args .m) (now (args .rest)) (omega (arith, c .if1 .taken, c .before .size-of .ensures))
 
 entry-at-requires : tie.Need-entry-at-requires
 entry-at-requires c κs = search needs
@@ -24,7 +26,12 @@ default-written-requires : tie.Need-default-written-requires
 default-written-requires c κs = search needs
 
 returns-2 : tie.Need-returns-2
-returns-2 c = fields-default (c .before .before .before .before .before .before .args .frame) (c .before .before .before .before .before .before .args .at) (c .before .before .before .before .before .before .args .m) (now (c .before .before .before .before .before .before .args .rest)) _ (c .before .before .entry-at .ensures) (omega (arith, c .before .before .before .if1 .left, c .before .before .before .before .size-of .ensures)) (sym (c .before .default-written .ensures) ∙ c .if2 .taken)
+returns-2 c =
+    let args = c .before .before .before .before .before .before .args in
+    let size-of = c .before .before .before .before .size-of in
+    let if1 = c .before .before .before .if1 in
+    fields-default (args .frame) (args .at) (args .m) (now (args .rest)) _ (c .before .before .entry-at .ensures)
+    (omega (arith, if1 .left, size-of .ensures)) (sym (c .before .default-written .ensures) ∙ c .if2 .taken)
 
 entry-fault-requires : tie.Need-entry-fault-requires
 entry-fault-requires c κs = search needs
@@ -36,16 +43,32 @@ enum-known-fault : tie.Need-enum-known-fault
 enum-known-fault c = search needs
 
 returns-3 : tie.Need-returns-3
-returns-3 c = fields-taken (c .before .before .before .before .before .before .before .before .before .args .frame) (c .before .before .before .before .before .before .before .before .before .args .at) (c .before .before .before .before .before .before .before .before .before .args .m) (now (c .before .before .before .before .before .before .before .before .before .args .rest)) _ (c .before .before .entry-fault .result) (c .before .before .before .before .before .entry-at .ensures)
-    (omega (arith, c .before .before .before .before .before .before .if1 .left, c .before .before .before .before .before .before .before .size-of .ensures))
-    (sym (c .before .before .before .before .default-written .ensures) ∙ c .before .before .before .if2 .left)
-    (c .before .before .entry-fault .ensures) _ (c .before .before .before .before .before .before .before .size-of .ensures) (c .enum-told .given .1)
+returns-3 c =
+    let args = c .before .before .before .before .before .before .before .before .before .args in
+    let size-of = c .before .before .before .before .before .before .before .size-of in
+    let if1 = c .before .before .before .before .before .before .if1 in
+    let entry-at = c .before .before .before .before .before .entry-at in
+    let default-written = c .before .before .before .before .default-written in
+    let if2 = c .before .before .before .if2 in
+    let entry-fault = c .before .before .entry-fault in
+    fields-taken (args .frame) (args .at) (args .m) (now (args .rest)) _ (entry-fault .result) (entry-at .ensures)
+    (omega (arith, if1 .left, size-of .ensures))
+    (sym (default-written .ensures) ∙ if2 .left)
+    (entry-fault .ensures) _ (size-of .ensures) (c .enum-told .given .1)
 
 returns-4 : tie.Need-returns-4
-returns-4 c = fields-refused (c .before .before .before .before .before .before .before .before .before .before .args .frame) (c .before .before .before .before .before .before .before .before .before .before .args .at) (c .before .before .before .before .before .before .before .before .before .before .args .m) (now (c .before .before .before .before .before .before .before .before .before .before .args .rest)) _ (c .before .before .before .entry-fault .result) (c .before .before .before .before .before .before .entry-at .ensures)
-    (omega (arith, c .before .before .before .before .before .before .before .if1 .left, c .before .before .before .before .before .before .before .before .size-of .ensures))
-    (sym (c .before .before .before .before .before .default-written .ensures) ∙ c .before .before .before .before .if2 .left)
-    (c .before .before .before .entry-fault .ensures) _ (c .before .fault .given .1)
+returns-4 c =
+    let args = c .before .before .before .before .before .before .before .before .before .before .args in
+    let size-of = c .before .before .before .before .before .before .before .before .size-of in
+    let if1 = c .before .before .before .before .before .before .before .if1 in
+    let entry-at = c .before .before .before .before .before .before .entry-at in
+    let default-written = c .before .before .before .before .before .default-written in
+    let if2 = c .before .before .before .before .if2 in
+    let entry-fault = c .before .before .before .entry-fault in
+    fields-refused (args .frame) (args .at) (args .m) (now (args .rest)) _ (entry-fault .result) (entry-at .ensures)
+    (omega (arith, if1 .left, size-of .ensures))
+    (sym (default-written .ensures) ∙ if2 .left)
+    (entry-fault .ensures) _ (c .before .fault .given .1)
 
 pub read-fields-spec : {M : Type 1} → statement M
 read-fields-spec =

@@ -14,7 +14,10 @@ default-d-requires : tie.Need-default-d-requires
 default-d-requires c κs = search needs
 
 returns : tie.Need-returns
-returns c = rw (c .before .before .before .before .has-number .ensures, c .before .before .before .default-r .ensures, c .before .default-d .ensures)
+returns c =
+    let has-number = c .before .before .before .before .has-number in
+    let default-r = c .before .before .before .default-r in
+    rw (has-number .ensures, default-r .ensures, c .before .default-d .ensures)
 
 pub fields-in-spec : {M : Type 1} → statement M
 fields-in-spec =

@@ -2,14 +2,45 @@
 -- Assumes nothing.
 use borrow.Author.Needs.{needs}
 use native.Mathlib.Omega.{arith}
-use mathlib.Core.List.{_++_}
+use Prim.Native.Nat.{_+_, _≤_}
+use lib.ListN.{length, set}
 use Rattle.list.specs.Numbers.{u32Bytes}
 use Rattle.list.specs.Forms.{sealBytes, timesBytes, entryBytes}
 use Rattle.list.specs.Steps.{Wrote}
 use Rattle.list.proofs.Stores.{wrote-one, wrote-length, room-first, room-after}
-use Rattle.list.proofs.FormCases.{entry-length, entry-room, entry-stored}
+use Rattle.list.proofs.FormCases.{afterMap, afterSerial, entry-length, entry-room, entry-stored}
 use Rattle.list.proofs.form.put_entry.Statement.{statement}
 use Rattle.list.proofs.form.put_entry.Tie as tie
+
+-- room for what follows the map byte, and for what follows the serial
+map-room : (c : tie.After-map-of)
+    → let args = c .before .before .before .args in
+    (args .at + 1) + length (afterMap (c .before .fields-in .result) (args .e)) ≤ length (set (args .out .now) (args .at) (c .map-of .result))
+map-room c =
+    let start = c .before .before .before in
+    let args = start .args in
+    let fields-in = c .before .fields-in in
+    room-after (wrote-one (args .out .now) (args .at) (c .map-of .result)) (afterMap (fields-in .result) (args .e))
+    (entry-room (args .frame) (args .e) _ _ _ _ (fields-in .ensures) (c .map-of .ensures) (start .pre))
+
+serial-room : (c : tie.After-put-u32)
+    → let e = c .before .before .before .before .before .args .e in
+    c .put-u32 .result + length (afterSerial (c .before .before .before .fields-in .result) e) ≤ length (c .put-u32 .last .0)
+serial-room c =
+    let e = c .before .before .before .before .before .args .e in
+    room-after (c .put-u32 .ensures) (afterSerial (c .before .before .before .fields-in .result) e) (map-room (c .before .before))
+
+-- the entry's one form was stored
+stored : (c : tie.After-put-times)
+    → let args = c .before .before .before .before .before .before .before .before .before .before .before .before .before .args in
+    Wrote (args .out .now) (args .at) (entryBytes (args .frame) (args .e)) (c .put-times .last .0) (c .put-times .result)
+stored c =
+    let args = c .before .before .before .before .before .before .before .before .before .before .before .before .before .args in
+    let fields-in = c .before .before .before .before .before .before .before .before .before .before .before .fields-in in
+    let map-of = c .before .before .before .before .before .before .before .before .before .before .map-of in
+    let put-u32 = c .before .before .before .before .before .before .before .before .put-u32 in
+    let put-seal = c .before .before .before .before .put-seal in
+    entry-stored (args .frame) (args .e) (fields-in .ensures) (map-of .ensures) (put-u32 .ensures) (put-seal .ensures) (c .put-times .ensures)
 
 fields-in-requires : tie.Need-fields-in-requires
 fields-in-requires c κs = search needs
@@ -18,27 +49,37 @@ map-of-requires : tie.Need-map-of-requires
 map-of-requires c κs = search needs
 
 slice-write-out : tie.Need-slice-write-out
-slice-write-out c = omega (arith, c .before .before .before .pre, entry-length (c .before .before .before .args .frame) (c .before .before .before .args .e))
+slice-write-out c =
+    let pre = c .before .before .before .pre in
+    let args = c .before .before .before .args in
+    omega (arith, pre, entry-length (args .frame) (args .e))
 
 add-put-u32 : tie.Need-add-put-u32
 add-put-u32 c = search needs
 
 put-u32-requires : tie.Need-put-u32-requires
-put-u32-requires c κs = room-first (u32Bytes (c .before .before .before .before .args .e .serial)) ((sealBytes (c .before .before .before .before .args .e .seal)) ++ (timesBytes (c .before .before .fields-in .result) (c .before .before .before .before .args .e))) _ _ (room-after (wrote-one (c .before .before .before .before .args .out .now) (c .before .before .before .before .args .at) (c .before .map-of .result)) ((u32Bytes (c .before .before .before .before .args .e .serial)) ++ ((sealBytes (c .before .before .before .before .args .e .seal)) ++ (timesBytes (c .before .before .fields-in .result) (c .before .before .before .before .args .e)))) (entry-room (c .before .before .before .before .args .frame) (c .before .before .before .before .args .e) (c .before .before .fields-in .result) (c .before .map-of .result) _ _ (c .before .before .fields-in .ensures) (c .before .map-of .ensures) (c .before .before .before .before .pre)))
+put-u32-requires c κs =
+    let e = c .before .before .before .before .args .e in
+    room-first (u32Bytes (e .serial)) (afterSerial (c .before .before .fields-in .result) e) _ _ (map-room (c .before))
 
 put-seal-requires : tie.Need-put-seal-requires
-put-seal-requires c κs = room-first (sealBytes (c .before .before .before .before .before .before .before .before .args .e .seal)) (timesBytes (c .before .before .before .before .before .before .fields-in .result) (c .before .before .before .before .before .before .before .before .args .e)) _ _ (room-after (c .before .before .before .put-u32 .ensures) ((sealBytes (c .before .before .before .before .before .before .before .before .args .e .seal)) ++ (timesBytes (c .before .before .before .before .before .before .fields-in .result) (c .before .before .before .before .before .before .before .before .args .e))) (room-after (wrote-one (c .before .before .before .before .before .before .before .before .args .out .now) (c .before .before .before .before .before .before .before .before .args .at) (c .before .before .before .before .before .map-of .result)) ((u32Bytes (c .before .before .before .before .before .before .before .before .args .e .serial)) ++ ((sealBytes (c .before .before .before .before .before .before .before .before .args .e .seal)) ++ (timesBytes (c .before .before .before .before .before .before .fields-in .result) (c .before .before .before .before .before .before .before .before .args .e)))) (entry-room (c .before .before .before .before .before .before .before .before .args .frame) (c .before .before .before .before .before .before .before .before .args .e) (c .before .before .before .before .before .before .fields-in .result) (c .before .before .before .before .before .map-of .result) _ _ (c .before .before .before .before .before .before .fields-in .ensures) (c .before .before .before .before .before .map-of .ensures) (c .before .before .before .before .before .before .before .before .pre))))
+put-seal-requires c κs =
+    let e = c .before .before .before .before .before .before .before .before .args .e in
+    let m = c .before .before .before .before .before .before .fields-in .result in
+    room-first (sealBytes (e .seal)) (timesBytes m e) _ _ (serial-room (c .before .before .before))
 
 put-times-requires : tie.Need-put-times-requires
-put-times-requires c κs = room-after (c .before .before .before .put-seal .ensures) (timesBytes (c .before .before .before .before .before .before .before .before .before .before .fields-in .result) (c .before .before .before .before .before .before .before .before .before .before .before .before .args .e)) (room-after (c .before .before .before .before .before .before .before .put-u32 .ensures) ((sealBytes (c .before .before .before .before .before .before .before .before .before .before .before .before .args .e .seal)) ++ (timesBytes (c .before .before .before .before .before .before .before .before .before .before .fields-in .result) (c .before .before .before .before .before .before .before .before .before .before .before .before .args .e))) (room-after (wrote-one (c .before .before .before .before .before .before .before .before .before .before .before .before .args .out .now) (c .before .before .before .before .before .before .before .before .before .before .before .before .args .at) (c .before .before .before .before .before .before .before .before .before .map-of .result)) ((u32Bytes (c .before .before .before .before .before .before .before .before .before .before .before .before .args .e .serial)) ++ ((sealBytes (c .before .before .before .before .before .before .before .before .before .before .before .before .args .e .seal)) ++ (timesBytes (c .before .before .before .before .before .before .before .before .before .before .fields-in .result) (c .before .before .before .before .before .before .before .before .before .before .before .before .args .e)))) (entry-room (c .before .before .before .before .before .before .before .before .before .before .before .before .args .frame) (c .before .before .before .before .before .before .before .before .before .before .before .before .args .e) (c .before .before .before .before .before .before .before .before .before .before .fields-in .result) (c .before .before .before .before .before .before .before .before .before .map-of .result) _ _ (c .before .before .before .before .before .before .before .before .before .before .fields-in .ensures) (c .before .before .before .before .before .before .before .before .before .map-of .ensures) (c .before .before .before .before .before .before .before .before .before .before .before .before .pre))))
+put-times-requires c κs =
+    let e = c .before .before .before .before .before .before .before .before .before .before .before .before .args .e in
+    let m = c .before .before .before .before .before .before .before .before .before .before .fields-in .result in
+    let room = serial-room (c .before .before .before .before .before .before .before) in
+    room-after (c .before .before .before .put-seal .ensures) (timesBytes m e) room
 
 same-length : tie.Need-same-length
-same-length c =
-    let w : Wrote (c .before .before .before .before .before .before .before .before .before .before .before .before .before .before .before .args .out .now) (c .before .before .before .before .before .before .before .before .before .before .before .before .before .before .before .args .at) (entryBytes (c .before .before .before .before .before .before .before .before .before .before .before .before .before .before .before .args .frame) (c .before .before .before .before .before .before .before .before .before .before .before .before .before .before .before .args .e)) (c .before .before .put-times .last .0) (c .before .before .put-times .result) = entry-stored (c .before .before .before .before .before .before .before .before .before .before .before .before .before .before .before .args .frame) (c .before .before .before .before .before .before .before .before .before .before .before .before .before .before .before .args .e) (c .before .before .before .before .before .before .before .before .before .before .before .before .before .fields-in .ensures) (c .before .before .before .before .before .before .before .before .before .before .before .before .map-of .ensures) (c .before .before .before .before .before .before .before .before .before .before .put-u32 .ensures) (c .before .before .before .before .before .before .put-seal .ensures) (c .before .before .put-times .ensures) in
-    wrote-length w
+same-length c = wrote-length (stored (c .before .before))
 
 returns : tie.Need-returns
-returns c = entry-stored (c .before .before .before .before .before .before .before .before .before .before .before .before .before .before .before .args .frame) (c .before .before .before .before .before .before .before .before .before .before .before .before .before .before .before .args .e) (c .before .before .before .before .before .before .before .before .before .before .before .before .before .fields-in .ensures) (c .before .before .before .before .before .before .before .before .before .before .before .before .map-of .ensures) (c .before .before .before .before .before .before .before .before .before .before .put-u32 .ensures) (c .before .before .before .before .before .before .put-seal .ensures) (c .before .before .put-times .ensures)
+returns c = stored (c .before .before)
 
 pub put-entry-spec : {M : Type 1} → statement M
 put-entry-spec =

@@ -10,19 +10,37 @@ use Rattle.list.proofs.form.put_times.Statement.{statement}
 use Rattle.list.proofs.form.put_times.Tie as tie
 
 put-minute-requires : tie.Need-put-minute-requires
-put-minute-requires c κs = room-first (minuteBytes (c .before .before .args .m .r) (c .before .before .args .e .r)) ((minuteBytes (c .before .before .args .m .d) (c .before .before .args .e .d)) ++ (u16Bytes (c .before .before .args .e .p))) _ _ (c .before .before .pre)
+put-minute-requires c κs =
+    let args = c .before .before .args in
+    room-first (minuteBytes (args .m .r) (args .e .r)) ((minuteBytes (args .m .d) (args .e .d)) ++ (u16Bytes (args .e .p))) _ _
+    (c .before .before .pre)
 
 put-minute-requires-2 : tie.Need-put-minute-requires-2
-put-minute-requires-2 c κs = room-first (minuteBytes (c .before .before .before .before .before .before .args .m .d) (c .before .before .before .before .before .before .args .e .d)) (u16Bytes (c .before .before .before .before .before .before .args .e .p)) _ _ (room-after (c .before .before .before .put-minute .ensures) ((minuteBytes (c .before .before .before .before .before .before .args .m .d) (c .before .before .before .before .before .before .args .e .d)) ++ (u16Bytes (c .before .before .before .before .before .before .args .e .p))) (c .before .before .before .before .before .before .pre))
+put-minute-requires-2 c κs =
+    let pre = c .before .before .before .before .before .before .pre in
+    let args = c .before .before .before .before .before .before .args in
+    let put-minute = c .before .before .before .put-minute in
+    room-first (minuteBytes (args .m .d) (args .e .d)) (u16Bytes (args .e .p)) _ _
+    (room-after (put-minute .ensures) ((minuteBytes (args .m .d) (args .e .d)) ++ (u16Bytes (args .e .p))) pre)
 
 put-u16-requires : tie.Need-put-u16-requires
-put-u16-requires c κs = room-after (c .before .before .before .put-minute2 .ensures) (u16Bytes (c .before .before .before .before .before .before .before .before .before .before .args .e .p)) (room-after (c .before .before .before .before .before .before .before .put-minute .ensures) ((minuteBytes (c .before .before .before .before .before .before .before .before .before .before .args .m .d) (c .before .before .before .before .before .before .before .before .before .before .args .e .d)) ++ (u16Bytes (c .before .before .before .before .before .before .before .before .before .before .args .e .p))) (c .before .before .before .before .before .before .before .before .before .before .pre))
+put-u16-requires c κs =
+    let pre = c .before .before .before .before .before .before .before .before .before .before .pre in
+    let args = c .before .before .before .before .before .before .before .before .before .before .args in
+    let put-minute = c .before .before .before .before .before .before .before .put-minute in
+    let put-minute2 = c .before .before .before .put-minute2 in
+    room-after (put-minute2 .ensures) (u16Bytes (args .e .p))
+    (room-after (put-minute .ensures) ((minuteBytes (args .m .d) (args .e .d)) ++ (u16Bytes (args .e .p))) pre)
 
 same-length : tie.Need-same-length
 same-length c = search needs
 
 returns : tie.Need-returns
-returns c = times-stored (c .before .before .before .before .before .before .before .before .before .before .before .before .before .args .m) (c .before .before .before .before .before .before .before .before .before .before .before .before .before .args .e) (c .before .before .before .before .before .before .before .before .before .before .put-minute .ensures) (c .before .before .before .before .before .before .put-minute2 .ensures) (c .before .before .put-u16 .ensures)
+returns c =
+    let args = c .before .before .before .before .before .before .before .before .before .before .before .before .before .args in
+    let put-minute = c .before .before .before .before .before .before .before .before .before .before .put-minute in
+    let put-minute2 = c .before .before .before .before .before .before .put-minute2 in
+    times-stored (args .m) (args .e) (put-minute .ensures) (put-minute2 .ensures) (c .before .before .put-u16 .ensures)
 
 pub put-times-spec : {M : Type 1} → statement M
 put-times-spec =

@@ -33,28 +33,36 @@ follow-requires-8 : tie.Need-follow-requires-8
 follow-requires-8 c κs = search needs
 
 returns : tie.Need-returns
-returns c = λ at. ap (mapAnswerOf at) (c .follow .ensures) ∙ named _ 17 false false false (λ k. refl) (λ k. refl) (c .before .match .keys1) at
+returns c =
+    λ at. ap (mapAnswerOf at) (c .follow .ensures) ∙ named _ 17 false false false (λ k. refl) (λ k. refl) (c .before .match .keys1) at
 
 returns-2 : tie.Need-returns-2
-returns-2 c = λ at. ap (mapAnswerOf at) (c .follow2 .ensures) ∙ named _ 19 true false false (λ k. refl) (λ k. refl) (c .before .match .keys2) at
+returns-2 c =
+    λ at. ap (mapAnswerOf at) (c .follow2 .ensures) ∙ named _ 19 true false false (λ k. refl) (λ k. refl) (c .before .match .keys2) at
 
 returns-3 : tie.Need-returns-3
-returns-3 c = λ at. ap (mapAnswerOf at) (c .follow3 .ensures) ∙ named _ 21 false true false (λ k. refl) (λ k. refl) (c .before .match .keys3) at
+returns-3 c =
+    λ at. ap (mapAnswerOf at) (c .follow3 .ensures) ∙ named _ 21 false true false (λ k. refl) (λ k. refl) (c .before .match .keys3) at
 
 returns-4 : tie.Need-returns-4
-returns-4 c = λ at. ap (mapAnswerOf at) (c .follow4 .ensures) ∙ named _ 23 true true false (λ k. refl) (λ k. refl) (c .before .match .keys4) at
+returns-4 c =
+    λ at. ap (mapAnswerOf at) (c .follow4 .ensures) ∙ named _ 23 true true false (λ k. refl) (λ k. refl) (c .before .match .keys4) at
 
 returns-5 : tie.Need-returns-5
-returns-5 c = λ at. ap (mapAnswerOf at) (c .follow5 .ensures) ∙ named _ 25 false false true (λ k. refl) (λ k. refl) (c .before .match .keys5) at
+returns-5 c =
+    λ at. ap (mapAnswerOf at) (c .follow5 .ensures) ∙ named _ 25 false false true (λ k. refl) (λ k. refl) (c .before .match .keys5) at
 
 returns-6 : tie.Need-returns-6
-returns-6 c = λ at. ap (mapAnswerOf at) (c .follow6 .ensures) ∙ named _ 27 true false true (λ k. refl) (λ k. refl) (c .before .match .keys6) at
+returns-6 c =
+    λ at. ap (mapAnswerOf at) (c .follow6 .ensures) ∙ named _ 27 true false true (λ k. refl) (λ k. refl) (c .before .match .keys6) at
 
 returns-7 : tie.Need-returns-7
-returns-7 c = λ at. ap (mapAnswerOf at) (c .follow7 .ensures) ∙ named _ 29 false true true (λ k. refl) (λ k. refl) (c .before .match .keys7) at
+returns-7 c =
+    λ at. ap (mapAnswerOf at) (c .follow7 .ensures) ∙ named _ 29 false true true (λ k. refl) (λ k. refl) (c .before .match .keys7) at
 
 returns-8 : tie.Need-returns-8
-returns-8 c = λ at. ap (mapAnswerOf at) (c .follow8 .ensures) ∙ named _ 31 true true true (λ k. refl) (λ k. refl) (c .before .match .keys8) at
+returns-8 c =
+    λ at. ap (mapAnswerOf at) (c .follow8 .ensures) ∙ named _ 31 true true true (λ k. refl) (λ k. refl) (c .before .match .keys8) at
 
 returns-9 : tie.Need-returns-9
 returns-9 c = breaks _ (c .before .before .fits .map .fits) (c .before .match .rest)

@@ -3,20 +3,27 @@
 use borrow.Author.Needs.{needs}
 use mathlib.Core.Path.{_≡_, refl, sym, ap}
 use Prim.Native.Nat.{ℕ}
-use lib.ListN.{getD}
 use Rattle.list.specs.Outcomes.{answered}
 use Rattle.list.specs.Checks.{headerFault}
+use Rattle.list.specs.Reading.{frameOf, countOf}
 use Rattle.list.proofs.Sound.{header-of}
 use Rattle.list.proofs.ReadCases.{answers-refused, read-short, read-header, read-body}
 use Rattle.list.proofs.Promised.{reads}
 use Rattle.list.proofs.reader.read.Statement.{statement}
 use Rattle.list.proofs.reader.read.Tie as tie
 
+-- the frame that code reads is the one that the bytes say
+frame-read : (c : tie.After-u16-at) → record { h = c .u16-at .result } ≡ frameOf (c .before .before .before .args .bytes .now)
+frame-read c = ap (λ (x : ℕ). record { h = x }) (c .u16-at .ensures)
+
 refused-with-requires : tie.Need-refused-with-requires
 refused-with-requires c κs = search needs
 
 returns : tie.Need-returns
-returns c = reads (c .before .before .before .args .bytes .now) _ (λ i. c .before .before .shared-slice-known .given i .fits) (answers-refused _ _ _ (c .refused-with .ensures) (read-short (c .before .before .before .args .bytes .now) (c .before .if1 .taken)))
+returns c =
+    let args = c .before .before .before .args in
+    reads (args .bytes .now) _ (λ i. c .before .before .shared-slice-known .given i .fits)
+    (answers-refused _ _ _ (c .refused-with .ensures) (read-short (args .bytes .now) (c .before .if1 .taken)))
 
 u16-at-requires : tie.Need-u16-at-requires
 u16-at-requires c κs = search needs
@@ -32,8 +39,11 @@ enum-told c = search needs
 
 read-body-requires : tie.Need-read-body-requires
 read-body-requires c κs =
-    let e : headerFault 2 (record { h = c .before .before .before .before .u16-at .result }) (getD (c .before .before .before .before .before .before .before .args .bytes .now) 2 0) ≡ answered tt = rw (c .enum-told .given .1) at (sym (c .before .before .header-fault .ensures)) in
-    (c .before .before .before .before .before .if1 .left, header-of 2 _ _ e .room, (ap (λ (x : ℕ). record { h = x }) (c .before .before .before .before .u16-at .ensures)), refl)
+    let bytes = c .before .before .before .before .before .before .before .args .bytes .now in
+    let header-fault = c .before .before .header-fault in
+    let frame = frame-read (c .before .before .before .before) in
+    let e : headerFault 2 (frameOf bytes) (countOf bytes) ≡ answered tt = rw (c .enum-told .given .1, frame) at (sym (header-fault .ensures)) in
+    (c .before .before .before .before .before .if1 .left, header-of 2 _ _ e .room, frame, refl)
 
 enum-known-header : tie.Need-enum-known-header
 enum-known-header c = search needs
@@ -42,10 +52,26 @@ refused-with-requires-2 : tie.Need-refused-with-requires-2
 refused-with-requires-2 c κs = search needs
 
 returns-2 : tie.Need-returns-2
-returns-2 c = reads (c .before .before .before .before .before .before .before .before .args .bytes .now) _ (λ i. c .before .before .before .before .before .before .before .shared-slice-known .given i .fits) (rw (read-body (c .before .before .before .before .before .before .before .before .args .bytes .now) (record { h = c .before .before .before .before .before .u16-at .result }) (c .before .before .before .header-fault .result) (ap (λ (x : ℕ). record { h = x }) (c .before .before .before .before .before .u16-at .ensures)) (c .before .before .before .before .before .before .if1 .left) (c .before .before .before .header-fault .ensures) (c .before .enum-told .given .1)) (c .read-body .ensures))
+returns-2 c =
+    let bytes = c .before .before .before .before .before .before .before .before .args .bytes .now in
+    let shared-slice-known = c .before .before .before .before .before .before .before .shared-slice-known in
+    let if1 = c .before .before .before .before .before .before .if1 in
+    let frame = frame-read (c .before .before .before .before .before) in
+    let header-fault = c .before .before .before .header-fault in
+    reads bytes _ (λ i. shared-slice-known .given i .fits)
+    (rw (read-body bytes _ (header-fault .result) frame (if1 .left) (header-fault .ensures) (c .before .enum-told .given .1))
+    (c .read-body .ensures))
 
 returns-3 : tie.Need-returns-3
-returns-3 c = reads (c .before .before .before .before .before .before .before .before .before .args .bytes .now) _ (λ i. c .before .before .before .before .before .before .before .before .shared-slice-known .given i .fits) (answers-refused _ _ _ (c .refused-with2 .ensures) (read-header (c .before .before .before .before .before .before .before .before .before .args .bytes .now) (record { h = c .before .before .before .before .before .before .u16-at .result }) (c .before .before .before .before .header-fault .result) (ap (λ (x : ℕ). record { h = x }) (c .before .before .before .before .before .before .u16-at .ensures)) (c .before .before .before .before .before .before .before .if1 .left) (c .before .before .before .before .header-fault .ensures) _ (c .before .before .header .given .1)))
+returns-3 c =
+    let bytes = c .before .before .before .before .before .before .before .before .before .args .bytes .now in
+    let shared-slice-known = c .before .before .before .before .before .before .before .before .shared-slice-known in
+    let if1 = c .before .before .before .before .before .before .before .if1 in
+    let frame = frame-read (c .before .before .before .before .before .before) in
+    let header-fault = c .before .before .before .before .header-fault in
+    reads bytes _ (λ i. shared-slice-known .given i .fits)
+    (answers-refused _ _ _ (c .refused-with2 .ensures)
+    (read-header bytes _ (header-fault .result) frame (if1 .left) (header-fault .ensures) _ (c .before .before .header .given .1)))
 
 pub read-spec : {M : Type 1} → statement M
 read-spec =

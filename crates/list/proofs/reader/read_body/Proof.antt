@@ -21,7 +21,9 @@ empty-list-requires c κs = search needs
 
 loop-holds : tie.Need-loop-holds Inv-loop μ-loop
 loop-holds c =
-    rw (c .before .empty-list .ensures) (start (c .before .before .before .args .frame) (c .before .before .before .args .n) (c .before .before .before .args .bytes .now) (c .before .before .before .pre .0))
+    let pre = c .before .before .before .pre in
+    let args = c .before .before .before .args in
+    rw (c .before .empty-list .ensures) (start (args .frame) (args .n) (args .bytes .now) (pre .0))
 
 sub-read-entry : tie.Need-sub-read-entry Inv-loop μ-loop
 sub-read-entry c = search needs
@@ -46,10 +48,16 @@ array-set-from-entries c = search needs
 
 add-at : tie.Need-add-at Inv-loop μ-loop
 add-at c =
+    let good = c .before .before .before .before .before .before .before .before .before .before .good in
+    let args = c .before .before .before .before .before .before .before .before .before .before .args in
+    let loop = c .before .before .before .before .before .before .loop in
+    let read-entry = c .before .before .before .read-entry in
+    let one = c .before .one in
     omega (
       arith,
-      size-here (c .before .before .before .before .before .before .before .before .before .before .args .frame) (c .before .before .before .before .before .before .loop .at) (c .before .before .before .before .before .before .before .before .before .before .args .bytes .now) (c .before .before .before .read-entry .result) (c .before .one .given .0 .0) (c .before .one .given .0 .1 .0) (c .before .before .before .before .before .before .loop .inv .inside) (c .before .before .before .read-entry .ensures) (c .before .one .given .1),
-      c .before .before .before .before .before .before .before .before .before .before .good,
+      size-here (args .frame) (loop .at) (args .bytes .now) (read-entry .result) (one .given .0 .0) (one .given .0 .1 .0)
+          (loop .inv .inside) (read-entry .ensures) (one .given .1),
+      good,
     )
 
 enum-known-one-2 : tie.Need-enum-known-one-2 Inv-loop μ-loop
@@ -60,8 +68,13 @@ refused-with-requires c κs = search needs
 
 returns : tie.Need-returns Inv-loop μ-loop
 returns c =
-    let o = entry-refused (c .before .before .before .before .before .before .before .loop .inv) (c .before .before .before .before .read-entry .result) _ (c .before .before .before .before .before .before .loop-test .taken) (c .before .before .before .before .read-entry .ensures) (c .before .before .one2 .given .1) in
-    answers-refused _ _ _ (c .refused-with .ensures) (body-refused (c .before .before .before .before .before .before .before .before .before .before .before .args .bytes .now) _ _ (c .before .before .before .before .before .before .before .before .before .before .before .pre .2) (c .before .before .before .before .before .before .before .before .before .before .before .pre .3) _ o)
+    let pre = c .before .before .before .before .before .before .before .before .before .before .before .pre in
+    let args = c .before .before .before .before .before .before .before .before .before .before .before .args in
+    let loop = c .before .before .before .before .before .before .before .loop in
+    let loop-test = c .before .before .before .before .before .before .loop-test in
+    let read-entry = c .before .before .before .before .read-entry in
+    let o = entry-refused (loop .inv) (read-entry .result) _ (loop-test .taken) (read-entry .ensures) (c .before .before .one2 .given .1) in
+    answers-refused _ _ _ (c .refused-with .ensures) (body-refused (args .bytes .now) _ _ (pre .2) (pre .3) _ o)
 
 add-i : tie.Need-add-i Inv-loop μ-loop
 add-i c = search needs
@@ -70,21 +83,33 @@ loop-less : tie.Need-loop-less Inv-loop μ-loop
 loop-less c = search needs
 
 loop-again : tie.Need-loop-again Inv-loop μ-loop
-loop-again c = next (c .before .before .before .before .before .before .loop .inv) (c .before .before .before .read-entry .result) _ _ (c .before .before .before .before .before .before .before .before .before .before .pre .1) (c .before .before .before .before .before .loop-test .taken) (c .before .before .before .read-entry .ensures) (c .before .one .given .1)
+loop-again c =
+    let pre = c .before .before .before .before .before .before .before .before .before .before .pre in
+    let loop = c .before .before .before .before .before .before .loop in
+    let loop-test = c .before .before .before .before .before .loop-test in
+    let read-entry = c .before .before .before .read-entry in
+    next (loop .inv) (read-entry .result) _ _ (pre .1) (loop-test .taken) (read-entry .ensures) (c .before .one .given .1)
 
 refused-with-requires-2 : tie.Need-refused-with-requires-2 Inv-loop μ-loop
 refused-with-requires-2 c κs = search needs
 
 returns-2 : tie.Need-returns-2 Inv-loop μ-loop
 returns-2 c =
-    let o = done (c .before .before .before .loop .inv) (c .before .before .loop-test .left) in
-    answers-refused _ _ _ (c .refused-with2 .ensures) (body-left (c .before .before .before .before .before .before .before .args .bytes .now) _ _ (c .before .before .before .before .before .before .before .pre .2) (c .before .before .before .before .before .before .before .pre .3) _ _ o (c .before .if1 .taken))
+    let pre = c .before .before .before .before .before .before .before .pre in
+    let args = c .before .before .before .before .before .before .before .args in
+    let loop = c .before .before .before .loop in
+    let o = done (loop .inv) (c .before .before .loop-test .left) in
+    answers-refused _ _ _ (c .refused-with2 .ensures) (body-left (args .bytes .now) _ _ (pre .2) (pre .3) _ _ o (c .before .if1 .taken))
 
 returns-3 : tie.Need-returns-3 Inv-loop μ-loop
 returns-3 c =
+    let pre = c .before .before .before .before .before .before .pre in
+    let args = c .before .before .before .before .before .before .args in
+    let loop-test = c .before .loop-test in
     let s = c .before .before .loop .inv in
-    let o = done s (c .before .loop-test .left) in
-    answers-list _ _ (body-done (c .before .before .before .before .before .before .args .bytes .now) _ _ (c .before .before .before .before .before .before .pre .2) (c .before .before .before .before .before .before .pre .3) _ _ o (c .if1 .left) ∙ ap answered (sym (list-is s (c .before .before .before .before .before .before .pre .1) (c .before .loop-test .left))))
+    let o = done s (loop-test .left) in
+    answers-list _ _ (body-done (args .bytes .now) _ _ (pre .2) (pre .3) _ _ o (c .if1 .left) ∙ ap answered
+    (sym (list-is s (pre .1) (loop-test .left))))
 
 pub read-body-spec : {M : Type 1} → statement M
 read-body-spec =

@@ -1,12 +1,11 @@
--- `writer::list_size` meets its contract. The loop's invariant is `Counted`: what was counted and what is left make the whole. The measure
--- is what is left of n.
+-- `writer::list_size` meets its contract. The loop's invariant is `Counted`: what was counted and what is left make the one form's
+-- length. The measure is what is left of n.
 -- Assumes nothing.
 use borrow.Author.Needs.{needs}
 use mathlib.Core.Path.{_≡_}
-use Prim.Native.Nat.{_≤_, _-_}
+use Prim.Native.Nat.{_+_, _≤_, _-_}
 use native.Mathlib.Omega.{arith}
 use lib.ListN.{length}
-use Rattle.list.specs.DayLists.{blank}
 use Rattle.list.proofs.Walk.{length-mapped}
 use Rattle.list.proofs.WriteCases.{Counted, list-short, counted-start, counted-next, counted-done}
 use Rattle.list.proofs.writer.list_size.Statement.{statement}
@@ -17,6 +16,21 @@ Inv-loop list n size₀ i₀ size i = Counted list size i
 
 abbrev μ-loop : tie.MeasureT-loop
 μ-loop list n size₀ i₀ size i = list .n - i
+
+-- n entries stand in the array
+enough : (c : tie.Start Inv-loop μ-loop) → c .args .t1 .n ≤ length (c .args .t1 .entries)
+enough c = let len : length (c .args .t1 .entries) ≡ 64 = search (needs, length-mapped) in omega (arith, len, c .pre)
+
+-- one entry more was counted
+counted : (c : tie.After-size-of Inv-loop μ-loop)
+    → let loop = c .before .before .before .before .before .loop in
+    Counted (c .before .before .before .before .before .before .args .t1) (loop .size + c .size-of .result) (loop .i + 1)
+counted c =
+    let start = c .before .before .before .before .before .before in
+    let loop = c .before .before .before .before .before .loop in
+    let fields-in = c .before .fields-in in
+    counted-next (start .args .t1) (enough start) _ _ (loop .i) _ (fields-in .result) (loop .inv)
+    (c .before .before .before .before .loop-test .taken) (fields-in .ensures) (c .size-of .ensures)
 
 cast-n : tie.Need-cast-n Inv-loop μ-loop
 cast-n c = search needs
@@ -38,13 +52,8 @@ size-of-requires c κs = search needs
 
 add-size : tie.Need-add-size Inv-loop μ-loop
 add-size c =
-    let len : length (c .before .before .before .before .before .before .args .t1 .entries) ≡ 64 = search (needs, length-mapped) in
-    let enough : c .before .before .before .before .before .before .args .t1 .n ≤ length (c .before .before .before .before .before .before .args .t1 .entries) = omega (arith, len, c .before .before .before .before .before .before .pre) in
-    omega (
-      arith,
-      list-short (c .before .before .before .before .before .before .args .t1) (c .before .before .before .before .before .before .pre),
-      counted-next (c .before .before .before .before .before .before .args .t1) enough (c .before .before .before .before .before .loop .size) (c .size-of .result) (c .before .before .before .before .before .loop .i) blank (c .before .fields-in .result) (c .before .before .before .before .before .loop .inv) (c .before .before .before .before .loop-test .taken) (c .before .fields-in .ensures) (c .size-of .ensures) .whole,
-    )
+    let start = c .before .before .before .before .before .before in
+    omega (arith, list-short (start .args .t1) (start .pre), counted c .total)
 
 add-i : tie.Need-add-i Inv-loop μ-loop
 add-i c = search needs
@@ -53,16 +62,12 @@ loop-less : tie.Need-loop-less Inv-loop μ-loop
 loop-less c = search needs
 
 loop-again : tie.Need-loop-again Inv-loop μ-loop
-loop-again c =
-    let len : length (c .before .before .before .before .before .before .args .t1 .entries) ≡ 64 = search (needs, length-mapped) in
-    let enough : c .before .before .before .before .before .before .args .t1 .n ≤ length (c .before .before .before .before .before .before .args .t1 .entries) = omega (arith, len, c .before .before .before .before .before .before .pre) in
-    counted-next (c .before .before .before .before .before .before .args .t1) enough (c .before .before .before .before .before .loop .size) (c .size-of .result) (c .before .before .before .before .before .loop .i) _ (c .before .fields-in .result) (c .before .before .before .before .before .loop .inv) (c .before .before .before .before .loop-test .taken) (c .before .fields-in .ensures) (c .size-of .ensures)
+loop-again c = counted c
 
 returns : tie.Need-returns Inv-loop μ-loop
 returns c =
-    let len : length (c .before .before .args .t1 .entries) ≡ 64 = search (needs, length-mapped) in
-    let enough : c .before .before .args .t1 .n ≤ length (c .before .before .args .t1 .entries) = omega (arith, len, c .before .before .pre) in
-    counted-done (c .before .before .args .t1) enough (c .before .loop .size) (c .before .loop .i) (c .before .loop .inv) (c .loop-test .left)
+    let start = c .before .before in
+    counted-done (start .args .t1) (enough start) _ _ (c .before .loop .inv) (c .loop-test .left)
 
 pub list-size-spec : {M : Type 1} → statement M
 list-size-spec =

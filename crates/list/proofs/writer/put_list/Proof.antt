@@ -1,5 +1,5 @@
--- `writer::put_list` meets its contract. The loop's invariant is `StoredSoFar`: storing the rest gives the whole. The measure is what is
--- left of n.
+-- `writer::put_list` meets its contract. The loop's invariant is `StoredSoFar`: storing the rest gives the one form. The measure is what
+-- is left of n.
 -- Assumes nothing.
 use borrow.Author.Needs.{needs}
 use mathlib.Core.Path.{_≡_, _∙_}
@@ -18,17 +18,27 @@ Inv-loop out₀ list n frame at₀ i₀ out at i = StoredSoFar list out₀ out a
 abbrev μ-loop : tie.MeasureT-loop
 μ-loop out₀ list n frame at₀ i₀ out at i = list .n - i
 
+-- n entries stand in the array
+enough : (c : tie.Start Inv-loop μ-loop) → c .args .t1 .n ≤ length (c .args .t1 .entries)
+enough c = let len : length (c .args .t1 .entries) ≡ 64 = search (needs, length-mapped) in omega (arith, len, c .pre)
+
 cast-n : tie.Need-cast-n Inv-loop μ-loop
 cast-n c = search needs
 
 put-u16-requires : tie.Need-put-u16-requires Inv-loop μ-loop
-put-u16-requires c κs = omega (arith, c .before .before .before .pre .1, list-length (c .before .before .before .args .t1))
+put-u16-requires c κs =
+    let start = c .before .before .before in
+    omega (arith, start .pre .1, list-length (start .args .t1))
 
 slice-write-out : tie.Need-slice-write-out Inv-loop μ-loop
-slice-write-out c = omega (arith, c .before .before .before .before .before .before .pre .1, list-length (c .before .before .before .before .before .before .args .t1), wrote-length (c .before .before .put-u16 .ensures))
+slice-write-out c =
+    let start = c .before .before .before .before .before .before in
+    omega (arith, start .pre .1, list-length (start .args .t1), wrote-length (c .before .before .put-u16 .ensures))
 
 loop-holds : tie.Need-loop-holds Inv-loop μ-loop
-loop-holds c = stored-start (c .before .before .before .before .before .before .args .t1) _ _ _ (c .before .before .put-u16 .ensures) (c .before .before .before .before .before .before .pre .1)
+loop-holds c =
+    let start = c .before .before .before .before .before .before in
+    stored-start (start .args .t1) _ _ _ (c .before .before .put-u16 .ensures) (start .pre .1)
 
 mul-put-entry : tie.Need-mul-put-entry Inv-loop μ-loop
 mul-put-entry c = search needs
@@ -38,9 +48,9 @@ element-copy-out-put-entry c = search needs
 
 put-entry-requires : tie.Need-put-entry-requires Inv-loop μ-loop
 put-entry-requires c κs =
-    let len : length (c .before .before .before .before .before .before .before .before .before .before .args .t1 .entries) ≡ 64 = search (needs, length-mapped) in
-    let enough : c .before .before .before .before .before .before .before .before .before .before .args .t1 .n ≤ length (c .before .before .before .before .before .before .before .before .before .before .args .t1 .entries) = omega (arith, len, c .before .before .before .before .before .before .before .before .before .before .pre) in
-    stored-room (c .before .before .before .before .before .before .before .before .before .before .args .t1) enough _ _ _ (c .before .before .before .loop .i) _ (c .before .before .before .loop .inv) (c .before .before .loop-test .taken)
+    let start = c .before .before .before .before .before .before .before .before .before .before in
+    let loop = c .before .before .before .loop in
+    stored-room (start .args .t1) (enough start) _ _ _ (loop .i) _ (loop .inv) (c .before .before .loop-test .taken)
 
 add-i : tie.Need-add-i Inv-loop μ-loop
 add-i c = search needs
@@ -50,18 +60,23 @@ loop-less c = search needs
 
 loop-again : tie.Need-loop-again Inv-loop μ-loop
 loop-again c =
-    let len : length (c .before .before .before .before .before .before .before .before .before .before .before .before .before .args .t1 .entries) ≡ 64 = search (needs, length-mapped) in
-    let enough : c .before .before .before .before .before .before .before .before .before .before .before .before .before .args .t1 .n ≤ length (c .before .before .before .before .before .before .before .before .before .before .before .before .before .args .t1 .entries) = omega (arith, len, c .before .before .before .before .before .before .before .before .before .before .before .before .before .pre) in
-    stored-next (c .before .before .before .before .before .before .before .before .before .before .before .before .before .args .t1) enough _ _ _ _ _ (c .before .before .before .before .before .before .loop .i) _ (c .before .before .before .before .before .before .loop .inv) (c .before .before .before .before .before .loop-test .taken) (c .before .before .put-entry .ensures)
+    let start = c .before .before .before .before .before .before .before .before .before .before .before .before .before in
+    let loop = c .before .before .before .before .before .before .loop in
+    let loop-test = c .before .before .before .before .before .loop-test in
+    stored-next (start .args .t1) (enough start) _ _ _ _ _ (loop .i) _ (loop .inv) (loop-test .taken) (c .before .before .put-entry .ensures)
 
 same-length : tie.Need-same-length Inv-loop μ-loop
-same-length c = c .before .loop .inv .long ∙ length-set (c .before .before .before .before .put-u16 .last .0) 2 (c .before .before .before .before .before .before .before .before .args .t1 .n) ∙ wrote-length (c .before .before .before .before .put-u16 .ensures)
+same-length c =
+    let list = c .before .before .before .before .before .before .before .before .args .t1 in
+    let put-u16 = c .before .before .before .before .put-u16 in
+    c .before .loop .inv .long ∙ length-set (put-u16 .last .0) 2 (list .n) ∙ wrote-length (put-u16 .ensures)
 
 returns : tie.Need-returns Inv-loop μ-loop
 returns c =
-    let len : length (c .before .before .before .before .before .before .before .before .args .t1 .entries) ≡ 64 = search (needs, length-mapped) in
-    let enough : c .before .before .before .before .before .before .before .before .args .t1 .n ≤ length (c .before .before .before .before .before .before .before .before .args .t1 .entries) = omega (arith, len, c .before .before .before .before .before .before .before .before .pre) in
-    stored-done (c .before .before .before .before .before .before .before .before .args .t1) enough _ _ _ _ (c .before .loop .inv) (c .loop-test .left) ∙ list-stored (c .before .before .before .before .before .before .before .before .args .t1) (c .before .before .before .before .put-u16 .ensures)
+    let start = c .before .before .before .before .before .before .before .before in
+    let put-u16 = c .before .before .before .before .put-u16 in
+    stored-done (start .args .t1) (enough start) _ _ _ _ (c .before .loop .inv) (c .loop-test .left)
+    ∙ list-stored (start .args .t1) (put-u16 .ensures)
 
 pub put-list-spec : {M : Type 1} → statement M
 put-list-spec =

@@ -12,7 +12,7 @@ use Rattle.list.specs.Machine.{Typed}
 use Rattle.list.proofs.Walk.{length-mapped}
 use Rattle.list.proofs.InTypes.{each-serial, each-seal}
 use Rattle.list.proofs.WriteCases.{has-room}
-use Rattle.list.proofs.Promised.{write-refused, write-short, write-whole}
+use Rattle.list.proofs.Promised.{write-refused, write-short, write-done}
 use Rattle.list.proofs.writer.write.Statement.{statement}
 use Rattle.list.proofs.writer.write.Tie as tie
 
@@ -37,13 +37,25 @@ enum-told : tie.Need-enum-told
 enum-told c = search needs
 
 list-size-requires : tie.Need-list-size-requires
-list-size-requires c κs = has-room (c .before .before .before .before .args .list) (well (c .before .before .before .before .args .list) (c .before .before .check .ensures) (c .enum-told .given .1))
+list-size-requires c κs =
+    let args = c .before .before .before .before .args in
+    has-room (args .list) (well (args .list) (c .before .before .check .ensures) (c .enum-told .given .1))
 
 returns : tie.Need-returns
-returns c = write-short (c .before .before .before .before .before .before .args .list) (c .before .before .before .before .before .before .args .out .now) (in-types (c .before .before .before .before .before .before)) _ (well (c .before .before .before .before .before .before .args .list) (c .before .before .before .before .check .ensures) (c .before .before .enum-told .given .1)) (c .before .list-size .ensures) (c .if1 .taken)
+returns c =
+    let args = c .before .before .before .before .before .before .args in
+    let check = c .before .before .before .before .check in
+    write-short (args .list) (args .out .now) (in-types (c .before .before .before .before .before .before)) _
+    (well (args .list) (check .ensures) (c .before .before .enum-told .given .1)) (c .before .list-size .ensures) (c .if1 .taken)
 
 put-list-requires : tie.Need-put-list-requires
-put-list-requires c κs = (has-room (c .before .before .before .before .before .before .before .args .list) (well (c .before .before .before .before .before .before .before .args .list) (c .before .before .before .before .before .check .ensures) (c .before .before .before .enum-told .given .1)), omega (arith, c .before .before .list-size .ensures, c .before .if1 .left))
+put-list-requires c κs =
+    let args = c .before .before .before .before .before .before .before .args in
+    let check = c .before .before .before .before .before .check in
+    let enum-told = c .before .before .before .enum-told in (
+      has-room (args .list) (well (args .list) (check .ensures) (enum-told .given .1)),
+      omega (arith, c .before .before .list-size .ensures, c .before .if1 .left),
+    )
 
 enum-known-verdict : tie.Need-enum-known-verdict
 enum-known-verdict c = search needs
@@ -52,10 +64,22 @@ same-length : tie.Need-same-length
 same-length c = search needs
 
 returns-2 : tie.Need-returns-2
-returns-2 c = write-whole (c .before .before .before .before .before .before .before .before .before .before .args .list) (c .before .before .before .before .before .before .before .before .before .before .args .out .now) (in-types (c .before .before .before .before .before .before .before .before .before .before)) _ _ (well (c .before .before .before .before .before .before .before .before .before .before .args .list) (c .before .before .before .before .before .before .before .before .check .ensures) (c .before .before .before .before .before .before .enum-told .given .1)) (c .before .before .before .before .before .list-size .ensures) (c .before .before .before .before .if1 .left) (c .before .before .put-list .ensures)
+returns-2 c =
+    let args = c .before .before .before .before .before .before .before .before .before .before .args in
+    let check = c .before .before .before .before .before .before .before .before .check in
+    let enum-told = c .before .before .before .before .before .before .enum-told in
+    let list-size = c .before .before .before .before .before .list-size in
+    let if1 = c .before .before .before .before .if1 in
+    write-done (args .list) (args .out .now)
+    (in-types (c .before .before .before .before .before .before .before .before .before .before)) _ _
+    (well (args .list) (check .ensures) (enum-told .given .1)) (list-size .ensures) (if1 .left) (c .before .before .put-list .ensures)
 
 returns-3 : tie.Need-returns-3
-returns-3 c = write-refused (c .before .before .before .before .before .args .list) (c .before .before .before .before .before .args .out .now) (in-types (c .before .before .before .before .before)) _ _ (c .before .before .before .check .ensures) (c .before .verdict .given .1)
+returns-3 c =
+    let args = c .before .before .before .before .before .args in
+    let check = c .before .before .before .check in
+    write-refused (args .list) (args .out .now) (in-types (c .before .before .before .before .before)) _ _ (check .ensures)
+    (c .before .verdict .given .1)
 
 pub write-spec : {M : Type 1} → statement M
 write-spec =

@@ -15,13 +15,17 @@ refused-with-requires : tie.Need-refused-with-requires
 refused-with-requires c κs = search needs
 
 returns : tie.Need-returns
-returns c = answers-stopped (c .before .before .before .args .list) (c .before .before .before .args .found) (c .refused-with .result) _ (c .before .enum-told2 .given .1) (c .refused-with .ensures)
+returns c =
+    let args = c .before .before .before .args in
+    answers-stopped (args .list) (args .found) (c .refused-with .result) _ (c .before .enum-told2 .given .1) (c .refused-with .ensures)
 
 list-with-requires : tie.Need-list-with-requires
 list-with-requires c κs = search needs
 
 returns-2 : tie.Need-returns-2
-returns-2 c = answers-found (c .before .before .before .args .list) (c .before .before .before .args .found) (c .list-with .result) (c .before .enum-told .given .1) (c .list-with .ensures)
+returns-2 c =
+    let args = c .before .before .before .args in
+    answers-found (args .list) (args .found) (c .list-with .result) (c .before .enum-told .given .1) (c .list-with .ensures)
 
 pub answer-with-spec : {M : Type 1} → statement M
 answer-with-spec =

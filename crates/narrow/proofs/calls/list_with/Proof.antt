@@ -17,6 +17,10 @@ Inv-loop list windows entries₀ count i₀ entries i = Filled list (windowsIn w
 abbrev μ-loop : tie.MeasureT-loop
 μ-loop list windows entries₀ count i₀ entries i = count - i
 
+-- the array has 64 entries
+long : (c : tie.Start Inv-loop μ-loop) → length (c .args .t1 .entries) ≡ 64
+long c = search (needs, length-mapped)
+
 empty-list-requires : tie.Need-empty-list-requires Inv-loop μ-loop
 empty-list-requires c κs = search needs
 
@@ -60,10 +64,18 @@ loop-less : tie.Need-loop-less Inv-loop μ-loop
 loop-less c = search needs
 
 loop-again : tie.Need-loop-again Inv-loop μ-loop
-loop-again c = let long : length (c .before .before .before .before .before .before .before .before .args .t1 .entries) ≡ 64 = search (needs, length-mapped) in filled-next (c .before .before .before .before .before .before .before .before .args .t1) (windowsIn (c .before .before .before .before .before .before .before .before .args .t2)) long (c .before .before .before .before .before .loop .entries) (c .before .before .before .before .before .loop .i) (c .before .before .before .before .before .loop .inv) _ (c .before .before .before .before .loop-test .taken) (c .entry-with .ensures)
+loop-again c =
+    let start = c .before .before .before .before .before .before .before .before in
+    let loop = c .before .before .before .before .before .loop in
+    let loop-test = c .before .before .before .before .loop-test in
+    filled-next (start .args .t1) (windowsIn (start .args .t2)) (long start) (loop .entries) (loop .i) (loop .inv) _ (loop-test .taken)
+    (c .entry-with .ensures)
 
 returns : tie.Need-returns Inv-loop μ-loop
-returns c = let long : length (c .before .before .before .before .before .args .t1 .entries) ≡ 64 = search (needs, length-mapped) in filled-all (c .before .before .before .before .before .args .t1) (windowsIn (c .before .before .before .before .before .args .t2)) long (c .before .before .loop .entries) (c .before .before .loop .i) (c .before .before .loop .inv) (c .before .loop-test .left)
+returns c =
+    let start = c .before .before .before .before .before in
+    let loop = c .before .before .loop in
+    filled-all (start .args .t1) (windowsIn (start .args .t2)) (long start) (loop .entries) (loop .i) (loop .inv) (c .before .loop-test .left)
 
 pub list-with-spec : {M : Type 1} → statement M
 list-with-spec =

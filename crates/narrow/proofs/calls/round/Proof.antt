@@ -8,6 +8,10 @@ use Rattle.narrow.proofs.CallCases.{list-countable, check-passed, check
 use Rattle.narrow.proofs.calls.round.Statement.{statement}
 use Rattle.narrow.proofs.calls.round.Tie as tie
 
+-- the array has 64 entries
+long : (c : tie.Start) → length (c .args .list .entries) ≡ 64
+long c = search (needs, length-mapped)
+
 check-requires : tie.Need-check-requires
 check-requires c κs = search needs
 
@@ -21,19 +25,37 @@ refused-with-requires : tie.Need-refused-with-requires
 refused-with-requires c κs = search needs
 
 returns : tie.Need-returns
-returns c = round-turned (c .before .before .before .before .args .list) (c .before .before .before .check .result) (c .before .before .before .check .ensures) (c .refused-with .result) _ (c .before .enum-told2 .given .1) (c .refused-with .ensures)
+returns c =
+    let args = c .before .before .before .before .args in
+    let check = c .before .before .before .check in
+    round-turned (args .list) (check .result) (check .ensures) (c .refused-with .result) _ (c .before .enum-told2 .given .1)
+    (c .refused-with .ensures)
 
 untested-windows-requires : tie.Need-untested-windows-requires
 untested-windows-requires c κs = search needs
 
 one-round-requires : tie.Need-one-round-requires
-one-round-requires c κs = let long : length (c .before .before .before .before .args .list .entries) ≡ 64 = search (needs, length-mapped) in list-countable (c .before .before .before .before .args .list) (c .untested-windows .result) long (check-passed (c .before .before .before .before .args .list) (c .before .before .before .check .result) (c .before .before .before .check .ensures) (c .before .enum-told .given .1)) (c .untested-windows .ensures)
+one-round-requires c κs =
+    let start = c .before .before .before .before in
+    let check = c .before .before .before .check in
+    let formed = check-passed (start .args .list) _ (check .ensures) (c .before .enum-told .given .1) in
+    list-countable (start .args .list) (c .untested-windows .result) (long start) formed (c .untested-windows .ensures)
 
 answer-with-requires : tie.Need-answer-with-requires
-answer-with-requires c κs = check-few (c .before .before .before .before .before .args .list) (c .before .before .before .before .check .result) (c .before .before .before .before .check .ensures) (c .before .before .enum-told .given .1)
+answer-with-requires c κs =
+    let args = c .before .before .before .before .before .args in
+    let check = c .before .before .before .before .check in
+    check-few (args .list) (check .result) (check .ensures) (c .before .before .enum-told .given .1)
 
 returns-2 : tie.Need-returns-2
-returns-2 c = round-found (c .before .before .before .before .before .before .args .list) (c .before .before .before .before .before .check .result) (c .before .before .before .before .before .check .ensures) (c .before .before .before .enum-told .given .1) (c .before .before .untested-windows .result) (c .before .before .untested-windows .ensures) (c .answer-with .result) (c .before .one-round .result) (c .before .one-round .ensures) (c .answer-with .ensures)
+returns-2 c =
+    let args = c .before .before .before .before .before .before .args in
+    let check = c .before .before .before .before .before .check in
+    let enum-told = c .before .before .before .enum-told in
+    let untested-windows = c .before .before .untested-windows in
+    let one-round = c .before .one-round in
+    round-found (args .list) (check .result) (check .ensures) (enum-told .given .1) (untested-windows .result) (untested-windows .ensures)
+    (c .answer-with .result) (one-round .result) (one-round .ensures) (c .answer-with .ensures)
 
 pub round-spec : {M : Type 1} → statement M
 round-spec =

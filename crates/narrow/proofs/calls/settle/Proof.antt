@@ -8,6 +8,10 @@ use Rattle.narrow.proofs.CallCases.{list-countable, check-passed, check
 use Rattle.narrow.proofs.calls.settle.Statement.{statement}
 use Rattle.narrow.proofs.calls.settle.Tie as tie
 
+-- the array has 64 entries
+long : (c : tie.Start) → length (c .args .list .entries) ≡ 64
+long c = search (needs, length-mapped)
+
 check-requires : tie.Need-check-requires
 check-requires c κs = search needs
 
@@ -21,7 +25,11 @@ refused-with-requires : tie.Need-refused-with-requires
 refused-with-requires c κs = search needs
 
 returns : tie.Need-returns
-returns c = settle-turned (c .before .before .before .before .args .list) (c .before .before .before .check .result) (c .before .before .before .check .ensures) (c .refused-with .result) _ (c .before .enum-told2 .given .1) (c .refused-with .ensures)
+returns c =
+    let args = c .before .before .before .before .args in
+    let check = c .before .before .before .check in
+    settle-turned (args .list) (check .result) (check .ensures) (c .refused-with .result) _ (c .before .enum-told2 .given .1)
+    (c .refused-with .ensures)
 
 untested-windows-requires : tie.Need-untested-windows-requires
 untested-windows-requires c κs = search needs
@@ -39,16 +47,42 @@ refused-with-requires-2 : tie.Need-refused-with-requires-2
 refused-with-requires-2 c κs = search needs
 
 returns-2 : tie.Need-returns-2
-returns-2 c = settle-overloaded (c .before .before .before .before .before .before .before .before .args .list) (c .before .before .before .before .before .before .before .check .result) (c .before .before .before .before .before .before .before .check .ensures) (c .before .before .before .before .before .enum-told .given .1) (c .before .before .before .before .untested-windows .result) (c .before .before .before .before .untested-windows .ensures) (c .refused-with2 .result) (c .before .before .before .untested-overload .result) (c .before .before .before .untested-overload .ensures) _ (c .before .enum-told4 .given .1) (c .refused-with2 .ensures)
+returns-2 c =
+    let args = c .before .before .before .before .before .before .before .before .args in
+    let check = c .before .before .before .before .before .before .before .check in
+    let enum-told = c .before .before .before .before .before .enum-told in
+    let untested-windows = c .before .before .before .before .untested-windows in
+    let untested-overload = c .before .before .before .untested-overload in
+    settle-overloaded (args .list) (check .result) (check .ensures) (enum-told .given .1) (untested-windows .result)
+    (untested-windows .ensures) (c .refused-with2 .result) (untested-overload .result) (untested-overload .ensures) _
+    (c .before .enum-told4 .given .1) (c .refused-with2 .ensures)
 
 all-rounds-requires : tie.Need-all-rounds-requires
-all-rounds-requires c κs = let long : length (c .before .before .before .before .before .before .before .args .list .entries) ≡ 64 = search (needs, length-mapped) in list-countable (c .before .before .before .before .before .before .before .args .list) (c .before .before .before .untested-windows .result) long (check-passed (c .before .before .before .before .before .before .before .args .list) (c .before .before .before .before .before .before .check .result) (c .before .before .before .before .before .before .check .ensures) (c .before .before .before .before .enum-told .given .1)) (c .before .before .before .untested-windows .ensures)
+all-rounds-requires c κs =
+    let start = c .before .before .before .before .before .before .before in
+    let check = c .before .before .before .before .before .before .check in
+    let formed = check-passed (start .args .list) _ (check .ensures) (c .before .before .before .before .enum-told .given .1) in
+    let untested-windows = c .before .before .before .untested-windows in
+    list-countable (start .args .list) (untested-windows .result) (long start) formed (untested-windows .ensures)
 
 answer-with-requires : tie.Need-answer-with-requires
-answer-with-requires c κs = check-few (c .before .before .before .before .before .before .before .before .args .list) (c .before .before .before .before .before .before .before .check .result) (c .before .before .before .before .before .before .before .check .ensures) (c .before .before .before .before .before .enum-told .given .1)
+answer-with-requires c κs =
+    let args = c .before .before .before .before .before .before .before .before .args in
+    let check = c .before .before .before .before .before .before .before .check in
+    let enum-told = c .before .before .before .before .before .enum-told in
+    check-few (args .list) (check .result) (check .ensures) (enum-told .given .1)
 
 returns-3 : tie.Need-returns-3
-returns-3 c = settle-found (c .before .before .before .before .before .before .before .before .before .args .list) (c .before .before .before .before .before .before .before .before .check .result) (c .before .before .before .before .before .before .before .before .check .ensures) (c .before .before .before .before .before .before .enum-told .given .1) (c .before .before .before .before .before .untested-windows .result) (c .before .before .before .before .before .untested-windows .ensures) (c .answer-with .result) (c .before .before .before .before .untested-overload .result) (c .before .before .before .before .untested-overload .ensures) (c .before .before .enum-told3 .given .1) (c .before .all-rounds .result) (c .before .all-rounds .ensures) (c .answer-with .ensures)
+returns-3 c =
+    let args = c .before .before .before .before .before .before .before .before .before .args in
+    let check = c .before .before .before .before .before .before .before .before .check in
+    let enum-told = c .before .before .before .before .before .before .enum-told in
+    let untested-windows = c .before .before .before .before .before .untested-windows in
+    let untested-overload = c .before .before .before .before .untested-overload in
+    let all-rounds = c .before .all-rounds in
+    settle-found (args .list) (check .result) (check .ensures) (enum-told .given .1) (untested-windows .result) (untested-windows .ensures)
+    (c .answer-with .result) (untested-overload .result) (untested-overload .ensures) (c .before .before .enum-told3 .given .1)
+    (all-rounds .result) (all-rounds .ensures) (c .answer-with .ensures)
 
 pub settle-spec : {M : Type 1} → statement M
 settle-spec =

@@ -27,16 +27,38 @@ enum-told-2 : tie.Need-enum-told-2 Inv-loop μ-loop
 enum-told-2 c = search needs
 
 loop-less : tie.Need-loop-less Inv-loop μ-loop
-loop-less c = rounded-less (c .before .before .before .before .before .before .before .args .list) (c .before .before .before .before .before .before .before .args .windows) (c .before .before .before .before .before .before .loop .now) (c .before .before .before .before .before .before .loop .moves) (c .before .before .before .before .before .before .loop .inv) (c .before .before .before .before .before .one-round .result) (c .before .before .before .before .before .one-round .ensures) (c .before .before .before .enum-told .given .1) (c .before .if1 .left)
+loop-less c =
+    let args = c .before .before .before .before .before .before .before .args in
+    let loop = c .before .before .before .before .before .before .loop in
+    let one-round = c .before .before .before .before .before .one-round in
+    let enum-told = c .before .before .before .enum-told in
+    rounded-less (args .list) (args .windows) (loop .now) (loop .moves) (loop .inv) (one-round .result) (one-round .ensures)
+    (enum-told .given .1) (c .before .if1 .left)
 
 loop-again : tie.Need-loop-again Inv-loop μ-loop
-loop-again c = rounded-next (c .before .before .before .before .before .before .before .args .list) (c .before .before .before .before .before .before .before .args .windows) (c .before .before .before .before .before .before .loop .now) (c .before .before .before .before .before .before .loop .moves) (c .before .before .before .before .before .before .loop .inv) (c .before .before .before .before .before .one-round .result) (c .before .before .before .before .before .one-round .ensures) (c .before .before .before .enum-told .given .1) (c .before .if1 .left)
+loop-again c =
+    let args = c .before .before .before .before .before .before .before .args in
+    let loop = c .before .before .before .before .before .before .loop in
+    let one-round = c .before .before .before .before .before .one-round in
+    let enum-told = c .before .before .before .enum-told in
+    rounded-next (args .list) (args .windows) (loop .now) (loop .moves) (loop .inv) (one-round .result) (one-round .ensures)
+    (enum-told .given .1) (c .before .if1 .left)
 
 returns : tie.Need-returns Inv-loop μ-loop
-returns c = rounded-stopped (c .before .before .before .before .args .list) (c .before .before .before .before .args .windows) (c .before .before .before .loop .now) (c .before .before .before .loop .moves) (c .before .before .before .loop .inv) (c .before .before .one-round .result) (c .before .before .one-round .ensures) _ (c .enum-told2 .given .1)
+returns c =
+    let args = c .before .before .before .before .args in
+    let loop = c .before .before .before .loop in
+    let one-round = c .before .before .one-round in
+    rounded-stopped (args .list) (args .windows) (loop .now) (loop .moves) (loop .inv) (one-round .result) (one-round .ensures) _
+    (c .enum-told2 .given .1)
 
 returns-2 : tie.Need-returns-2 Inv-loop μ-loop
-returns-2 c = rounded-last (c .before .before .before .before .before .before .args .list) (c .before .before .before .before .before .before .args .windows) (c .before .before .before .before .before .loop .now) (c .before .before .before .before .before .loop .moves) (c .before .before .before .before .before .loop .inv) (c .before .before .before .before .one-round .result) (c .before .before .before .before .one-round .ensures) (c .before .before .enum-told .given .1) (c .if1 .taken)
+returns-2 c =
+    let args = c .before .before .before .before .before .before .args in
+    let loop = c .before .before .before .before .before .loop in
+    let one-round = c .before .before .before .before .one-round in
+    rounded-last (args .list) (args .windows) (loop .now) (loop .moves) (loop .inv) (one-round .result) (one-round .ensures)
+    (c .before .before .enum-told .given .1) (c .if1 .taken)
 
 pub all-rounds-spec : {M : Type 1} → statement M
 all-rounds-spec =

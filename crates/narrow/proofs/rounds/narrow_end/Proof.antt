@@ -22,7 +22,9 @@ refused-at-requires : tie.Need-refused-at-requires
 refused-at-requires c κs = search needs
 
 returns : tie.Need-returns
-returns c = c .refused-at .ensures ∙ sym (end-refused overloadOf _ _ _ (sym (rw (c .before .enum-told .given .1) at (c .before .before .before .greatest-end .ensures))))
+returns c =
+    let greatest-end = c .before .before .before .greatest-end in
+    c .refused-at .ensures ∙ sym (end-refused overloadOf _ _ _ (sym (rw (c .before .enum-told .given .1) at (greatest-end .ensures))))
 
 mul-next : tie.Need-mul-next
 mul-next c = search needs
@@ -40,10 +42,21 @@ moved-from-requires : tie.Need-moved-from-requires
 moved-from-requires c κs = search needs
 
 add-t18 : tie.Need-add-t18
-add-t18 c = omega (arith, c .moved-from .ensures, moved-one (getD (c .before .before .before .before .before .before .args .t1 .d) (c .before .before .before .before .before .before .args .k) 0) (c .before .before .before .e .given .0 .0), c .before .before .before .before .before .before .pre .1)
+add-t18 c =
+    let pre = c .before .before .before .before .before .before .pre in
+    let args = c .before .before .before .before .before .before .args in
+    let e = c .before .before .before .e in
+    omega (arith, c .moved-from .ensures, moved-one (getD (args .t1 .d) (args .k) 0) (e .given .0 .0), pre .1)
 
 returns-2 : tie.Need-returns-2
-returns-2 c = let long : length (c .before .before .before .before .before .before .args .t1 .d) ≡ 64 = search needs in placed-d (c .before .before .before .before .before .before .args .t1) (c .before .before .before .before .before .before .args .moves) (c .before .before .before .before .before .before .args .k) _ _ (omega (arith, long, c .before .before .before .before .before .before .pre .0 .place)) (c .moved-from .ensures) (sym (rw (c .before .before .before .e .given .1) at (c .before .before .before .before .before .greatest-end .ensures)))
+returns-2 c =
+    let pre = c .before .before .before .before .before .before .pre in
+    let args = c .before .before .before .before .before .before .args in
+    let greatest-end = c .before .before .before .before .before .greatest-end in
+    let e = c .before .before .before .e in
+    let long : length (args .t1 .d) ≡ 64 = search needs in
+    placed-d (args .t1) (args .moves) (args .k) _ _ (omega (arith, long, pre .0 .place)) (c .moved-from .ensures)
+    (sym (rw (e .given .1) at (greatest-end .ensures)))
 
 pub narrow-end-spec : {M : Type 1} → statement M
 narrow-end-spec =

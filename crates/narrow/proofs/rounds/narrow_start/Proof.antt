@@ -22,7 +22,9 @@ refused-at-requires : tie.Need-refused-at-requires
 refused-at-requires c κs = search needs
 
 returns : tie.Need-returns
-returns c = c .refused-at .ensures ∙ sym (start-refused overloadOf _ _ _ (sym (rw (c .before .enum-told .given .1) at (c .before .before .before .least-start .ensures))))
+returns c =
+    let least-start = c .before .before .before .least-start in
+    c .refused-at .ensures ∙ sym (start-refused overloadOf _ _ _ (sym (rw (c .before .enum-told .given .1) at (least-start .ensures))))
 
 mul-next : tie.Need-mul-next
 mul-next c = search needs
@@ -40,10 +42,21 @@ moved-from-requires : tie.Need-moved-from-requires
 moved-from-requires c κs = search needs
 
 add-t18 : tie.Need-add-t18
-add-t18 c = omega (arith, c .moved-from .ensures, moved-one (getD (c .before .before .before .before .before .before .args .t1 .r) (c .before .before .before .before .before .before .args .k) 0) (c .before .before .before .s .given .0 .0), c .before .before .before .before .before .before .pre .1)
+add-t18 c =
+    let pre = c .before .before .before .before .before .before .pre in
+    let args = c .before .before .before .before .before .before .args in
+    let s = c .before .before .before .s in
+    omega (arith, c .moved-from .ensures, moved-one (getD (args .t1 .r) (args .k) 0) (s .given .0 .0), pre .1)
 
 returns-2 : tie.Need-returns-2
-returns-2 c = let long : length (c .before .before .before .before .before .before .args .t1 .r) ≡ 64 = search needs in placed-r (c .before .before .before .before .before .before .args .t1) (c .before .before .before .before .before .before .args .moves) (c .before .before .before .before .before .before .args .k) _ _ (omega (arith, long, c .before .before .before .before .before .before .pre .0 .place)) (c .moved-from .ensures) (sym (rw (c .before .before .before .s .given .1) at (c .before .before .before .before .before .least-start .ensures)))
+returns-2 c =
+    let pre = c .before .before .before .before .before .before .pre in
+    let args = c .before .before .before .before .before .before .args in
+    let least-start = c .before .before .before .before .before .least-start in
+    let s = c .before .before .before .s in
+    let long : length (args .t1 .r) ≡ 64 = search needs in
+    placed-r (args .t1) (args .moves) (args .k) _ _ (omega (arith, long, pre .0 .place)) (c .moved-from .ensures)
+    (sym (rw (s .given .1) at (least-start .ensures)))
 
 pub narrow-start-spec : {M : Type 1} → statement M
 narrow-start-spec =

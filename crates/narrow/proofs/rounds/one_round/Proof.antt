@@ -16,6 +16,10 @@ Inv-loop moves list now₀ count k₀ now k = Visited list (stateOf (now₀ .win
 abbrev μ-loop : tie.MeasureT-loop
 μ-loop moves list now₀ count k₀ now k = count - k
 
+-- the array has 64 entries
+long : (c : tie.Start Inv-loop μ-loop) → length (c .args .t1 .entries) ≡ 64
+long c = search (needs, length-mapped)
+
 cast-count : tie.Need-cast-count Inv-loop μ-loop
 cast-count c = search needs
 
@@ -32,7 +36,13 @@ is-whole-requires : tie.Need-is-whole-requires Inv-loop μ-loop
 is-whole-requires c κs = search needs
 
 visit-requires : tie.Need-visit-requires Inv-loop μ-loop
-visit-requires c κs = (next-ready (c .before .before .before .before .args .t1) (c .before .before .before .before .args .windows) (c .before .before .before .before .args .moves) (c .before .before .before .before .pre) (c .before .before .before .loop .now) (c .before .before .before .loop .k) (c .before .before .before .loop .inv) (c .before .before .loop-test .taken), next-few (c .before .before .before .before .args .t1) (c .before .before .before .before .args .windows) (c .before .before .before .before .args .moves) (c .before .before .before .before .pre) (c .before .before .before .loop .now) (c .before .before .before .loop .k) (c .before .before .before .loop .inv) (c .before .before .loop-test .taken))
+visit-requires c κs =
+    let start = c .before .before .before .before in
+    let loop = c .before .before .before .loop in
+    let taken = c .before .before .loop-test .taken in (
+      next-ready (start .args .t1) (start .args .windows) (start .args .moves) (start .pre) (loop .now) (loop .k) (loop .inv) taken,
+      next-few (start .args .t1) (start .args .windows) (start .args .moves) (start .pre) (loop .now) (loop .k) (loop .inv) taken,
+    )
 
 enum-told : tie.Need-enum-told Inv-loop μ-loop
 enum-told c = search needs
@@ -41,7 +51,15 @@ enum-told-2 : tie.Need-enum-told-2 Inv-loop μ-loop
 enum-told-2 c = search needs
 
 returns : tie.Need-returns Inv-loop μ-loop
-returns c = let long : length (c .before .before .before .before .before .before .before .args .t1 .entries) ≡ 64 = search (needs, length-mapped) in visited-stopped (c .before .before .before .before .before .before .before .args .t1) (c .before .before .before .before .before .before .before .args .windows) (c .before .before .before .before .before .before .before .args .moves) (c .before .before .before .before .before .before .before .pre) (c .before .before .before .before .before .before .loop .now) (c .before .before .before .before .before .before .loop .k) (c .before .before .before .before .before .before .loop .inv) (c .before .before .before .before .before .loop-test .taken) long (c .before .before .before .is-whole .result) (c .before .before .before .is-whole .ensures) (c .before .before .visit .result) (c .before .before .visit .ensures) _ (c .enum-told2 .given .1)
+returns c =
+    let start = c .before .before .before .before .before .before .before in
+    let args = start .args in
+    let loop = c .before .before .before .before .before .before .loop in
+    let taken = c .before .before .before .before .before .loop-test .taken in
+    let is-whole = c .before .before .before .is-whole in
+    let visit = c .before .before .visit in
+    visited-stopped (args .t1) (args .windows) (args .moves) (start .pre) (loop .now) (loop .k) (loop .inv) taken (long start) _ (is-whole .ensures)
+    (visit .result) (visit .ensures) _ (c .enum-told2 .given .1)
 
 add-k : tie.Need-add-k Inv-loop μ-loop
 add-k c = search needs
@@ -50,10 +68,21 @@ loop-less : tie.Need-loop-less Inv-loop μ-loop
 loop-less c = search needs
 
 loop-again : tie.Need-loop-again Inv-loop μ-loop
-loop-again c = let long : length (c .before .before .before .before .before .before .before .args .t1 .entries) ≡ 64 = search (needs, length-mapped) in visited-next (c .before .before .before .before .before .before .before .args .t1) (c .before .before .before .before .before .before .before .args .windows) (c .before .before .before .before .before .before .before .args .moves) (c .before .before .before .before .before .before .before .pre) (c .before .before .before .before .before .before .loop .now) (c .before .before .before .before .before .before .loop .k) (c .before .before .before .before .before .before .loop .inv) (c .before .before .before .before .before .loop-test .taken) long (c .before .before .before .is-whole .result) (c .before .before .before .is-whole .ensures) (c .before .before .visit .result) (c .before .before .visit .ensures) (c .enum-told .given .1)
+loop-again c =
+    let start = c .before .before .before .before .before .before .before in
+    let args = start .args in
+    let loop = c .before .before .before .before .before .before .loop in
+    let taken = c .before .before .before .before .before .loop-test .taken in
+    let is-whole = c .before .before .before .is-whole in
+    let visit = c .before .before .visit in
+    visited-next (args .t1) (args .windows) (args .moves) (start .pre) (loop .now) (loop .k) (loop .inv) taken (long start) _ (is-whole .ensures)
+    (visit .result) (visit .ensures) (c .enum-told .given .1)
 
 returns-2 : tie.Need-returns-2 Inv-loop μ-loop
-returns-2 c = visited-all (c .before .before .args .t1) (c .before .before .args .windows) (c .before .before .args .moves) (c .before .before .pre) (c .before .loop .now) (c .before .loop .k) (c .before .loop .inv) (c .loop-test .left)
+returns-2 c =
+    let args = c .before .before .args in
+    let loop = c .before .loop in
+    visited-all (args .t1) (args .windows) (args .moves) (c .before .before .pre) (loop .now) (loop .k) (loop .inv) (c .loop-test .left)
 
 pub one-round-spec : {M : Type 1} → statement M
 one-round-spec =

@@ -20,13 +20,38 @@ enum-told-2 : tie.Need-enum-told-2
 enum-told-2 c = search needs
 
 returns-2 : tie.Need-returns-2
-returns-2 c = visit-stopped (c .before .before .before .before .args .windows) (c .before .before .before .before .args .moves) (c .before .before .before .before .args .k) (c .before .before .before .before .pre .0) (c .before .before .before .before .args .whole) (not-false (c .before .before .before .before .args .whole) (c .before .before .before .if1 .left)) (c .before .before .narrow-start .result) (c .before .before .narrow-start .ensures) _ (c .enum-told2 .given .1)
+returns-2 c =
+    let pre = c .before .before .before .before .pre in
+    let args = c .before .before .before .before .args in
+    let if1 = c .before .before .before .if1 in
+    let narrow-start = c .before .before .narrow-start in
+    visit-stopped (args .windows) (args .moves) (args .k) (pre .0) (args .whole) (not-false (args .whole) (if1 .left))
+    (narrow-start .result) (narrow-start .ensures) _ (c .enum-told2 .given .1)
 
 narrow-end-requires : tie.Need-narrow-end-requires
-narrow-end-requires c κs = (visit-on (c .before .before .before .before .args .windows) (c .before .before .before .before .args .moves) (c .before .before .before .before .args .k) (c .before .before .before .before .pre .0) (c .before .before .before .before .args .whole) (not-false (c .before .before .before .before .args .whole) (c .before .before .before .if1 .left)) (c .before .before .narrow-start .result) (c .before .before .narrow-start .ensures) (c .enum-told .given .1), omega (arith, visit-moves (c .before .before .before .before .args .windows) (c .before .before .before .before .args .moves) (c .before .before .before .before .args .k) (c .before .before .before .before .pre .0) (c .before .before .before .before .args .whole) (not-false (c .before .before .before .before .args .whole) (c .before .before .before .if1 .left)) (c .before .before .narrow-start .result) (c .before .before .narrow-start .ensures) (c .enum-told .given .1), c .before .before .before .before .pre .1))
+narrow-end-requires c κs =
+    let pre = c .before .before .before .before .pre in
+    let args = c .before .before .before .before .args in
+    let if1 = c .before .before .before .if1 in
+    let narrow-start = c .before .before .narrow-start in (
+      visit-on (args .windows) (args .moves) (args .k) (pre .0) (args .whole) (not-false (args .whole) (if1 .left)) (narrow-start .result)
+          (narrow-start .ensures) (c .enum-told .given .1),
+      omega (
+        arith,
+        visit-moves (args .windows) (args .moves) (args .k) (pre .0) (args .whole) (not-false (args .whole) (if1 .left))
+            (narrow-start .result) (narrow-start .ensures) (c .enum-told .given .1),
+        pre .1,
+      ),
+    )
 
 returns-3 : tie.Need-returns-3
-returns-3 c = visit-ends (c .before .before .before .before .before .args .windows) (c .before .before .before .before .before .args .moves) (c .before .before .before .before .before .args .k) (c .before .before .before .before .before .pre .0) (c .before .before .before .before .before .args .whole) (not-false (c .before .before .before .before .before .args .whole) (c .before .before .before .before .if1 .left)) (c .before .before .before .narrow-start .result) (c .before .before .before .narrow-start .ensures) (c .before .enum-told .given .1) (c .narrow-end .result) (c .narrow-end .ensures)
+returns-3 c =
+    let pre = c .before .before .before .before .before .pre in
+    let args = c .before .before .before .before .before .args in
+    let if1 = c .before .before .before .before .if1 in
+    let narrow-start = c .before .before .before .narrow-start in
+    visit-ends (args .windows) (args .moves) (args .k) (pre .0) (args .whole) (not-false (args .whole) (if1 .left)) (narrow-start .result)
+    (narrow-start .ensures) (c .before .enum-told .given .1) (c .narrow-end .result) (c .narrow-end .ensures)
 
 pub visit-spec : {M : Type 1} → statement M
 visit-spec =

@@ -9,22 +9,42 @@ mirrored-requires : tie.Need-mirrored-requires
 mirrored-requires c κs = search needs
 
 least-start-requires : tie.Need-least-start-requires
-least-start-requires c κs = mirror-searchable (c .before .args .windows) (c .mirrored .result) (c .before .args .k) (c .mirrored .ensures .windows) (c .before .pre)
+least-start-requires c κs =
+    let args = c .before .args in
+    mirror-searchable (args .windows) (c .mirrored .result) (args .k) (c .mirrored .ensures .windows) (c .before .pre)
 
 enum-known-found : tie.Need-enum-known-found
 enum-known-found c = search needs
 
 sub-t7 : tie.Need-sub-t7
-sub-t7 c = mirror-in-day (c .before .before .before .before .before .before .args .windows) (c .before .before .before .before .before .mirrored .result) (c .before .before .before .before .before .before .args .k) (c .before .before .before .before .before .mirrored .ensures .windows) (c .before .before .before .before .before .before .pre) (c .before .before .before .before .least-start .result) (c .before .before .before .before .least-start .ensures) _ (c .before .before .found .given .1)
+sub-t7 c =
+    let pre = c .before .before .before .before .before .before .pre in
+    let args = c .before .before .before .before .before .before .args in
+    let mirrored = c .before .before .before .before .before .mirrored in
+    let least-start = c .before .before .before .before .least-start in
+    mirror-in-day (args .windows) (mirrored .result) (args .k) (mirrored .ensures .windows) pre (least-start .result)
+    (least-start .ensures) _ (c .before .before .found .given .1)
 
 enum-told : tie.Need-enum-told
 enum-told c = search needs
 
 returns : tie.Need-returns
-returns c = mirror-found (c .before .before .before .before .before .before .args .windows) (c .before .before .before .before .before .mirrored .result) (c .before .before .before .before .before .before .args .k) (c .before .before .before .before .before .mirrored .ensures .windows) (c .before .before .before .before .before .before .pre) (c .before .before .before .before .least-start .result) (c .before .before .before .before .least-start .ensures) _ (c .before .before .found .given .1)
+returns c =
+    let pre = c .before .before .before .before .before .before .pre in
+    let args = c .before .before .before .before .before .before .args in
+    let mirrored = c .before .before .before .before .before .mirrored in
+    let least-start = c .before .before .before .before .least-start in
+    mirror-found (args .windows) (mirrored .result) (args .k) (mirrored .ensures .windows) pre (least-start .result)
+    (least-start .ensures) _ (c .before .before .found .given .1)
 
 returns-2 : tie.Need-returns-2
-returns-2 c = mirror-none (c .before .before .before .before .args .windows) (c .before .before .before .mirrored .result) (c .before .before .before .before .args .k) (c .before .before .before .mirrored .ensures .windows) (c .before .before .before .before .pre) (c .before .before .least-start .result) (c .before .before .least-start .ensures) (c .enum-told .given .1)
+returns-2 c =
+    let pre = c .before .before .before .before .pre in
+    let args = c .before .before .before .before .args in
+    let mirrored = c .before .before .before .mirrored in
+    let least-start = c .before .before .least-start in
+    mirror-none (args .windows) (mirrored .result) (args .k) (mirrored .ensures .windows) pre (least-start .result) (least-start .ensures)
+    (c .enum-told .given .1)
 
 pub greatest-end-spec : {M : Type 1} → statement M
 greatest-end-spec =

@@ -40,7 +40,14 @@ is-accepted-requires : tie.Need-is-accepted-requires
 is-accepted-requires c κs = search needs
 
 returns : tie.Need-returns
-returns c = let a : length (c .before .before .before .args .t1 .r) ≡ 64 = search needs in let b : length (c .before .before .before .args .t1 .d) ≡ 64 = search needs in c .is-accepted .ensures ∙ ap (λ (o : Outcome (Unit {0})). accepts o) (c .before .untested-overload .ensures) ∙ ap (λ (w : Windows). accepts (overloadOf w)) (held-fixed (c .before .before .before .args .t1) (c .before .before .before .args .k) (c .before .before .before .args .s) (omega (arith, a, c .before .before .before .pre .0 .place)) (omega (arith, b, c .before .before .before .pre .0 .place)))
+returns c =
+    let pre = c .before .before .before .pre in
+    let args = c .before .before .before .args in
+    let a : length (args .t1 .r) ≡ 64 = search needs in
+    let b : length (args .t1 .d) ≡ 64 = search needs in
+    c .is-accepted .ensures ∙ ap (λ (o : Outcome (Unit {0})). accepts o) (c .before .untested-overload .ensures) ∙ ap
+    (λ (w : Windows). accepts (overloadOf w))
+    (held-fixed (args .t1) (args .k) (args .s) (omega (arith, a, pre .0 .place)) (omega (arith, b, pre .0 .place)))
 
 pub has-plan-at-spec : {M : Type 1} → statement M
 has-plan-at-spec =

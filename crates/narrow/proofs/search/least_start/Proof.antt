@@ -46,25 +46,37 @@ cast-if1-3 : tie.Need-cast-if1-3 Inv-loop μ-loop
 cast-if1-3 c = search needs
 
 add-if1 : tie.Need-add-if1 Inv-loop μ-loop
-add-if1 c = search (needs, c .before .before .before .before .pre .formed .in-day _ (c .before .before .before .before .pre .place), c .before .before .before .before .pre .formed .room _ (c .before .before .before .before .pre .place))
+add-if1 c =
+    let pre = c .before .before .before .before .pre in
+    search (needs, pre .formed .in-day _ (pre .place), pre .formed .room _ (pre .place))
 
 has-plan-at-requires : tie.Need-has-plan-at-requires Inv-loop μ-loop
-has-plan-at-requires c κs = search (needs, c .before .before .before .before .before .pre .formed .in-day _ (c .before .before .before .before .before .pre .place))
+has-plan-at-requires c κs =
+    let pre = c .before .before .before .before .before .pre in
+    search (needs, pre .formed .in-day _ (pre .place))
 
 add-s : tie.Need-add-s Inv-loop μ-loop
-add-s c = search (needs, c .before .before .before .before .before .before .before .pre .formed .minutes _ (c .before .before .before .before .before .before .before .pre .place), c .before .before .before .before .before .before .before .pre .formed .in-day _ (c .before .before .before .before .before .before .before .pre .place))
+add-s c =
+    let pre = c .before .before .before .before .before .before .before .pre in
+    search (needs, pre .formed .minutes _ (pre .place), pre .formed .in-day _ (pre .place))
 
 loop-less : tie.Need-loop-less Inv-loop μ-loop
 loop-less c = search needs
 
 loop-again : tie.Need-loop-again Inv-loop μ-loop
-loop-again c = tried-next _ _ _ _ (c .before .before .before .loop .inv) (c .before .before .before .before .before .before .before .pre .formed .minutes _ (c .before .before .before .before .before .before .before .pre .place)) (c .before .before .if1 .left) (sym (c .before .has-plan-at .ensures) ∙ c .if2 .left)
+loop-again c =
+    let pre = c .before .before .before .before .before .before .before .pre in
+    let loop = c .before .before .before .loop in
+    tried-next _ _ _ _ (loop .inv) (pre .formed .minutes _ (pre .place)) (c .before .before .if1 .left)
+    (sym (c .before .has-plan-at .ensures) ∙ c .if2 .left)
 
 returns : tie.Need-returns Inv-loop μ-loop
 returns c = sym (tried-all _ _ _ _ (c .before .loop .inv) (c .if1 .taken))
 
 returns-2 : tie.Need-returns-2 Inv-loop μ-loop
-returns-2 c = sym (tried-found _ _ _ _ (c .before .before .before .loop .inv) (c .before .before .if1 .left) (sym (c .before .has-plan-at .ensures) ∙ c .if2 .taken))
+returns-2 c =
+    let loop = c .before .before .before .loop in
+    sym (tried-found _ _ _ _ (loop .inv) (c .before .before .if1 .left) (sym (c .before .has-plan-at .ensures) ∙ c .if2 .taken))
 
 pub least-start-spec : {M : Type 1} → statement M
 least-start-spec =

@@ -15,7 +15,10 @@ advanced-requires : tie.Need-advanced-requires
 advanced-requires c κs = search needs
 
 returns-2 : tie.Need-returns-2
-returns-2 c = advances-on (c .before .before .before .before .before .args .self) (c .advanced .result) (c .before .choice .result) (c .before .before .if1 .left) (c .before .choice .ensures) (c .advanced .ensures)
+returns-2 c =
+    let args = c .before .before .before .before .before .args in
+    let choice = c .before .choice in
+    advances-on (args .self) (c .advanced .result) (choice .result) (c .before .before .if1 .left) (choice .ensures) (c .advanced .ensures)
 
 pub minute-spec : {M : Type 1} → statement M
 minute-spec = tie.close (tie.spec returns choice-requires advanced-requires returns-2)
