@@ -30,9 +30,7 @@ fn loose() -> FullDay {
 
 /// So little work that a schedule from minute to minute is done early.
 fn light() -> FullDay {
-    let wholes = Vec::from_iter(0..MOST_ENTRIES);
-    let entries = [(0, LONGEST_DAY, 1); MOST_ENTRIES];
-    let day = samples::whole(samples::windows(LONGEST_DAY, &entries), &wholes);
+    let day = samples::all_whole(samples::windows(LONGEST_DAY, &[(0, LONGEST_DAY, 1); MOST_ENTRIES]));
     full("light", "64 whole [0,1440) p 1", 0, day)
 }
 

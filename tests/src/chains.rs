@@ -42,8 +42,7 @@ pub fn settled_one_by_one(n: usize, p: u16) -> (Day, Day) {
     let Chain { mut entries, mut settled, .. } = chain(h, n, p);
     entries.reverse();
     settled.reverse();
-    let places: Vec<_> = (0..n).collect();
-    let day = |entries: &[_]| samples::whole(samples::windows(h, entries), &places);
+    let day = |entries: &[_]| samples::all_whole(samples::windows(h, entries));
     (day(&entries), day(&settled))
 }
 

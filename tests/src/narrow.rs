@@ -93,14 +93,14 @@ pub fn step(day: &mut Day, place: usize, side: Side) -> Result<bool, Refusal> {
 
 /// "the least s, from its r up, with s + p at most its d, for which a plan exists when its window is [s, s +
 /// p) and the others keep theirs"
-pub fn least_start(day: &Day, place: usize) -> Option<u16> {
+fn least_start(day: &Day, place: usize) -> Option<u16> {
     let entry = &day.entries[place];
     (entry.r..=entry.d - entry.p).find(|&s| has_plan_from(day, place, s))
 }
 
 /// "the greatest e, from its d down, with the r just found plus p at most e, for which a plan exists when its
 /// window is [e - p, e) and the others keep theirs"
-pub fn greatest_end(day: &Day, place: usize) -> Option<u16> {
+fn greatest_end(day: &Day, place: usize) -> Option<u16> {
     let entry = &day.entries[place];
     (entry.r + entry.p..=entry.d).rev().find(|&e| has_plan_from(day, place, e - entry.p))
 }

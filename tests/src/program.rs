@@ -1,14 +1,15 @@
 //! The report program as it is built, run from the outside with something to read on its standard input.
 
+use crate::cases::root;
 use std::io::{ErrorKind, Read, Write};
-use std::path::{Path, PathBuf};
+use std::path::PathBuf;
 use std::process::{Child, ChildStdin, Command, Stdio};
 use std::thread;
 use std::time::{Duration, Instant};
 
 /// Where the program is built.
 fn path() -> PathBuf {
-    Path::new(env!("CARGO_MANIFEST_DIR")).join("../target/bin/dock")
+    root().join("target/bin/dock")
 }
 
 /// Starts the program. Without it no test of it can pass.

@@ -29,6 +29,12 @@ pub fn whole(mut day: Day, places: &[usize]) -> Day {
     day
 }
 
+/// The same list with all its entries whole.
+pub fn all_whole(mut day: Day) -> Day {
+    day.entries.iter_mut().for_each(|entry| entry.whole = true);
+    day
+}
+
 /// The same list with these serials.
 pub fn with_serials(mut day: Day, serials: &[u32]) -> Day {
     assert_eq!(day.entries.len(), serials.len());

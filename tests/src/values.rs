@@ -183,13 +183,13 @@ fn empty_window(refused: Refused) {
 }
 
 fn first_wrong_entry(refused: Refused) {
-    let (right, idle, wide) = ([0, 100, 1], [0, 100, 0], [0, 100, 101]);
-    refused(day(&[wide, idle]), 7, 0);
-    refused(day(&[idle, wide]), 6, 0);
-    refused(day(&[right, wide]), 7, 1);
-    refused(day(&[right, idle]), 6, 1);
-    refused(day(&[right, wide, idle]), 7, 1);
-    refused(day(&[right, idle, wide]), 6, 1);
+    let (right, no_minutes, too_long) = ([0, 100, 1], [0, 100, 0], [0, 100, 101]);
+    refused(day(&[too_long, no_minutes]), 7, 0);
+    refused(day(&[no_minutes, too_long]), 6, 0);
+    refused(day(&[right, too_long]), 7, 1);
+    refused(day(&[right, no_minutes]), 6, 1);
+    refused(day(&[right, too_long, no_minutes]), 7, 1);
+    refused(day(&[right, no_minutes, too_long]), 6, 1);
 }
 
 /// Numbers too large for their field get the refusal that the number itself would get.

@@ -4,14 +4,8 @@
 use dock_tests::abi::Call;
 use dock_tests::check_bounds::{ask, asked, calls, refused};
 use dock_tests::day::{Day, IDLE, LONGEST_DAY, MOST_ENTRIES};
-use dock_tests::samples::{self, boxes, plan, whole, windows};
+use dock_tests::samples::{self, all_whole, boxes, plan, whole, windows};
 use dock_tests::{chains, flat};
-
-/// The same list with all its entries whole.
-fn all_whole(day: Day) -> Day {
-    let n = day.entries.len();
-    whole(day, &Vec::from_iter(0..n))
-}
 
 /// The same list with its entries all pause, and all whole.
 fn of_either_kind(day: Day) -> [Day; 2] {

@@ -1,6 +1,8 @@
 //! The links of the pages, README and those under docs/ and samples/, lead to files; the lines that they name
-//! declare what they say; and the numbers of lines that docs/ARCHITECTURE.md counts are those of the files.
+//! declare what they say; the numbers of lines that docs/ARCHITECTURE.md counts are those of the files; and
+//! the report that README shows is the sample's.
 
+use dock_tests::cases::root;
 use std::fs;
 use std::path::{Path, PathBuf};
 
@@ -13,10 +15,6 @@ struct Link {
     before: String,
     file: PathBuf,
     line: Option<usize>,
-}
-
-fn root() -> PathBuf {
-    Path::new(env!("CARGO_MANIFEST_DIR")).join("..")
 }
 
 fn text_of(file: &Path) -> String {

@@ -2,12 +2,12 @@
 //! and minutes of the first n entries make the plan and the interval.
 
 use dock_tests::abi::{self, Answer};
-use dock_tests::check::{overloaded, planned};
-use dock_tests::day::{Day, Interval};
+use dock_tests::check::planned;
+use dock_tests::day::Day;
 use dock_tests::flat::{self, Fields};
 use dock_tests::ignored::{self, SEAL, SERIAL, STANDS, WHOLE};
 use dock_tests::random::{self, Random};
-use dock_tests::samples::{plan, windows};
+use dock_tests::samples::{all_whole, plan, windows};
 
 /// What both calls say of a value, and what the plan's buffer then holds.
 fn said(fields: &Fields) -> (Answer, Answer, Vec<u8>) {
@@ -105,25 +105,17 @@ fn an_empty_list_before_sixty_four_places_of_junk() {
     }
 }
 
-/// The same day with all entries whole.
-fn whole(mut day: Day) -> Day {
-    day.entries.iter_mut().for_each(|entry| entry.whole = true);
-    day
-}
-
 /// "A plan may break a whole entry": a whole entry is interrupted like any other.
 #[test]
 fn a_whole_entry_is_interrupted_too() {
-    assert_eq!(planned(&whole(windows(4, &[(0, 4, 2), (1, 3, 1)]))), plan("0 1 0 -"));
-    assert_eq!(planned(&whole(windows(6, &[(1, 5, 2), (0, 6, 3)]))), plan("1 0 0 1 1 -"));
+    assert_eq!(planned(&all_whole(windows(4, &[(0, 4, 2), (1, 3, 1)]))), plan("0 1 0 -"));
+    assert_eq!(planned(&all_whole(windows(6, &[(1, 5, 2), (0, 6, 3)]))), plan("1 0 0 1 1 -"));
 }
 
 /// The windows are planned as they are given: no whole entry's window is narrowed first, and a list that
 /// narrowing would refuse has its plan.
 #[test]
 fn windows_of_whole_entries_are_not_narrowed() {
-    assert_eq!(planned(&whole(windows(5, &[(1, 5, 2), (1, 3, 1), (0, 5, 2)]))), plan("2 1 0 0 2"));
-    assert_eq!(planned(&whole(windows(3, &[(0, 3, 2), (1, 2, 1)]))), plan("0 1 0"));
-    let refused = whole(windows(3, &[(0, 2, 2), (1, 3, 2)]));
-    assert_eq!(overloaded(&refused), Interval { a: 0, b: 3, work: 4 });
+    assert_eq!(planned(&all_whole(windows(5, &[(1, 5, 2), (1, 3, 1), (0, 5, 2)]))), plan("2 1 0 0 2"));
+    assert_eq!(planned(&all_whole(windows(3, &[(0, 3, 2), (1, 2, 1)]))), plan("0 1 0"));
 }

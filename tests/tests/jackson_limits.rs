@@ -72,7 +72,7 @@ fn sixty_four_entries_against_their_places() {
 }
 
 #[test]
-fn sixty_four_entries_fill_the_longest_day() {
+fn sixty_four_entries_of_22_minutes_in_the_longest_day() {
     let bytes = planned(&windows(LONGEST_DAY, &[(0, 1440, 22); MOST_ENTRIES]));
     let wanted = |minute| if minute < 64 * 22 { (minute / 22) as u8 } else { IDLE };
     assert_eq!(bytes, (0..LONGEST).map(wanted).collect::<Vec<_>>());

@@ -1,28 +1,27 @@
 //! Random days, fixed by their seeds: small ones against trying everything, full ones against the second
 //! planner, and values that may break any rule.
 
+use dock_tests::bounds::is_consecutive;
 use dock_tests::brute;
 use dock_tests::check::{self, number};
 use dock_tests::day::{Day, IDLE, LONGEST_DAY, MOST_ENTRIES};
 use dock_tests::random::{self, Random};
 use dock_tests::values;
 
-/// How many entries a plan breaks.
+/// How many entries a plan breaks, pause entries too.
 fn broken(day: &Day, plan: &[u8]) -> usize {
-    let pieces = |place: usize| {
-        let minutes = brute::minutes_of(plan, place);
-        1 + minutes.windows(2).filter(|pair| pair[0] + 1 != pair[1]).count()
-    };
-    (0..day.entries.len()).filter(|&place| pieces(place) > 1).count()
+    let is_broken = |place: &usize| !is_consecutive(&brute::minutes_of(plan, *place));
+    (0..day.entries.len()).filter(is_broken).count()
 }
 
+/// Whether there is a whole entry, and whether there is a pause entry.
 fn kinds(day: &Day) -> (bool, bool) {
     (day.entries.iter().any(|entry| entry.whole), day.entries.iter().any(|entry| !entry.whole))
 }
 
 /// "A plan exists exactly when no interval is overloaded", with up to 8 minutes and 5 entries of both kinds:
 /// trying everything finds a plan exactly if both calls accept. The schedule is a plan and the second
-/// planner's, and so is the interval shown, which is also the right one of all overloaded ones.
+/// planner's; the interval shown is the second planner's too, and the right one of all overloaded ones.
 #[test]
 fn twenty_thousand_small_days_against_trying_everything() {
     let mut random = Random::new(11);

@@ -6,7 +6,7 @@ use dock_tests::check_narrow::{by_trying_everything, settle, settled, settled_by
 use dock_tests::day::{Day, Entry, Refusal, LONGEST_DAY, MOST_ENTRIES};
 use dock_tests::narrow::{self, Narrowed};
 use dock_tests::random::{self, Random};
-use dock_tests::samples::boxes;
+use dock_tests::samples::{all_whole, boxes};
 use dock_tests::{abi, brute, chains, flat};
 
 /// With minutes to spare there is little to narrow.
@@ -98,9 +98,8 @@ fn full_days_around_a_broken_plan() {
     let mut random = Random::new(124);
     let mut seen = [0; 11];
     for _ in 0..24 {
-        let mut day = random::planned_day(&mut random, LONGEST_DAY, MOST_ENTRIES, 0, &[1, 5, 15, 60]);
-        day.entries.iter_mut().for_each(|entry| entry.whole = true);
-        let answer = settle(&flat::of_day(&day));
+        let day = random::planned_day(&mut random, LONGEST_DAY, MOST_ENTRIES, 0, &[1, 5, 15, 60]);
+        let answer = settle(&flat::of_day(&all_whole(day)));
         seen[number(&answer)] += 1;
     }
     assert!(seen[0] > 10, "{seen:?}");

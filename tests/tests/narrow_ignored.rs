@@ -181,7 +181,7 @@ fn sixty_four_times_the_same_serial() {
     assert!(narrowed == flat::of_day(&same(wanted)), "windows of entries with one serial");
 }
 
-/// Kinds are looked at: as document 01's (a) and (b) differ in one.
+/// Kinds are looked at: document 01's (a) and (b) differ in one.
 #[test]
 fn kinds_are_looked_at() {
     for (entries, moves) in

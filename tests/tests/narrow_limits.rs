@@ -5,12 +5,12 @@ use dock_tests::check_narrow::{no_place, not_settled, round, round_refused};
 use dock_tests::check_narrow::{settle, settled, settled_by_rounds};
 use dock_tests::day::{Day, LONGEST_DAY, MOST_ENTRIES};
 use dock_tests::random::{self, Random};
-use dock_tests::samples::{self, boxes, whole, windows};
+use dock_tests::samples::{self, all_whole, boxes, whole, windows};
 use dock_tests::{abi, chains, flat};
 
 /// A day with these entries, all of them whole.
-fn all_whole(h: u16, entries: &[(u16, u16, u16)]) -> Day {
-    whole(windows(h, entries), &Vec::from_iter(0..entries.len()))
+fn whole_windows(h: u16, entries: &[(u16, u16, u16)]) -> Day {
+    all_whole(windows(h, entries))
 }
 
 /// This list has nothing to move, by either call.
@@ -41,10 +41,10 @@ fn a_day_of_one_minute() {
 #[test]
 fn one_entry_fills_the_day() {
     for h in [1, 2, 255, 256, 1439, 1440] {
-        stays(&all_whole(h, &[(0, h, h)]));
+        stays(&whole_windows(h, &[(0, h, h)]));
         stays(&windows(h, &[(0, h, h)]));
     }
-    let mut fields = flat::of_day(&all_whole(LONGEST_DAY, &[(0, 1440, 1440)]));
+    let mut fields = flat::of_day(&whole_windows(LONGEST_DAY, &[(0, 1440, 1440)]));
     fields[7] = 1441;
     not_settled(&fields, 7, 0);
     round_refused(&fields, 7, 0);
@@ -90,27 +90,31 @@ fn minutes_are_not_reckoned_in_bytes() {
 
 #[test]
 fn sixty_four_whole_entries_that_may_have_any_minutes() {
-    stays(&all_whole(64, &[(0, 64, 1); MOST_ENTRIES]));
-    stays(&all_whole(1408, &[(0, 1408, 22); MOST_ENTRIES]));
-    stays(&all_whole(1440, &[(0, 1440, 22); MOST_ENTRIES]));
-    let refusal = settle(&flat::of_day(&all_whole(63, &[(0, 63, 1); MOST_ENTRIES]))).expect_err("overloaded");
+    stays(&whole_windows(64, &[(0, 64, 1); MOST_ENTRIES]));
+    stays(&whole_windows(1408, &[(0, 1408, 22); MOST_ENTRIES]));
+    stays(&whole_windows(1440, &[(0, 1440, 22); MOST_ENTRIES]));
+    let refusal =
+        settle(&flat::of_day(&whole_windows(63, &[(0, 63, 1); MOST_ENTRIES]))).expect_err("overloaded");
     assert_eq!(refusal.code(), (9, [0, 63, 64]));
 }
 
 #[test]
 fn sixty_four_whole_entries_that_have_no_choice() {
-    stays(&all_whole(64, &Vec::from_iter((0..64).map(|place| (place, place + 1, 1)))));
-    stays(&all_whole(1440, &Vec::from_iter((0..64).rev().map(|place| (22 * place, 22 * place + 22, 22)))));
+    stays(&whole_windows(64, &Vec::from_iter((0..64).map(|place| (place, place + 1, 1)))));
+    stays(&whole_windows(
+        1440,
+        &Vec::from_iter((0..64).rev().map(|place| (22 * place, 22 * place + 22, 22))),
+    ));
 }
 
 /// Each entry may end a minute later than the one before: 63 of them have their r moved, in one round.
 #[test]
 fn sixty_four_whole_entries_in_one_round() {
-    let wanted = all_whole(64, &Vec::from_iter((0..64).map(|place| (place, place + 1, 1))));
-    let day = all_whole(64, &Vec::from_iter((0..64).map(|place| (0, place + 1, 1))));
+    let wanted = whole_windows(64, &Vec::from_iter((0..64).map(|place| (place, place + 1, 1))));
+    let day = whole_windows(64, &Vec::from_iter((0..64).map(|place| (0, place + 1, 1))));
     assert_eq!(settled(&day), (wanted.clone(), 63));
     assert_eq!(round(&flat::of_day(&day)).expect("a round").moves, 63);
-    let day = all_whole(64, &Vec::from_iter((0..64).map(|place| (place, 64, 1))));
+    let day = whole_windows(64, &Vec::from_iter((0..64).map(|place| (place, 64, 1))));
     assert_eq!(settled(&day), (wanted, 63));
 }
 
@@ -131,7 +135,7 @@ fn the_last_of_sixty_four_places() {
 
 #[test]
 fn sixty_five_entries_are_3() {
-    let mut fields = flat::of_day(&all_whole(64, &[(0, 64, 1); MOST_ENTRIES]));
+    let mut fields = flat::of_day(&whole_windows(64, &[(0, 64, 1); MOST_ENTRIES]));
     fields[1] = 65;
     not_settled(&fields, 3, 0);
     round_refused(&fields, 3, 0);

@@ -1,13 +1,9 @@
 //! The command ./dock-report of the repository's root.
 
-use dock_tests::cases::{self, Case};
+use dock_tests::cases::{self, root, Case};
 use std::fs::File;
-use std::path::{Path, PathBuf};
+use std::path::Path;
 use std::process::{Command, Output, Stdio};
-
-fn root() -> PathBuf {
-    Path::new(env!("CARGO_MANIFEST_DIR")).join("..").canonicalize().expect("the repository's root")
-}
 
 fn run(folder: &Path, arguments: &[&str], input: Stdio) -> Output {
     let mut command = Command::new(root().join("dock-report"));

@@ -5,12 +5,12 @@ use dock_tests::cases::{self, Case};
 use dock_tests::day::{Day, Entry};
 use dock_tests::{program, writer};
 use std::fs;
-use std::path::{Path, PathBuf};
+use std::path::PathBuf;
 
 const SAMPLES: [&str; 4] = ["morning", "no-place", "overloaded", "tight"];
 
 fn folder() -> PathBuf {
-    Path::new(env!("CARGO_MANIFEST_DIR")).join("../samples")
+    cases::root().join("samples")
 }
 
 /// The day that a description tells after an empty line, in the form `day 240` and then, for each entry,

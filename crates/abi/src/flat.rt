@@ -27,6 +27,7 @@ fn u8_of(x: u32) -> u8
     if x < 256 { x as u8 } else { 255 }
 }
 
+// The seal that a flag and a number say, and likewise the kind and the entry below. Any flag but 0 stands.
 fn seal_in(flag: u32, number: u32) -> Seal
     ensures { λ s. ⌜ s ≡ sealOf (not (eqb flag 0)) number ⌝ }
 {
@@ -85,7 +86,8 @@ pub(crate) fn list_in(fields: &[u32; 450]) -> DayList
     }
 }
 
-fn seal_present(seal: Seal) -> u32
+// The numbers that say a seal and a kind.
+fn seal_flag(seal: Seal) -> u32
     ensures { λ x. ⌜ x ≡ present seal ⌝ }
 {
     match seal {
@@ -103,7 +105,7 @@ fn seal_number(seal: Seal) -> u32
     }
 }
 
-fn is_whole(kind: Kind) -> u32
+fn whole_flag(kind: Kind) -> u32
     ensures { λ x. ⌜ x ≡ wholeOf kind ⌝ }
 {
     match kind {
@@ -119,12 +121,12 @@ fn put_entry(e: Entry, fields: &mut [u32; 450], at: usize)
     let seal = e.seal;
     let kind = e.kind;
     fields[at] = e.serial;
-    fields[at + 1] = seal_present(seal);
+    fields[at + 1] = seal_flag(seal);
     fields[at + 2] = seal_number(seal);
     fields[at + 3] = e.r as u32;
     fields[at + 4] = e.d as u32;
     fields[at + 5] = e.p as u32;
-    fields[at + 6] = is_whole(kind);
+    fields[at + 6] = whole_flag(kind);
 }
 
 fn zeros() -> [u32; 450]

@@ -11,6 +11,7 @@ fn zeros() -> [u32; 128]
     [0; 128]
 }
 
+// Stores a number for each of the 64 places, from place at of the bounds on.
 fn put_places(xs: [u16; 64], bounds: &mut [u32; 128], at: usize)
     requires { ⌜ at + 64 ≤ 128 ⌝ }
     ensures { λ _. ⌜ now (bounds .exit) ≡ sets (now (bounds .entry)) at xs ⌝ }

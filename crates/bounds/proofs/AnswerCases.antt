@@ -43,7 +43,7 @@ use Rattle.bounds.specs.declared.types.ShownAnswer.{ShownAnswer}
 use Rattle.bounds.proofs.Demands.{demand3}
 use Rattle.bounds.proofs.EndCases.{by-place, searchable-at, formed-in-mirror}
 use Rattle.bounds.proofs.ShownCases.{stored-long, schedule-long}
-use Rattle.bounds.proofs.CallCases.{plan-formed, plan-room, shown-plan, IsSettled, is-settled, settled-few, settled-day, settled-plan, settled-formed-in, place-in-list, day-is, ends-are, starts-are, plan-is, plan-long, plan-held, broken-is, early-bound, early-stored, end-in-day, late-bound, late-stored}
+use Rattle.bounds.proofs.CallCases.{plan-formed, plan-room, shown-plan, shown-formed, IsSettled, is-settled, settled-few, settled-day, settled-plan, settled-formed-in, place-in-list, day-is, ends-are, starts-are, plan-is, plan-long, plan-held, broken-is, early-bound, early-stored, end-in-day, late-bound, late-stored}
 
 -- what is told of place k in the windows w, by the rules
 record AtPlace (whole : ℕ → Bool) (w : Windows) (told : Told) (k : ℕ) : Type 0 where
@@ -63,10 +63,10 @@ windows-told a v = go (a .verdict) refl
 
 -- demand 3 of a call that narrowed after checks that were passed
 module _ (l : DayList) (checks : Outcome (Unit {0})) (a : NarrowAnswer) (after : NarrowsAfter checks l a) where
-  told-truth : (checks ≡ answered tt → WellFormed l) → (told : Told) → told .outcome ≡ narrowedIn a
+  told-demand : (checks ≡ answered tt → WellFormed l) → (told : Told) → told .outcome ≡ narrowedIn a
       → ((settled : IsSettled l checks a) (k : ℕ) → k < windowsOf (a .list) .n → AtPlace (wholeIn l) (windowsOf (a .list)) told k)
       → checks ≡ answered tt → Demand3 (wholeIn l) (windowsOf l) told
-  told-truth formed told is at passed =
+  told-demand formed told is at passed =
       demand3 (wholeIn l) (windowsOf l) (list-formed l (formed passed)) told (is ∙ after .holds .narrowed ∙ rw passed refl)
       (record {
         end = λ v e k h. let z = place v e k h in rw (← same v e) (z .end);
@@ -102,7 +102,7 @@ module _ (l : DayList) (old : List ℕ) (a : PlanAnswer) (new : List ℕ) (after
         starts = starts;
         buffer = buffer;
         demand2 = λ e. plan (is-settled l _ (a .narrowed) after e (plan-formed l (length old)));
-        demand3 = told-truth l _ (a .narrowed) after (plan-formed l (length old)) (toldByPlan a) refl at;
+        demand3 = told-demand l _ (a .narrowed) after (plan-formed l (length old)) (toldByPlan a) refl at;
       }
     where
       whole : ℕ → Bool
@@ -134,9 +134,6 @@ module _ (l : DayList) (k : ℕ) (old : List ℕ) (a : ShownAnswer) (new : List 
   abbrev whole : ℕ → Bool
   whole = wholeIn l
 
-  formed : shownChecks l k (length old) ≡ answered tt → WellFormed l
-  formed passed = plan-formed l (length old) (shown-plan l k (length old) passed .1)
-
   -- the bytes in the buffer are the plan
   front : (m : Windows → List ℕ) → ((w : Windows) → length (m w) ≡ w .h) → new ≡ planned m old (shownOf l k (length old))
       → IsSettled l (shownChecks l k (length old)) (a .narrowed) → take (l .frame .h) new ≡ m (windowsOf (a .narrowed .list))
@@ -150,7 +147,7 @@ module _ (l : DayList) (k : ℕ) (old : List ℕ) (a : ShownAnswer) (new : List 
         holds = after .holds;
         bound = bound;
         buffer = buffer;
-        demand3 = told-truth l _ (a .narrowed) after formed (toldByEarly whole k a (take (l .frame .h) new)) refl at;
+        demand3 = told-demand l _ (a .narrowed) after (shown-formed l k (length old)) (toldByEarly whole k a (take (l .frame .h) new)) refl at;
       }
     where
       at : (settled : IsSettled l (shownChecks l k (length old)) (a .narrowed)) (i : ℕ) → i < windowsOf (a .narrowed .list) .n
@@ -173,7 +170,7 @@ module _ (l : DayList) (k : ℕ) (old : List ℕ) (a : ShownAnswer) (new : List 
         holds = after .holds;
         bound = bound;
         buffer = buffer;
-        demand3 = told-truth l _ (a .narrowed) after formed (toldByLate whole k a (take (l .frame .h) new)) refl at;
+        demand3 = told-demand l _ (a .narrowed) after (shown-formed l k (length old)) (toldByLate whole k a (take (l .frame .h) new)) refl at;
       }
     where
       at : (settled : IsSettled l (shownChecks l k (length old)) (a .narrowed)) (i : ℕ) → i < windowsOf (a .narrowed .list) .n
@@ -194,9 +191,9 @@ module _ (l : DayList) (old : List ℕ) (checks : Verdict) (are : verdictOf chec
   plan-after : NarrowsAfter (planChecks l (length old)) l a
   plan-after = rw are at so
 
-  pub plan-turned : (x : Refusal) → a .verdict ≡ Refused x → (ends starts : List ℕ) → ends ≡ replicate 64 0 → starts ≡ replicate 64 0
+  pub plan-refused : (x : Refusal) → a .verdict ≡ Refused x → (ends starts : List ℕ) → ends ≡ replicate 64 0 → starts ≡ replicate 64 0
       → PlansDay l old (record { narrowed = a; broken = 0; ends = ends; starts = starts }) old
-  plan-turned x e ends starts no-ends no-starts =
+  plan-refused x e ends starts no-ends no-starts =
       let z = refused-so l _ a plan-after x e in
       plans-day l old _ old plan-after (rw z refl) (rw z no-ends) (rw z no-starts) (rw z refl)
 
@@ -233,19 +230,16 @@ module _ (l : DayList) (k : ℕ) (old : List ℕ) (checks : Verdict) (are : verd
   shown-after : NarrowsAfter (shownChecks l k (length old)) l a
   shown-after = rw are at so
 
-  shown-formed : shownChecks l k (length old) ≡ answered tt → WellFormed l
-  shown-formed passed = plan-formed l (length old) (shown-plan l k (length old) passed .1)
-
   module _ (x : Refusal) (e : a .verdict ≡ Refused x) where
-    pub early-turned : ShowsEarly l k old (record { narrowed = a; bound = 0 }) old
-    early-turned = let z = refused-so l _ a shown-after x e in shows-early l k old _ old shown-after (rw z refl) (rw z refl)
+    pub early-refused : ShowsEarly l k old (record { narrowed = a; bound = 0 }) old
+    early-refused = let z = refused-so l _ a shown-after x e in shows-early l k old _ old shown-after (rw z refl) (rw z refl)
 
-    pub late-turned : ShowsLate l k old (record { narrowed = a; bound = 0 }) old
-    late-turned = let z = refused-so l _ a shown-after x e in shows-late l k old _ old shown-after (rw z refl) (rw z refl)
+    pub late-refused : ShowsLate l k old (record { narrowed = a; bound = 0 }) old
+    late-refused = let z = refused-so l _ a shown-after x e in shows-late l k old _ old shown-after (rw z refl) (rw z refl)
 
   module _ (e : a .verdict ≡ Accepted) (s : WindowSet) (holds : Holds (a .list) s) (long : length (l .entries) ≡ 64) where
     shown-settled : IsSettled l (shownChecks l k (length old)) a
-    shown-settled = is-settled l _ a shown-after e shown-formed
+    shown-settled = is-settled l _ a shown-after e (shown-formed l k (length old))
 
     passed : (k < l .n) × (planChecks l (length old) ≡ answered tt)
     passed = shown-plan l k (length old) (shown-settled .passed)

@@ -116,6 +116,9 @@ module _ (l : DayList) where
       let q = row-passed _ _ _ (z .1) in
       (leb-false _ _ (q .0), rw (z .0) (q .1))
 
+  pub shown-formed : (k room : ℕ) → shownChecks l k room ≡ answered tt → WellFormed l
+  shown-formed k room e = plan-formed room (shown-plan k room e .1)
+
 -- Narrowing after them.
 pub narrows-not : (l : DayList) (v : Verdict) (a : NarrowAnswer) (x : Refusal) → v ≡ Refused x
     → a ≡ record { verdict = v; list = emptyList; moves = 0 } → NarrowsAfter (verdictOf v) l a

@@ -94,8 +94,13 @@ module _ (w : Windows) (formed : Formed w) (k : ℕ) (place : k < w .n) where
   halve-done whole is low high so end =
       let z : high ≡ low = omega (arith, so .order) in
       sym
-      (least-end-found overloadOf (λ _. whole) w formed k place is low (so .room) (omega (arith, so .due, z)) (so .none-before)
-      (rw z at (so .passes)))
+      (least-end-found overloadOf (λ _. whole) w formed k place is low
+      (record {
+        room = so .room;
+        due = omega (arith, so .due, z);
+        none-before = so .none-before;
+        passes = rw z at (so .passes);
+      }))
 
 pub whole-end : (whole : Bool) (w : Windows) (k : ℕ) → whole ≡ true → w .r k + w .p k ≡ leastEnd overloadOf (λ _. whole) w k
 whole-end whole w k is = sym (least-end-whole overloadOf (λ _. whole) w k is)

@@ -120,12 +120,8 @@ module _ (test : Test) (whole : ℕ → Bool) (w : Windows) (formed : Formed w) 
           not-passed _ (λ q. first .none-before j (omega arith) (rw same q))
 
   -- and whatever is such an end is that
-  pub least-end-found : whole k ≡ false → (x : ℕ) → w .r k + w .p k ≤ x → x ≤ w .d k
-      → ((e : ℕ) → w .r k + w .p k ≤ e → e < x → accepts (test (withD w k e)) ≡ false)
-      → (x < w .d k → accepts (test (withD w k x)) ≡ true)
-      → leastEnd test whole w k ≡ x
-  least-end-found is x room due none passes =
-      one-deadline test w k _ x (least-end-first is) (record { room = room; due = due; none-before = none; passes = passes })
+  pub least-end-found : whole k ≡ false → (x : ℕ) → IsFirstDeadline test w k x → leastEnd test whole w k ≡ x
+  least-end-found is x first = one-deadline test w k _ x (least-end-first is) first
 
   -- it lies in the window, with room for the entry's minutes
   pub least-end-range : (w .r k + w .p k ≤ leastEnd test whole w k) × (leastEnd test whole w k ≤ w .d k)

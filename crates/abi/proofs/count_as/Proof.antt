@@ -1,4 +1,4 @@
--- `count_as` meets its contract.
+-- A writer's answer as numbers, in both cases.
 -- Assumes nothing.
 use borrow.Author.Needs.{needs}
 use mathlib.Core.Path.{refl}

@@ -1,4 +1,4 @@
--- `dock_early` meets its contract.
+-- What showing the early plan answered, as numbers.
 -- Assumes nothing.
 use borrow.Author.Needs.{needs}
 use Rattle.abi.proofs.CallCases.{early-said}

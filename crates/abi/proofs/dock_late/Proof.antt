@@ -1,4 +1,4 @@
--- `dock_late` meets its contract.
+-- What showing the late plan answered, as numbers.
 -- Assumes nothing.
 use borrow.Author.Needs.{needs}
 use Rattle.abi.proofs.CallCases.{late-said}

@@ -1,4 +1,4 @@
--- `dock_overload` meets its contract.
+-- What the overload test answered, as numbers.
 -- Assumes nothing.
 use borrow.Author.Needs.{needs}
 use Rattle.abi.proofs.CallCases.{overload-said}

@@ -1,4 +1,4 @@
--- `dock_plan` meets its contract.
+-- What planning answered, as numbers: the bounds, then the narrowed list, the moves and the broken entries.
 -- Assumes nothing.
 use borrow.Author.Needs.{needs}
 use Rattle.abi.proofs.CallCases.{plan-said}

@@ -1,4 +1,4 @@
--- `dock_read` meets its contract.
+-- The list read as numbers, or a refusal.
 -- Assumes nothing.
 use borrow.Author.Needs.{needs}
 use Rattle.abi.proofs.CallCases.{read-accepted, read-refused}

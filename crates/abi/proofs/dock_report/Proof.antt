@@ -1,4 +1,4 @@
--- `dock_report` meets its contract.
+-- What the report call answered, as numbers.
 -- Assumes nothing.
 use borrow.Author.Needs.{needs}
 use Rattle.abi.proofs.CallCases.{report-said}

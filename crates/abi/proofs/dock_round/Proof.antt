@@ -1,4 +1,4 @@
--- `dock_round` meets its contract.
+-- What one round answered, as numbers.
 -- Assumes nothing.
 use borrow.Author.Needs.{needs}
 use Rattle.narrow.specs.Calls.{roundOf}

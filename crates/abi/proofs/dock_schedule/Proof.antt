@@ -1,4 +1,4 @@
--- `dock_schedule` meets its contract.
+-- What filling the plan buffer answered, as numbers.
 -- Assumes nothing.
 use borrow.Author.Needs.{needs}
 use Rattle.abi.proofs.CallCases.{schedule-said}

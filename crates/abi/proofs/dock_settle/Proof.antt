@@ -1,4 +1,4 @@
--- `dock_settle` meets its contract.
+-- What narrowing answered, as numbers.
 -- Assumes nothing.
 use borrow.Author.Needs.{needs}
 use Rattle.narrow.specs.Calls.{settleOf}

@@ -1,4 +1,4 @@
--- `dock_write` meets its contract.
+-- What the writer answered, as numbers.
 -- Assumes nothing.
 use borrow.Author.Needs.{needs}
 use Rattle.abi.proofs.CallCases.{write-said}

@@ -1,4 +1,4 @@
--- `refused_as` meets its contract.
+-- A refusal as numbers.
 -- Assumes nothing.
 use borrow.Author.Needs.{needs}
 use Rattle.abi.proofs.refused_as.Statement.{statement}

@@ -1,4 +1,4 @@
--- `flat::entry_in` meets its contract, field by field.
+-- Field by field.
 -- Assumes nothing.
 use borrow.Author.Needs.{needs}
 use Rattle.abi.proofs.FlatCases.{entry-in-is}

@@ -1,4 +1,4 @@
--- `flat::flat_of` meets its contract. The loop's invariant is `PutSoFar`. The measure is what is left of 64.
+-- The loop's invariant is `PutSoFar`, the measure what is left of 64.
 -- Assumes nothing.
 use borrow.Author.Needs.{needs}
 use mathlib.Core.Path.{_≡_}

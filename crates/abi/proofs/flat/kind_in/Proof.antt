@@ -1,4 +1,4 @@
--- `flat::kind_in` meets its contract.
+-- Either kind, by its flag.
 -- Assumes nothing.
 use borrow.Author.Tests.{eq-eqb, ne-eqb}
 use Rattle.abi.proofs.flat.kind_in.Statement.{statement}

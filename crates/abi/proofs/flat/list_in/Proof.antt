@@ -1,4 +1,4 @@
--- `flat::list_in` meets its contract. The loop's invariant is `ReadInSoFar`. The measure is what is left of 64.
+-- The loop's invariant is `ReadInSoFar`, the measure what is left of 64.
 -- Assumes nothing.
 use borrow.Author.Needs.{needs}
 use Prim.Native.Nat.{_-_}

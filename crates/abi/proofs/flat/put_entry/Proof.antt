@@ -1,4 +1,4 @@
--- `flat::put_entry` meets its contract: seven stores, one after the other.
+-- Seven stores, one after the other.
 -- Assumes nothing.
 use borrow.Author.Needs.{needs}
 use native.Mathlib.Numerals.{towards-suc}
@@ -11,8 +11,8 @@ mul-fields c = search needs
 element-write-fields : tie.Need-element-write-fields
 element-write-fields c = search needs
 
-seal-present-requires : tie.Need-seal-present-requires
-seal-present-requires c κs = search needs
+seal-flag-requires : tie.Need-seal-flag-requires
+seal-flag-requires c κs = search needs
 
 add-fields : tie.Need-add-fields
 add-fields c = search needs
@@ -71,8 +71,8 @@ mul-fields-6 c = search needs
 element-write-fields-6 : tie.Need-element-write-fields-6
 element-write-fields-6 c = search needs
 
-is-whole-requires : tie.Need-is-whole-requires
-is-whole-requires c κs = search needs
+whole-flag-requires : tie.Need-whole-flag-requires
+whole-flag-requires c κs = search needs
 
 add-fields-6 : tie.Need-add-fields-6
 add-fields-6 c = search needs
@@ -84,7 +84,7 @@ element-write-fields-7 : tie.Need-element-write-fields-7
 element-write-fields-7 c = search needs
 
 returns : tie.Need-returns
-returns c = rw (c .before .before .before .before .seal-number .ensures, c .before .before .before .before .before .seal-present .ensures, c .is-whole .ensures) (simp towards-suc)
+returns c = rw (c .before .before .before .before .seal-number .ensures, c .before .before .before .before .before .seal-flag .ensures, c .whole-flag .ensures) (simp towards-suc)
 
 pub put-entry-spec : {M : Type 1} → statement M
 put-entry-spec =
@@ -92,7 +92,7 @@ put-entry-spec =
     (tie.spec
     mul-fields
     element-write-fields
-    seal-present-requires
+    seal-flag-requires
     add-fields
     mul-fields-2
     element-write-fields-2
@@ -112,7 +112,7 @@ put-entry-spec =
     add-fields-5
     mul-fields-6
     element-write-fields-6
-    is-whole-requires
+    whole-flag-requires
     add-fields-6
     mul-fields-7
     element-write-fields-7

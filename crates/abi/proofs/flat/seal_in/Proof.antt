@@ -1,4 +1,4 @@
--- `flat::seal_in` meets its contract.
+-- A missing seal or a number, by its flag.
 -- Assumes nothing.
 use borrow.Author.Tests.{eq-eqb, ne-eqb}
 use Rattle.abi.proofs.flat.seal_in.Statement.{statement}

@@ -1,4 +1,4 @@
--- The loop's invariant is `PlacesSoFar`. The measure is what is left of 64.
+-- The loop's invariant is `PlacesSoFar`, the measure what is left of 64.
 -- Assumes nothing.
 use borrow.Author.Needs.{needs}
 use mathlib.Core.Path.{_≡_}

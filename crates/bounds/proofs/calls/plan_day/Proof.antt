@@ -4,7 +4,7 @@ use borrow.Author.Needs.{needs}
 use mathlib.Core.Path.{sym, _∙_}
 use lib.ListN.{length}
 use Rattle.bounds.proofs.CallCases.{plan-formed}
-use Rattle.bounds.proofs.AnswerCases.{plan-turned, plan-formed-in, plan-holds, plan-same-length, plan-done}
+use Rattle.bounds.proofs.AnswerCases.{plan-refused, plan-formed-in, plan-holds, plan-same-length, plan-done}
 use Rattle.bounds.proofs.calls.plan_day.Statement.{statement}
 use Rattle.bounds.proofs.calls.plan_day.Tie as tie
 
@@ -27,7 +27,7 @@ zeros-requires-2 : tie.Need-zeros-requires-2
 zeros-requires-2 c κs = search needs
 
 returns : tie.Need-returns
-returns c = plan-turned (c .before .before .before .before .before .before .before .args .list) (c .before .before .before .before .before .before .before .args .plan .now) (c .before .before .before .before .before .plan-checks .result) (c .before .before .before .before .before .plan-checks .ensures) (c .before .before .before .before .settled-after .result) (c .before .before .before .before .settled-after .ensures) _ (c .before .before .enum-told2 .given .1) _ _ (c .before .zeros .ensures) (c .zeros2 .ensures)
+returns c = plan-refused (c .before .before .before .before .before .before .before .args .list) (c .before .before .before .before .before .before .before .args .plan .now) (c .before .before .before .before .before .plan-checks .result) (c .before .before .before .before .before .plan-checks .ensures) (c .before .before .before .before .settled-after .result) (c .before .before .before .before .settled-after .ensures) _ (c .before .before .enum-told2 .given .1) _ _ (c .before .zeros .ensures) (c .zeros2 .ensures)
 
 untested-windows-requires : tie.Need-untested-windows-requires
 untested-windows-requires c κs = search needs

@@ -5,7 +5,7 @@ use mathlib.Core.Path.{_≡_, sym, _∙_}
 use lib.ListN.{length}
 use Rattle.list.proofs.Walk.{length-mapped}
 use Rattle.bounds.proofs.CallCases.{plan-formed, shown-plan}
-use Rattle.bounds.proofs.AnswerCases.{late-turned, shown-place, shown-few, mirror-searchable, mirror-room, stored-room, late-end, late-done}
+use Rattle.bounds.proofs.AnswerCases.{late-refused, shown-place, shown-few, mirror-searchable, mirror-room, stored-room, late-end, late-done}
 use Rattle.bounds.proofs.calls.show_late.Statement.{statement}
 use Rattle.bounds.proofs.calls.show_late.Tie as tie
 
@@ -22,7 +22,7 @@ enum-told-2 : tie.Need-enum-told-2
 enum-told-2 c = search needs
 
 returns : tie.Need-returns
-returns c = late-turned (c .before .before .before .before .before .args .list) (c .before .before .before .before .before .args .k) (c .before .before .before .before .before .args .plan .now) (c .before .before .before .shown-checks .result) (c .before .before .before .shown-checks .ensures) (c .before .before .settled-after .result) (c .before .before .settled-after .ensures) _ (c .enum-told2 .given .1)
+returns c = late-refused (c .before .before .before .before .before .args .list) (c .before .before .before .before .before .args .k) (c .before .before .before .before .before .args .plan .now) (c .before .before .before .shown-checks .result) (c .before .before .before .shown-checks .ensures) (c .before .before .settled-after .result) (c .before .before .settled-after .ensures) _ (c .enum-told2 .given .1)
 
 untested-windows-requires : tie.Need-untested-windows-requires
 untested-windows-requires c κs = search needs
