@@ -34,7 +34,7 @@ stored-whole {old} {text} room w = w .stored ∙ sets-eq text old 0 (omega arith
 -- The report was put to the start of a buffer of its own, which has room for every report.
 module _ (bs : List ℕ) (is : Bytes bs) (own text : List ℕ) (long : length own ≡ enough) (size : ℕ) (puts : Puts own 0 (reportOf bs) text size) where
   wrote : Wrote own 0 (reportOf bs) text size
-  wrote = puts (omega (arith, report-short bs is, long))
+  wrote = puts .wrote (omega (arith, report-short bs is, long))
 
   pub size-is : size ≡ length (reportOf bs)
   size-is = omega (arith, wrote .place)
@@ -65,4 +65,4 @@ module _ (bs : List ℕ) (is : Bytes bs) (own text : List ℕ) (long : length ow
     whole-promised new next h p =
         let room : length (reportOf bs) ≤ length old = omega (arith, size-is) in
         let least = le-ltb (length old) (length (reportOf bs)) room in
-        promised _ _ (rw (least, size-is) refl) (rw least (stored-whole room ((rw text-is at p) (omega arith))))
+        promised _ _ (rw (least, size-is) refl) (rw least (stored-whole room ((rw text-is at p) .wrote (omega arith))))

@@ -13,20 +13,21 @@ use Rattle.report.specs.Parts.{Puts}
 use Rattle.report.proofs.Texts.{decimal-one, decimal-more}
 
 pub puts-nothing : (old : List ℕ) (at : ℕ) → Puts old at [] old at
-puts-nothing old at _ = wrote-nothing old at
+puts-nothing old at = record { wrote = λ _. wrote-nothing old at }
 
 pub puts-one : (old : List ℕ) (at x : ℕ) → Puts old at (x ∷ []) (set old at x) (at + 1)
-puts-one old at x _ = wrote-one old at x
+puts-one old at x = record { wrote = λ _. wrote-one old at x }
 
 -- without room there is nothing to show
 pub puts-none : (old : List ℕ) (at x : ℕ) → length old ≤ at → Puts old at (x ∷ []) old at
-puts-none old at x full room = absurd (omega (arith, full, room))
+puts-none old at x full = record { wrote = λ room. absurd (omega (arith, full, room)) }
 
 pub puts-then : {old : List ℕ} {at : ℕ} {a mid : List ℕ} {half : ℕ} {b new : List ℕ} {next : ℕ}
     → Puts old at a mid half → Puts mid half b new next → Puts old at (a ++ b) new next
-puts-then {old} {at} {a} {mid} {half} {b} p q room =
-    let w = p (room-first a b at (length old) room) in
-    wrote-then w (q (room-after w b room))
+puts-then {old} {at} {a} {mid} {half} {b} p q =
+    record {
+      wrote = λ room. let w = p .wrote (room-first a b at (length old) room) in wrote-then w (q .wrote (room-after w b room));
+    }
 
 -- a number: one digit, or the digits of its tenth and then its last one
 pub puts-digit : {old : List ℕ} {at : ℕ} {new : List ℕ} {next : ℕ} (x : ℕ) → x < 10 → Puts old at ((48 + x) ∷ []) new next

@@ -12,8 +12,8 @@ use Rattle.report.specs.Text.{ascii, decimal, line}
 use Rattle.report.specs.Reports.{headLine, entryLines, runLines}
 
 -- A step of the report's writer: if there is room for a text, it stores it from place at on and answers the place after it.
-abbrev pub Puts : List ℕ → ℕ → List ℕ → List ℕ → ℕ → Type 0
-Puts old at text new next = at + length text ≤ length old → Wrote old at text new next
+pub record Puts (old : List ℕ) (at : ℕ) (text new : List ℕ) (next : ℕ) : Type 0 where
+  pub wrote : at + length text ≤ length old → Wrote old at text new next
 
 -- the end of an entry's line, from the space before r on
 abbrev pub timesText : Entry → ℕ → ℕ → List ℕ
