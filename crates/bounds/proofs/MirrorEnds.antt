@@ -7,10 +7,11 @@ use native.Mathlib.Omega.{arith}
 use Rattle.jackson.specs.Windows.{Windows}
 use Rattle.jackson.specs.Mirrors.{mirror, mirrorBytes}
 use Rattle.jackson.specs.Minutes.{schedule}
+use Rattle.jackson.proofs.Searches.{first-cong}
 use Rattle.narrow.specs.Searching.{Test, accepts, withR, withD}
 use Rattle.narrow.specs.Laws.{Formed}
 use Rattle.narrow.proofs.Planners.{Planner}
-use Rattle.narrow.proofs.MirrorSearches.{first-cong, with-r-mirror, planner-in-mirror}
+use Rattle.narrow.proofs.MirrorSearches.{with-r-mirror, planner-in-mirror}
 use Rattle.narrow.proofs.Keeping.{keeps-r}
 use Rattle.narrow.proofs.Exact.{in-mirror}
 use Rattle.bounds.specs.Ends.{spare, failedDeadlines, failedReleases, leastEnd, greatestStart}

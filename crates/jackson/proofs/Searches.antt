@@ -41,7 +41,12 @@ one-first n f s t a b =
     (λ l. le-or-lt t s (λ m. omega arith) (λ m. absurd (b .none-before s m (a .passes (omega (arith, b .within))))))
     (λ l. absurd (a .none-before t l (b .passes (omega (arith, a .within)))))
 
--- a search for the last looks at the tests below n alone
+-- a search looks at the tests below n alone
+pub first-cong : (n : ℕ) (f g : ℕ → Bool) → ((i : ℕ) → i < n → f i ≡ g i) → firstBelow n f ≡ firstBelow n g
+unfolding firstBelow
+first-cong zero f g h = refl
+first-cong (suc n) f g h = rw (h 0 (omega arith), first-cong n _ _ (λ i l. h (suc i) (omega arith)))
+
 last-cong : (n : ℕ) (f g : ℕ → Bool) → ((i : ℕ) → i < n → f i ≡ g i) → lastBelow n f ≡ lastBelow n g
 unfolding lastBelow
 last-cong zero f g h = refl

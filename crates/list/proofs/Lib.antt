@@ -18,6 +18,7 @@ mod InTypes
 mod Promised
 pub mod Walk
 pub mod Stores
+pub mod Filling
 pub mod RoundTrip
 pub mod FirstBytes
 pub mod OneVerdict

@@ -8,8 +8,8 @@ use native.Mathlib.Numerals.{add-one}
 use native.Mathlib.Omega.{arith}
 use borrow.Author.Tests.{lt-ltb, le-ltb}
 use lib.Dec.{ltb}
-use lib.ListN.{length, take, drop, set, replicate, length-take, length-drop, length-set, take-append-drop}
-use lib.Seq.{take-all, take-suc-set, drop-set-lt, drop-drop}
+use lib.ListN.{length, take, drop, set, replicate, length-take, length-drop, length-set}
+use lib.Seq.{take-all, take-suc-set, drop-drop}
 use Rattle.list.specs.Outcomes.{Code, code, Outcome, answered, refused, row, firstOf, andThen}
 use Rattle.list.specs.Refusals.{codeOf, verdictOf}
 use Rattle.list.specs.Entries.{entryOf, entryAnswerOf}
@@ -27,6 +27,7 @@ use Rattle.list.specs.declared.types.ReadAnswer.{ReadAnswer}
 use Rattle.list.specs.declared.entry.EntryAnswer.{EntryAnswer}
 use Rattle.list.specs.declared.entry.EntryAnswer.the-variants.{Taken, NotTaken}
 use Rattle.list.proofs.EntryTrip.{TakenEntry, entry-says}
+use Rattle.list.proofs.Filling.{blank-after, filled-list}
 
 -- the entries es in front of those that are still to come
 abbrev pub before : List Entry → Outcome (List Entry × ℕ) → Outcome (List Entry × ℕ)
@@ -64,10 +65,6 @@ start f n bs h =
       unused = refl;
       rest = rw sub-zero (before-nothing _);
     }
-
-padded : (f : Frame) (n : ℕ) (es all : List Entry) → length es ≡ n → all ≡ es ++ replicate (64 - n) blank
-    → record { frame = f; n = n; entries = all } ≡ dayList f es
-padded f n es all k w = rw (w, ← k)
 
 -- what is left from place at on, as code lends it
 rest-lent : (bs : List ℕ) (at : ℕ) → take (length bs - at) (drop at bs) ≡ drop at bs
@@ -108,13 +105,10 @@ module _ {f : Frame} {n : ℕ} {bs : List ℕ} {entries : List Entry} {at i : �
         passed = omega arith;
         inside = size-here f at bs a e size (s .inside) q t;
         long = length-set entries i e ∙ s .long;
-        unused = drop-set-lt (i + 1) entries i e (omega arith) ∙ sym (drop-drop 1 i entries) ∙ one-less;
+        unused = blank-after entries i e (omega arith) (s .unused);
         rest = turn h ∙ rest-after;
       }
     where
-      one-less : drop 1 (drop i entries) ≡ replicate (64 - (i + 1)) blank
-      one-less = let z : 64 - i ≡ suc (64 - (i + 1)) = omega arith in rw (s .unused, z)
-
       taken : take (i + 1) (set entries i e) ≡ take i entries ++ (e ∷ [])
       taken = rw add-one (take-suc-set entries i e (omega (arith, s .long)))
 
@@ -132,11 +126,9 @@ module _ {f : Frame} {n : ℕ} {bs : List ℕ} {entries : List Entry} {at i : �
 
   pub list-is : n ≤ 64 → n ≤ i → record { frame = f; n = n; entries = entries } ≡ dayList f (take i entries)
   list-is room h =
-      let k : length (take i entries) ≡ n = simp length-take (omega (arith, s .long, s .passed)) in
       let z : i ≡ n = omega (arith, s .passed) in
-      let all : entries ≡ take i entries ++ replicate (64 - n) blank =
-      sym (take-append-drop i entries) ∙ ap (λ (l : List Entry). take i entries ++ l) (s .unused ∙ rw z) in
-      padded f n (take i entries) entries k all
+      let k : length (take i entries) ≡ n = simp length-take (omega (arith, s .long, s .passed)) in
+      filled-list f n (take i entries) entries k (rw z) (rw z at (s .unused))
 
 -- after the entries: row 8, or the list
 module _ (bs : List ℕ) (f : Frame) (n : ℕ) (p : f ≡ frameOf bs) (q : n ≡ countOf bs) where

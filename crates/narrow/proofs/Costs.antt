@@ -12,7 +12,7 @@ use Rattle.jackson.specs.Windows.{Windows}
 use Rattle.jackson.proofs.Sums.{sum-le, sum-add, term-le}
 use Rattle.narrow.specs.Searching.{Test}
 use Rattle.narrow.specs.Settling.{minutesCut}
-use Rattle.narrow.specs.Rounds.{Side, earliest, latest, step, Narrowed, moved, movesOf, narrowSide, visit, visits, round}
+use Rattle.narrow.specs.Rounds.{Side, earliest, latest, step, Narrowed, moved, movesOf, counted, narrowSide, visit, visits, round}
 use Rattle.narrow.specs.Rounds.{rounds, slack}
 use Rattle.narrow.specs.Laws.{Formed, WholeRefused}
 use Rattle.narrow.proofs.Puts.{place-cases}
@@ -115,7 +115,7 @@ module _ (test : Test) (whole : ℕ → Bool) where
     side-says side s formed place is = go (step test side k (s .windows)) (step-says (s .windows) formed k place test side)
       where
         go : (o : Outcome Windows) → Says (Keeps (s .windows)) (RefusedAt k) o
-            → CostsOr whole s (andThen o (λ v. answered (record { windows = v; moves = s .moves + movesOf k (s .windows) v })))
+            → CostsOr whole s (andThen o (λ v. answered (counted k s v)))
         go (answered v) keeps =
             record {
               keeps = keeps;

@@ -17,16 +17,16 @@ use Rattle.narrow.proofs.MirrorSearches.{formed-mirror, mirror-d, end-b
 use Rattle.narrow.proofs.OverloadPlanner.{overload-planner}
 use Rattle.narrow.proofs.Keeping.{StartTried, start-says}
 
-module _ (s t : WindowSet) (k : ℕ) (turned : windowsIn t ≡ mirror (windowsIn s)) (ready : Searchable s k) where
+module _ (s t : WindowSet) (k : ℕ) (mirrors : windowsIn t ≡ mirror (windowsIn s)) (ready : Searchable s k) where
   -- the mirror can be searched
   pub mirror-searchable : Searchable t k
   mirror-searchable =
-      let count : windowsIn t .n ≡ windowsIn s .n = ap (λ (w : Windows). w .n) turned in
-      record { formed = rw turned (formed-mirror (windowsIn s) (ready .formed)); place = omega (arith, ready .place, count) }
+      let count : windowsIn t .n ≡ windowsIn s .n = ap (λ (w : Windows). w .n) mirrors in
+      record { formed = rw mirrors (formed-mirror (windowsIn s) (ready .formed)); place = omega (arith, ready .place, count) }
 
   module _ (f : Found) (is : foundOf k f ≡ leastStart overloadOf (windowsIn t) k) where
     start-in-mirror : (x : ℕ) → f ≡ Minute x → leastStart overloadOf (mirror (windowsIn s)) k ≡ answered x
-    start-in-mirror x e = rw (e, turned) at (sym is)
+    start-in-mirror x e = rw (e, mirrors) at (sym is)
 
     -- what it finds lies in the day
     pub mirror-in-day : (x : ℕ) → f ≡ Minute x → x ≤ s .h
@@ -40,5 +40,5 @@ module _ (s t : WindowSet) (k : ℕ) (turned : windowsIn t ≡ mirror (windowsIn
 
     pub mirror-none : f ≡ NoMinute → refused (code 10 (k ∷ [])) ≡ greatestEnd overloadOf (windowsIn s) k
     mirror-none e =
-        let none : leastStart overloadOf (mirror (windowsIn s)) k ≡ refused (code 10 (k ∷ [])) = rw (e, turned) at (sym is) in
+        let none : leastStart overloadOf (mirror (windowsIn s)) k ≡ refused (code 10 (k ∷ [])) = rw (e, mirrors) at (sym is) in
         sym (end-by-mirror overload-planner (windowsIn s) (ready .formed) k (ready .place) ∙ rw none)

@@ -2,7 +2,7 @@
 -- Assumes nothing.
 use mathlib.Core.Path.{_≡_, refl, sym, ap, _∙_, fun-ext}
 use mathlib.Core.Bool.{Bool, true, false, cond, false≢true}
-use Prim.Native.Nat.{ℕ, zero, suc, _+_, _<_, _≤_}
+use Prim.Native.Nat.{ℕ, zero, suc, _<_, _≤_}
 use native.Mathlib.Omega.{arith}
 use Rattle.list.specs.Outcomes.{Outcome, answered, refused, andThen}
 use Rattle.list.proofs.Inversion.{Says, by-step, Anything}
@@ -11,7 +11,7 @@ use Rattle.jackson.specs.Existence.{Plannable}
 use Rattle.jackson.proofs.Sums.{le-or-lt, below-suc}
 use Rattle.narrow.specs.Searching.{Test, withR, withD, withWindow, leastStart, greatestEnd}
 use Rattle.narrow.specs.Settling.{Settled, SettledInside, Widest}
-use Rattle.narrow.specs.Rounds.{Side, earliest, latest, step, Narrowed, moved, movesOf, narrowSide, visit, visits, round, RoundsGive, last, next, stopped, rounds, slack}
+use Rattle.narrow.specs.Rounds.{Side, earliest, latest, step, Narrowed, moved, movesOf, counted, narrowSide, visit, visits, round, RoundsGive, last, next, stopped, rounds, slack}
 use Rattle.narrow.specs.StepLists.{NothingLeft}
 use Rattle.narrow.specs.Laws.{Formed}
 use Rattle.narrow.proofs.Planners.{Planner}
@@ -100,7 +100,7 @@ module _ (test : Test) (whole : ℕ → Bool) where
     where
       go : (o : Outcome Windows) → step test side k (s .windows) ≡ o → Says (λ v. movesOf k (s .windows) v ≡ 0 → v ≡ s .windows) Anything o
           → Says (Still (Stays side k s) s) Anything
-          (andThen o (λ v. answered (record { windows = v; moves = s .moves + movesOf k (s .windows) v })))
+          (andThen o (λ v. answered (counted k s v)))
       go (answered v) e still =
           record {
             more = omega arith;

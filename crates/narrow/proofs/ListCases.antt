@@ -5,13 +5,14 @@ use mathlib.Core.List.{List, [], _∷_, _++_}
 use Prim.Native.Nat.{ℕ, suc, _+_, _-_, _<_, _≤_}
 use native.Mathlib.Numerals.{add-one}
 use native.Mathlib.Omega.{arith}
-use lib.ListN.{length, getD, take, drop, set, replicate, length-take, length-set, take-append-drop, List·getD-eq-default}
-use lib.Seq.{length-take-le, take-suc, take-suc-set, drop-set-lt, drop-drop}
-use Rattle.list.specs.DayLists.{entriesOf, blank, dayList}
+use lib.ListN.{length, getD, take, drop, set, replicate, length-take, length-set, List·getD-eq-default}
+use lib.Seq.{length-take-le, take-suc, take-suc-set}
+use Rattle.list.specs.DayLists.{entriesOf, blank}
 use Rattle.list.specs.Checks.{WellFormed}
 use Rattle.list.specs.declared.types.Entry.{Entry}
 use Rattle.list.specs.declared.types.DayList.{DayList}
 use Rattle.list.proofs.Sound.{Sound, Every, sound-list, well-formed}
+use Rattle.list.proofs.Filling.{blank-after, filled-list}
 use Rattle.jackson.specs.Windows.{Windows, windowsOf}
 use Rattle.jackson.proofs.Sums.{le-or-lt}
 use Rattle.narrow.specs.Calls.{isWhole, wholeIn, entryWith, entriesWith, listWith}
@@ -55,7 +56,7 @@ module _ (l : DayList) (w : Windows) where
           passed = omega (arith, h);
           long = length-set entries i e ∙ so .long;
           done = rw add-one (take-suc-set entries i e (omega (arith, so .long, so .room)) ∙ one);
-          unused = drop-set-lt (i + 1) entries i e (omega arith) ∙ sym (drop-drop 1 i entries) ∙ rest;
+          unused = blank-after entries i e (omega (arith, so .room)) (so .unused);
         }
       where
         one : take i entries ++ (e ∷ []) ≡ entriesWith w 0 (take (suc i) (l .entries))
@@ -64,22 +65,13 @@ module _ (l : DayList) (w : Windows) where
             rw (is, take-suc (l .entries) i blank (omega (arith, long, so .room)), so .done)
             (sym (with-one w 0 (take i (l .entries)) (getD (l .entries) i blank) i k))
 
-        rest : drop 1 (drop i entries) ≡ replicate (64 - (i + 1)) blank
-        rest = let z : 64 - i ≡ suc (64 - (i + 1)) = omega (arith, so .room) in rw (so .unused, z)
-
     pub filled-all : l .n ≤ i → record { frame = l .frame; n = l .n; entries = entries } ≡ listWith l w
     unfolding listWith
     filled-all h =
         let z : i ≡ l .n = omega (arith, so .passed) in
         let es = entriesWith w 0 (entriesOf l) in
-        let done : take (l .n) entries ≡ es = rw z at (so .done) in
-        let unused : drop (l .n) entries ≡ replicate (64 - l .n) blank = rw z at (so .unused) in
-        let count : l .n ≡ length es = sym (with-length w 0 (entriesOf l) ∙ length-take-le (l .n) (l .entries) (omega (arith, long, so .room))) in
-        padded es entries count (sym (take-append-drop (l .n) entries) ∙ rw (done, unused))
-      where
-        padded : (es all : List Entry) → l .n ≡ length es → all ≡ es ++ replicate (64 - l .n) blank
-            → record { frame = l .frame; n = l .n; entries = all } ≡ dayList (l .frame) es
-        padded es all k e = rw (e, k)
+        let count : length es ≡ l .n = with-length w 0 (entriesOf l) ∙ length-take-le (l .n) (l .entries) (omega (arith, long, so .room)) in
+        filled-list (l .frame) (l .n) es entries count (rw z at (so .done)) (rw z at (so .unused))
 
 -- The windows of the list that is answered.
 module _ (l : DayList) (w : Windows) (keeps : Keeps (windowsOf l) w) where

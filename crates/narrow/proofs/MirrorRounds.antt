@@ -13,14 +13,14 @@ use Rattle.jackson.specs.Existence.{Plannable}
 use Rattle.jackson.specs.Mirrors.{mirror}
 use Rattle.jackson.proofs.Sums.{sum-cong}
 use Rattle.narrow.specs.Searching.{Test}
-use Rattle.narrow.specs.Rounds.{earliest, latest, step, Narrowed, unmoved, moved, movesOf, narrowSide, visit, visits, round, rounds, slack, narrowing}
+use Rattle.narrow.specs.Rounds.{earliest, latest, step, Narrowed, unmoved, moved, movesOf, counted, narrowSide, visit, visits, round, rounds, slack, narrowing}
 use Rattle.narrow.specs.Laws.{Formed}
 use Rattle.narrow.proofs.Planners.{Planner}
 use Rattle.narrow.proofs.Puts.{place-cases}
 use Rattle.narrow.proofs.MirrorSearches.{plannable-mirror, formed-mirror, mirror-back, mirror-r, mirror-d, planner-in-mirror, step-mirror}
 use Rattle.narrow.proofs.Keeping.{Keeps, keeps-h, keeps-n, RefusedAt, step-says}
 use Rattle.narrow.proofs.Costs.{Costs, CostsOr, side-says, visits-says, round-says}
-use Rattle.narrow.proofs.VisitOrder.{counted, visit-order}
+use Rattle.narrow.proofs.VisitOrder.{visit-order}
 
 -- One search in the mirror.
 

@@ -3,27 +3,21 @@
 use mathlib.Core.Path.{_≡_, refl, sym, ap, _∙_, fun-ext}
 use mathlib.Core.Bool.{Bool, true, false, cond}
 use mathlib.Core.List.{[], _∷_}
-use Prim.Native.Nat.{ℕ, zero, suc, _+_, _-_, _<_, _≤_}
+use Prim.Native.Nat.{ℕ, _+_, _-_, _<_, _≤_}
 use native.Mathlib.Omega.{arith}
 use borrow.Author.Tests.{lt-ltb}
 use lib.Dec.{eqb, ltb}
 use Rattle.list.specs.Outcomes.{Outcome, answered, refused, andThen, row, firstOf}
-use Rattle.jackson.specs.Counting.{firstBelow}
 use Rattle.jackson.specs.Windows.{Windows, withWindows}
 use Rattle.jackson.specs.Existence.{Plannable}
 use Rattle.jackson.specs.Mirrors.{mirror, mirrorPlan}
 use Rattle.jackson.proofs.PlanFacts.{mirror-plan, mirror-mirror}
+use Rattle.jackson.proofs.Searches.{first-cong}
 use Rattle.narrow.specs.Searching.{Test, accepts, put, withR, withD, withWindow, fixedAt, fixedUpTo, trials, failedStarts, failedEnds, leastStart, greatestEnd}
 use Rattle.narrow.specs.Rounds.{earliest, latest, step}
 use Rattle.narrow.specs.Laws.{Formed}
 use Rattle.narrow.proofs.Planners.{Planner}
 use Rattle.narrow.proofs.Puts.{place-cases, with-r, with-d, up-to-formed}
-
--- a search for the first looks at the tests below n alone
-pub first-cong : (n : ℕ) (f g : ℕ → Bool) → ((i : ℕ) → i < n → f i ≡ g i) → firstBelow n f ≡ firstBelow n g
-unfolding firstBelow
-first-cong zero f g h = refl
-first-cong (suc n) f g h = rw (h 0 (omega arith), first-cong n _ _ (λ i l. h (suc i) (omega arith)))
 
 -- where a plan exists, its mirror is one in the mirrored windows
 pub plannable-mirror : (w : Windows) → Plannable w → Plannable (mirror w)

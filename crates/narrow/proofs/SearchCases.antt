@@ -10,15 +10,8 @@ use Rattle.list.specs.Outcomes.{code, answered, refused}
 use Rattle.jackson.specs.Counting.{firstBelow}
 use Rattle.jackson.specs.Windows.{Windows}
 use Rattle.jackson.proofs.Sums.{le-or-lt}
-use Rattle.jackson.proofs.Searches.{First, first-below}
+use Rattle.jackson.proofs.Searches.{first-below, one-first}
 use Rattle.narrow.specs.Searching.{Test, accepts, fixedAt, trials, failedStarts, leastStart}
-
--- the first number that passes is one
-first-one : (n : ℕ) (f : ℕ → Bool) (a b : ℕ) → First n f a → First n f b → a ≡ b
-first-one n f a b x y =
-    le-or-lt a b
-    (λ l. le-or-lt b a (λ k. omega arith) (λ k. absurd (y .none-before a k (x .passes (omega (arith, y .within))))))
-    (λ l. absurd (x .none-before b l (y .passes (omega (arith, x .within)))))
 
 -- no start before x has a plan
 pub record Tried (test : Test) (w : Windows) (k x : ℕ) : Type 0 where
@@ -54,7 +47,7 @@ module _ (test : Test) (w : Windows) (k : ℕ) where
     unfolding failedStarts
     skipped plan =
         let f : ℕ → Bool = λ j. accepts (test (fixedAt w k (w .r k + j))) in
-        first-one (trials w k) f (firstBelow (trials w k) f) (x - w .r k) (first-below (trials w k) f)
+        one-first (trials w k) f (firstBelow (trials w k) f) (x - w .r k) (first-below (trials w k) f)
         (record {
           within = so .within;
           passes = λ l. rw at-x (plan (omega (arith, so .from-r, l)));

@@ -7,7 +7,7 @@ use native.Mathlib.Omega.{arith}
 use Rattle.list.specs.Outcomes.{Outcome, answered, refused, andThen}
 use Rattle.jackson.specs.Windows.{Windows}
 use Rattle.narrow.specs.Searching.{Test}
-use Rattle.narrow.specs.Rounds.{Side, earliest, latest, step, Narrowed, unmoved, movesOf, narrowSide, visit, visits, round}
+use Rattle.narrow.specs.Rounds.{Side, earliest, latest, step, Narrowed, unmoved, movesOf, counted, narrowSide, visit, visits, round}
 
 -- with m moves made before
 abbrev pub after : ℕ → Narrowed → Narrowed
@@ -22,8 +22,7 @@ module _ (test : Test) (whole : ℕ → Bool) (m : ℕ) where
   side-after side k s = go (step test side k (s .windows))
     where
       go : (o : Outcome Windows)
-          → andThen o (λ v. answered (record { windows = v; moves = m + s .moves + movesOf k (s .windows) v }))
-          ≡ afterAll m (andThen o (λ v. answered (record { windows = v; moves = s .moves + movesOf k (s .windows) v })))
+          → andThen o (λ v. answered (counted k (after m s) v)) ≡ afterAll m (andThen o (λ v. answered (counted k s v)))
       go (answered v) =
           let z : m + s .moves + movesOf k (s .windows) v ≡ m + (s .moves + movesOf k (s .windows) v) = omega arith in
           ap (λ (x : ℕ). answered (record { windows = v; moves = x })) z

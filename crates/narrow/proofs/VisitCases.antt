@@ -21,7 +21,7 @@ use Rattle.jackson.specs.Intervals.{overloadOf}
 use Rattle.jackson.specs.declared.types.WindowSet.{WindowSet}
 use Rattle.jackson.proofs.Sums.{le-or-lt}
 use Rattle.narrow.specs.Searching.{Test}
-use Rattle.narrow.specs.Rounds.{Side, earliest, latest, Narrowed, unmoved, step, movesOf, narrowSide, visit, visits, round, rounds, slack}
+use Rattle.narrow.specs.Rounds.{Side, earliest, latest, Narrowed, unmoved, step, counted, narrowSide, visit, visits, round, rounds, slack}
 use Rattle.narrow.specs.Calls.{isWhole, wholeIn}
 use Rattle.narrow.specs.Parts.{stateOf, narrowedOf, Searchable, Countable}
 use Rattle.narrow.specs.declared.rounds.VisitAnswer.{VisitAnswer}
@@ -35,7 +35,7 @@ unfolding narrowSide
 side-moves test side k s = go (step test side k (s .windows))
   where
     go : (o : Outcome Windows) → Says (λ (v : Narrowed). v .moves ≤ s .moves + 2) (λ _. Unit {0})
-        (andThen o (λ v. answered (record { windows = v; moves = s .moves + movesOf k (s .windows) v })))
+        (andThen o (λ v. answered (counted k s v)))
     go (answered v) = omega (arith, moved-one (s .windows .r k) (v .r k), moved-one (s .windows .d k) (v .d k))
     go (refused x) = tt
 

@@ -8,7 +8,7 @@ use Rattle.list.proofs.Inversion.{Says, answered-same, answered-refused}
 use Rattle.jackson.specs.Windows.{Windows}
 use Rattle.jackson.proofs.Sums.{le-or-lt}
 use Rattle.narrow.specs.Searching.{Test, put, withR, withD, leastStart, greatestEnd, IsLeastStart, NoStart, IsGreatestEnd, NoEnd}
-use Rattle.narrow.specs.Rounds.{earliest, latest, Narrowed, movesOf, narrowSide}
+use Rattle.narrow.specs.Rounds.{earliest, latest, Narrowed, counted, narrowSide}
 use Rattle.narrow.specs.Laws.{Formed}
 use Rattle.narrow.proofs.Planners.{Planner}
 use Rattle.narrow.proofs.Puts.{put-same, fixed-up-to, window-after-r, window-after-d}
@@ -54,10 +54,6 @@ end-starts : (w : Windows) (k e : ℕ) → IsGreatestEnd w k e → NoStart w k �
 end-starts w k e end none =
     let room = end .room in
     none (e - w .p k) (omega arith) (omega (arith, end .to-d)) (rw (fixed-up-to w k e (omega arith)) at (end .plan))
-
--- the windows that a search leaves, and the moves then
-abbrev pub counted : ℕ → Narrowed → Windows → Narrowed
-counted k s v = record { windows = v; moves = s .moves + movesOf k (s .windows) v }
 
 module _ {test : Test} (planner : Planner test) (k : ℕ) (s : Narrowed) (formed : Formed (s .windows)) (place : k < s .windows .n) where
   -- in a visit the search for d is not refused: the r just found is a place

@@ -35,13 +35,15 @@ moved before after = cond (eqb before after) 0 1
 abbrev pub movesOf : ℕ → Windows → Windows → ℕ
 movesOf k w v = moved (w .r k) (v .r k) + moved (w .d k) (v .d k)
 
--- a search of a round: "The moves are counted as they are made and carried in the result."
-unfoldable pub narrowSide : Test → Side → ℕ → Narrowed → Outcome Narrowed
-narrowSide test side k s =
-    andThen (step test side k (s .windows))
-    (λ v. answered (record { windows = v; moves = s .moves + movesOf k (s .windows) v }))
+-- "The moves are counted as they are made and carried in the result": windows v after s, where those of entry k may have changed
+abbrev pub counted : ℕ → Narrowed → Windows → Narrowed
+counted k s v = record { windows = v; moves = s .moves + movesOf k (s .windows) v }
 
--- "pause entries are passed over. For a whole entry, its r becomes ..; Then its d becomes ..": `whole k` says whether entry k is whole
+-- a search of a round, with its moves
+unfoldable pub narrowSide : Test → Side → ℕ → Narrowed → Outcome Narrowed
+narrowSide test side k s = andThen (step test side k (s .windows)) (λ v. answered (counted k s v))
+
+-- "pause entries are passed over. For a whole entry, its r becomes .. Then its d becomes ..": `whole k` says whether entry k is whole
 unfoldable pub visit : Test → (ℕ → Bool) → ℕ → Narrowed → Outcome Narrowed
 visit test whole k s = cond (whole k) (andThen (narrowSide test earliest k s) (narrowSide test latest k)) (answered s)
 

@@ -54,7 +54,7 @@ failedStarts test w k = firstBelow (trials w k) (λ j. accepts (test (fixedAt w 
 unfoldable pub failedEnds : Test → Windows → ℕ → ℕ
 failedEnds test w k = firstBelow (trials w k) (λ j. accepts (test (fixedUpTo w k (w .d k - j))))
 
--- "its r becomes the least s ..; or the list is refused", by row 10, which carries the place
+-- "its r becomes the least s .. or the list is refused", by row 10, which carries the place
 unfoldable pub leastStart : Test → Windows → ℕ → Outcome ℕ
 leastStart test w k =
     let j = failedStarts test w k in

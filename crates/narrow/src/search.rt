@@ -40,7 +40,7 @@ fn has_plan_at(windows: WindowSet, k: usize, s: u16) -> bool
     is_accepted(untested_overload(trial))
 }
 
-// The least start of entry k, from its r up. "The search ends at the first start that has a plan".
+// The least start of entry k, from its r up: "the search ends at the first start that has a plan".
 pub(crate) fn least_start(windows: WindowSet, k: usize) -> Found
     requires { ⌜ Searchable windows k ⌝ }
     ensures { λ f. ⌜ foundOf k f ≡ leastStart overloadOf (windowsIn windows) k ⌝ }

@@ -23,7 +23,9 @@ minute-requires c κs = search needs
 slice-write-plan : tie.Need-slice-write-plan Inv-loop μ-loop
 slice-write-plan c =
     let loop = c .before .before .loop in
-    let long = store-long _ _ _ _ _ _ (loop .inv) in let room = loop .inv .room in search (needs, long, room)
+    let long = store-long _ _ _ _ _ _ (loop .inv) in
+    let room = loop .inv .room in
+    search (needs, long, room)
 
 add-i : tie.Need-add-i Inv-loop μ-loop
 add-i c = search needs
