@@ -10,7 +10,7 @@ use Rattle.list.specs.declared.types.Refusal.{Refusal}
 use Rattle.list.specs.declared.types.Refusal.the-variants.{BytesMissing, BadDayLength, TooManyEntries, BadMapByte, DefaultWritten, NoMinutes, BadWindow, BytesLeftOver, Overloaded, NoPlace, PlanBufferShort, ListBufferShort, UnknownPlace}
 use Rattle.list.specs.declared.types.Verdict.{Verdict}
 use Rattle.list.specs.declared.types.Verdict.the-variants.{Accepted, Refused}
-use Rattle.list.proofs.Inversion.{answered-refused}
+use Rattle.list.proofs.Inversion.{answered-refused, refused-same}
 
 -- the refusal with these number and values
 abbrev refusalOf : Code → Refusal
@@ -50,6 +50,5 @@ one-verdict Accepted Accepted x y e = refl
 one-verdict Accepted (Refused k) x y e = absurd (answered-refused refl e)
 one-verdict (Refused j) Accepted x y e = absurd (answered-refused refl (sym e))
 one-verdict (Refused j) (Refused k) x y e =
-    let codes : codeOf j ≡ codeOf k = cc e in
-    let same : j ≡ k = sym (refusal-is j) ∙ ap refusalOf codes ∙ refusal-is k in
+    let same : j ≡ k = sym (refusal-is j) ∙ ap refusalOf (refused-same refl e) ∙ refusal-is k in
     ap Refused same

@@ -5,7 +5,7 @@ use mathlib.Core.List.{List, [], _∷_, _++_}
 use lib.ListN.{length, getD}
 use lib.Dec.{eqb}
 use Rattle.list.specs.Outcomes.{Outcome, answered, andThen}
-use Rattle.list.specs.Steps.{Wrote}
+use Rattle.list.specs.Parts.{Wrote}
 use Rattle.list.specs.declared.types.Entry.{Entry}
 use Rattle.list.specs.declared.types.DayList.{DayList}
 use Rattle.jackson.specs.Windows.{windowsOf}
