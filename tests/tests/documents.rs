@@ -84,7 +84,7 @@ fn definitions(name: &str) -> usize {
     files
         .map(|file| file.expect("a file must be listed").path())
         .filter(|file| {
-            !["Lib", "Steps", "Parts"].iter().any(|part| file.file_stem().is_some_and(|stem| stem == *part))
+            !["Lib", "Parts"].iter().any(|part| file.file_stem().is_some_and(|stem| stem == *part))
         })
         .flat_map(|file| text_of(&file).lines().map(|line| line.trim().to_string()).collect::<Vec<_>>())
         .filter(|line| !line.is_empty() && !line.starts_with("--") && !line.starts_with("use "))

@@ -24,7 +24,7 @@ use Rattle.jackson.specs.Intervals.{overloadOf}
 use Rattle.jackson.specs.Plans.{PlanBytes}
 use Rattle.jackson.specs.Testing.{Holds, Tests, testOf}
 use Rattle.jackson.specs.Planning.{Advances, Starts, Fills, FillsWindows, listBeside, fillOf, planAfter}
-use Rattle.jackson.specs.Steps.{IsAfter}
+use Rattle.jackson.specs.Parts.{IsAfter}
 use Rattle.jackson.specs.declared.types.WindowSet.{WindowSet}
 use Rattle.jackson.specs.declared.types.Day.{Day}
 use Rattle.jackson.specs.declared.types.DayAnswer.{DayAnswer}

@@ -13,7 +13,7 @@ use Rattle.jackson.specs.Counting.{same, better, smaller}
 use Rattle.jackson.specs.Windows.{withLeft, windowsIn}
 use Rattle.jackson.specs.Plans.{idle}
 use Rattle.jackson.specs.Minutes.{State, isReady, earliestDeadline, chosen}
-use Rattle.jackson.specs.Steps.{stateAt, IsAfter}
+use Rattle.jackson.specs.Parts.{stateAt, IsAfter}
 use Rattle.jackson.specs.declared.types.WindowSet.{WindowSet}
 use Rattle.jackson.specs.declared.types.Day.{Day}
 use Rattle.jackson.proofs.Sums.{le-or-lt, same-cases}

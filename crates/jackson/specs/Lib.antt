@@ -8,4 +8,4 @@ pub mod Minutes
 pub mod Rules
 pub mod Testing
 pub mod Planning
-pub mod Steps
+pub mod Parts

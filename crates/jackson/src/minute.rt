@@ -13,7 +13,7 @@ ghost use Rattle.jackson.specs.Windows.{windowsIn};
 ghost use Rattle.jackson.specs.Plans.{idle};
 ghost use Rattle.jackson.specs.Minutes.{isReady, earliestDeadline, chosen};
 ghost use Rattle.jackson.specs.Planning.{Advances};
-ghost use Rattle.jackson.specs.Steps.{stateAt, IsAfter};
+ghost use Rattle.jackson.specs.Parts.{stateAt, IsAfter};
 
 // An entry has its r reached and minutes left.
 fn is_ready(t: u16, r: u16, left: u16) -> bool

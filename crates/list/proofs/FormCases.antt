@@ -9,7 +9,7 @@ use lib.ListN.{length, set, length-append}
 use Rattle.list.specs.Numbers.{u16Bytes, u32Bytes}
 use Rattle.list.specs.Maps.{mapOf, sizeOf}
 use Rattle.list.specs.Forms.{sealed, fieldsIn, sealBytes, minuteBytes, timesBytes, entryBytes}
-use Rattle.list.specs.Steps.{Wrote}
+use Rattle.list.specs.Parts.{Wrote}
 use Rattle.list.specs.declared.types.Seal.{Seal}
 use Rattle.list.specs.declared.types.Seal.the-variants.{Missing, Number}
 use Rattle.list.specs.declared.types.Entry.{Entry}

@@ -8,9 +8,12 @@ use native.Mathlib.Omega.{arith}
 use Rattle.list.specs.Reading.{PlaceIn}
 use Rattle.list.specs.Outcomes.{Code, code, Outcome, answered, refused, andThen}
 
--- an outcome answers one thing, and does not refuse it
+-- an outcome answers one thing or refuses by one code, and not both
 pub answered-same : {A : Type 0} {o : Outcome A} {a b : A} → o ≡ answered a → o ≡ answered b → a ≡ b
 answered-same e f = cc (e, f)
+
+pub refused-same : {A : Type 0} {o : Outcome A} {a b : Code} → o ≡ refused a → o ≡ refused b → a ≡ b
+refused-same e f = cc (e, f)
 
 pub answered-refused : {A : Type 0} {o : Outcome A} {a : A} {x : Code} → o ≡ answered a → o ≡ refused x → ⊥
 answered-refused e f = let z : _≡_ {A = ℕ} 0 1 = cc (e, f) in omega arith

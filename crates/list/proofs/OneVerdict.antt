@@ -12,7 +12,7 @@ use Rattle.list.specs.declared.types.Verdict.{Verdict}
 use Rattle.list.specs.declared.types.Verdict.the-variants.{Accepted, Refused}
 use Rattle.list.specs.declared.types.WriteAnswer.{WriteAnswer}
 use Rattle.list.specs.declared.types.WriteAnswer.the-variants.{Written, NotWritten}
-use Rattle.list.proofs.Inversion.{answered-refused}
+use Rattle.list.proofs.Inversion.{answered-refused, refused-same}
 
 -- the refusal with these number and values
 abbrev refusalOf : Code → Refusal
@@ -55,10 +55,10 @@ pub one-verdict : {A : Type 0} (u v : Verdict) (x y : A) → outcomeOf u x ≡ o
 one-verdict Accepted Accepted x y e = refl
 one-verdict Accepted (Refused k) x y e = absurd (answered-refused refl e)
 one-verdict (Refused j) Accepted x y e = absurd (answered-refused refl (sym e))
-one-verdict (Refused j) (Refused k) x y e = let codes : codeOf j ≡ codeOf k = cc e in ap Refused (one-refusal j k codes)
+one-verdict (Refused j) (Refused k) x y e = ap Refused (one-refusal j k (refused-same refl e))
 
 pub one-write : (a b : WriteAnswer) → writeAnswerOf a ≡ writeAnswerOf b → a ≡ b
 one-write (Written m) (Written n) e = let same : m ≡ n = cc e in ap Written same
 one-write (Written m) (NotWritten k) e = absurd (answered-refused refl e)
 one-write (NotWritten j) (Written n) e = absurd (answered-refused refl (sym e))
-one-write (NotWritten j) (NotWritten k) e = let codes : codeOf j ≡ codeOf k = cc e in ap NotWritten (one-refusal j k codes)
+one-write (NotWritten j) (NotWritten k) e = ap NotWritten (one-refusal j k (refused-same refl e))

@@ -13,7 +13,7 @@ use Rattle.list.specs.Refusals.{codeOf, verdictOf, writeAnswerOf}
 use Rattle.list.specs.DayLists.{SameList}
 use Rattle.list.specs.Checks.{WellFormed, checkOf}
 use Rattle.list.specs.Reading.{readOf}
-use Rattle.list.specs.Steps.{AnswersAs}
+use Rattle.list.specs.Parts.{AnswersAs}
 use Rattle.list.specs.Writing.{bytesOf, writeOf, bufferAfter}
 use Rattle.list.specs.Machine.{Bytes, Typed}
 use Rattle.list.specs.Promises.{Reads, Writes}

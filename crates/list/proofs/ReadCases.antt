@@ -16,7 +16,7 @@ use Rattle.list.specs.Entries.{entryOf, entryAnswerOf}
 use Rattle.list.specs.DayLists.{blank, dayList, emptyList}
 use Rattle.list.specs.Checks.{headerFault}
 use Rattle.list.specs.Reading.{entriesFrom, frameOf, countOf, bodyOf, readOf}
-use Rattle.list.specs.Steps.{AnswersAs}
+use Rattle.list.specs.Parts.{AnswersAs}
 use Rattle.list.specs.declared.types.Entry.{Entry}
 use Rattle.list.specs.declared.types.Frame.{Frame}
 use Rattle.list.specs.declared.types.DayList.{DayList}

@@ -14,7 +14,7 @@ use Rattle.list.specs.Forms.{fieldsIn, entryBytes}
 use Rattle.list.specs.DayLists.{entriesOf}
 use Rattle.list.specs.Checks.{WellFormed}
 use Rattle.list.specs.Writing.{bytesOfEntries, bytesOf, writeOf}
-use Rattle.list.specs.Steps.{Wrote}
+use Rattle.list.specs.Parts.{Wrote}
 use Rattle.list.specs.declared.types.Entry.{Entry}
 use Rattle.list.specs.declared.types.Frame.{Frame}
 use Rattle.list.specs.declared.types.DayList.{DayList}

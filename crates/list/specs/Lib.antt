@@ -10,4 +10,4 @@ pub mod Forms
 pub mod Writing
 pub mod Machine
 pub mod Promises
-pub mod Steps
+pub mod Parts

@@ -14,7 +14,7 @@ ghost use Prim.Native.Nat.{_≤_};
 ghost use lib.ListN.{length};
 ghost use Rattle.list.specs.DayLists.{emptyList};
 ghost use Rattle.list.specs.Reading.{frameOf, countOf, bodyOf};
-ghost use Rattle.list.specs.Steps.{AnswersAs};
+ghost use Rattle.list.specs.Parts.{AnswersAs};
 ghost use Rattle.list.specs.Promises.{Reads};
 
 // A refusal, with the empty list beside it.

@@ -6,7 +6,7 @@ use Prim.Native.Nat.{ℕ, suc, _+_, _-_, _<_, _≤_}
 use native.Mathlib.Omega.{arith}
 use lib.ListN.{length}
 use lib.Seq.{length-take-le}
-use Rattle.list.specs.Outcomes.{Code, Outcome, answered, refused, andThen}
+use Rattle.list.specs.Outcomes.{Outcome, answered, refused, andThen}
 use Rattle.list.specs.Refusals.{codeOf, verdictOf, outcomeOf}
 use Rattle.list.specs.DayLists.{emptyList}
 use Rattle.list.specs.Checks.{checkOf, WellFormed}
@@ -15,7 +15,7 @@ use Rattle.list.specs.declared.types.Refusal.{Refusal}
 use Rattle.list.specs.declared.types.Verdict.{Verdict}
 use Rattle.list.specs.declared.types.Verdict.the-variants.{Accepted, Refused}
 use Rattle.list.proofs.Sound.{SoundList, sound-list}
-use Rattle.list.proofs.Inversion.{answered-refused}
+use Rattle.list.proofs.Inversion.{answered-refused, refused-same}
 use Rattle.jackson.specs.Windows.{Windows, windowsOf, windowsIn}
 use Rattle.jackson.specs.Intervals.{overloadOf}
 use Rattle.jackson.specs.Testing.{Holds}
@@ -74,9 +74,6 @@ list-countable l s long formed holds =
         go false = omega arith
 
 -- Answers.
-refused-same : {A : Type 0} {a b : Code} → _≡_ {A = Outcome A} (refused a) (refused b) → a ≡ b
-refused-same e = cc
-
 module _ (l : DayList) (a : NarrowAnswer) where
   -- a refusal
   pub answers-refused : (o : Outcome Narrowed) (v : Verdict) (x : Refusal) → a ≡ record { verdict = v; list = emptyList; moves = 0 } → v ≡ Refused x
@@ -95,8 +92,8 @@ module _ (l : DayList) (a : NarrowAnswer) where
     holds-answer answers =
         record {
           narrowed = narrowed (a .verdict) o (answers .outcome) refl;
-          kinds = λ e. let z = some (a .verdict) o (answers .outcome) refl e in rw (list-is (z .0) (z .1) answers .0) (listed-whole l (z .0 .windows) (keeps (z .0) (z .1) .0));
-          formed = λ e. let z = some (a .verdict) o (answers .outcome) refl e in rw (list-is (z .0) (z .1) answers .0) (listed-formed l (z .0 .windows) (keeps (z .0) (z .1) .0) (keeps (z .0) (z .1) .1));
+          kinds = λ e. let z = some (a .verdict) o (answers .outcome) refl e in rw (z .3) (listed-whole l (z .0) (z .1));
+          formed = λ e. let z = some (a .verdict) o (answers .outcome) refl e in rw (z .3) (listed-formed l (z .0) (z .1) (z .2));
         }
       where
         narrowed : (t : Verdict) (u : Outcome Narrowed) → outcomeOf t (a .list, a .moves) ≡ listed l u → o ≡ u
@@ -106,11 +103,12 @@ module _ (l : DayList) (a : NarrowAnswer) where
             λ i. answered (record { windows = (ap windowsOf (z .0) ∙ listed-windows l (v .windows) (keeps v q .0)) i; moves = z .1 i })
         narrowed Accepted (refused k) e q = absurd (answered-refused (sym e) refl)
         narrowed (Refused x) (answered v) e q = absurd (answered-refused e refl)
-        narrowed (Refused x) (refused k) e q = ap refused (refused-same e)
+        narrowed (Refused x) (refused k) e q = ap refused (refused-same refl e)
 
-        -- beside Accepted there is an outcome
-        some : (t : Verdict) (u : Outcome Narrowed) → outcomeOf t (a .list, a .moves) ≡ listed l u → o ≡ u → t ≡ Accepted → (v : Narrowed) × (o ≡ answered v)
-        some Accepted (answered v) e q _ = (v, q)
+        -- beside Accepted stands the list with the windows of the outcome
+        some : (t : Verdict) (u : Outcome Narrowed) → outcomeOf t (a .list, a .moves) ≡ listed l u → o ≡ u → t ≡ Accepted
+            → (v : Windows) × Keeps (windowsOf l) v × WellFormed l × (a .list ≡ listWith l v)
+        some Accepted (answered v) e q _ = (v .windows, keeps v q .0, keeps v q .1, list-is v q answers .0)
         some Accepted (refused k) e q _ = absurd (answered-refused (sym e) refl)
         some (Refused x) u e q f = absurd (answered-refused (ap verdictOf f) refl)
 
@@ -207,7 +205,8 @@ module _ (l : DayList) (v : Verdict) (checked : verdictOf v ≡ checkOf l) where
             let same : narrowedOf found ≡ settleOf l = is ∙ given ∙ rw (check-passed, test-is, q) in
             settles l a (rw same at answers)
 
-      pub round-found : (found : VisitAnswer) → narrowedOf found ≡ round overloadOf (wholeIn l) (stateOf s 0) → AnswersAs l (narrowedOf found) a → MakesRound l a
+      pub round-found : (found : VisitAnswer) → narrowedOf found ≡ round overloadOf (wholeIn l) (stateOf s 0)
+          → AnswersAs l (narrowedOf found) a → MakesRound l a
       unfolding roundOf
       round-found found is answers =
           let given : _ ≡ _ = ap (λ (w : Windows). round overloadOf (wholeIn l) (unmoved w)) (holds .windows) in

@@ -153,7 +153,8 @@ module _ (test : Test) (whole : ℕ → Bool) where
   rounds-end (stopped e) = tt
 
 -- so they answer the widest settled windows
-pub rounds-widest : {test : Test} → Planner test → (whole : ℕ → Bool) (fuel : ℕ) (s : Narrowed) → Formed (s .windows) → Plannable (s .windows) → slack whole (s .windows) < fuel
+pub rounds-widest : {test : Test} → Planner test → (whole : ℕ → Bool) (fuel : ℕ) (s : Narrowed) → Formed (s .windows)
+    → Plannable (s .windows) → slack whole (s .windows) < fuel
     → Says (λ v. Widest whole (s .windows) (v .windows)) Anything (rounds test whole fuel s)
 rounds-widest {test} planner whole fuel s formed planned enough =
     go (rounds test whole fuel s) (rounds-narrow planner whole fuel s formed) (rounds-end test whole (rounds-are test whole fuel s formed enough))

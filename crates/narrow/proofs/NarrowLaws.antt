@@ -141,7 +141,8 @@ module _ {test : Test} (planner : Planner test) (whole : ℕ → Bool) (w : Wind
   searches : (v : Windows) → RoomInside w v → (k : ℕ) → k < w .n → SearchLaw test v k
   searches v has k place =
       rw (has .entries)
-      (search-law planner (withWindows w (v .r) (v .d)) (formed-inside w formed (v .r) (v .d) (record { r = has .inside .r; d = has .inside .d }) (has .room)) k place)
+      (search-law planner (withWindows w (v .r) (v .d))
+      (formed-inside w formed (v .r) (v .d) (record { r = has .inside .r; d = has .inside .d }) (has .room)) k place)
 
   steps-room : (ss : List Step) → NamesWhole whole (w .n) ss → RoomInside w (stepsLeave test ss w)
   steps-room ss names =

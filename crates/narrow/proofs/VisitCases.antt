@@ -71,7 +71,8 @@ module _ (s : WindowSet) (moves k : ℕ) (ready : Searchable s k) (whole : Bool)
     visit-ends b last = rw (is-whole, started e) last
 
 -- a refusal of earlier visits stays
-visits-stay : (test : Test) (whole : ℕ → Bool) (s : Narrowed) (x : Code) (k n : ℕ) → k ≤ n → visits test whole k s ≡ refused x → visits test whole n s ≡ refused x
+visits-stay : (test : Test) (whole : ℕ → Bool) (s : Narrowed) (x : Code) (k n : ℕ) → k ≤ n → visits test whole k s ≡ refused x
+    → visits test whole n s ≡ refused x
 unfolding visits
 visits-stay test whole s x k zero h e = let z : k ≡ 0 = omega arith in rw z at e
 visits-stay test whole s x k (suc n) h e =

@@ -28,7 +28,8 @@ module _ (w : Windows) (k s : ℕ) (start : IsLeastStart w k s) where
     after-least : s + w .p k ≤ e
     after-least =
         let room = end .room in
-        le-or-lt s (e - w .p k) (λ l. omega arith) (λ l. absurd (start .least (e - w .p k) (omega arith) l (rw (fixed-up-to w k e (omega arith)) at (end .plan))))
+        le-or-lt s (e - w .p k) (λ l. omega arith)
+        (λ l. absurd (start .least (e - w .p k) (omega arith) l (rw (fixed-up-to w k e (omega arith)) at (end .plan))))
 
     -- so each search finds the same after the other; one of the two by the mirror would be longer
     end-after : IsGreatestEnd (withR w k s) k e

@@ -11,7 +11,7 @@ use lib.Seq.{sets-eq, take-append-seam, length-sets}
 use Rattle.list.specs.Outcomes.{answered}
 use Rattle.list.specs.Refusals.{writeAnswerOf}
 use Rattle.list.specs.Machine.{Bytes}
-use Rattle.list.specs.Steps.{Wrote}
+use Rattle.list.specs.Parts.{Wrote}
 use Rattle.list.specs.Writing.{storing, stored}
 use Rattle.list.specs.declared.types.Refusal.the-variants.{ListBufferShort}
 use Rattle.list.specs.declared.types.WriteAnswer.{WriteAnswer}

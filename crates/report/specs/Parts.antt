@@ -4,7 +4,7 @@ use mathlib.Core.Bool.{cond}
 use mathlib.Core.List.{List, [], _∷_, _++_}
 use lib.ListN.{length, getD}
 use lib.Dec.{eqb}
-use Rattle.list.specs.Steps.{Wrote}
+use Rattle.list.specs.Parts.{Wrote}
 use Rattle.list.specs.declared.types.Entry.{Entry}
 use Rattle.jackson.specs.Plans.{placesIn}
 use Rattle.bounds.specs.declared.types.PlanAnswer.{PlanAnswer}

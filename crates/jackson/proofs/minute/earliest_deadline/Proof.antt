@@ -7,7 +7,7 @@ use lib.ListN.{getD}
 use Rattle.jackson.specs.Counting.{smaller}
 use Rattle.jackson.specs.Plans.{idle}
 use Rattle.jackson.specs.Minutes.{isReady}
-use Rattle.jackson.specs.Steps.{stateAt}
+use Rattle.jackson.specs.Parts.{stateAt}
 use Rattle.jackson.proofs.Scans.{smaller-ranks}
 use Rattle.jackson.proofs.ScanSteps.{Searched, search-start, search-next, search-done, search-found}
 use Rattle.jackson.proofs.minute.earliest_deadline.Statement.{statement}

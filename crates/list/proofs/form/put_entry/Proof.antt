@@ -6,7 +6,7 @@ use Prim.Native.Nat.{_+_, _≤_}
 use lib.ListN.{length, set}
 use Rattle.list.specs.Numbers.{u32Bytes}
 use Rattle.list.specs.Forms.{sealBytes, timesBytes, entryBytes}
-use Rattle.list.specs.Steps.{Wrote}
+use Rattle.list.specs.Parts.{Wrote}
 use Rattle.list.proofs.Stores.{wrote-one, wrote-length, room-first, room-after}
 use Rattle.list.proofs.FormCases.{afterMap, afterSerial, entry-length, entry-room, entry-stored}
 use Rattle.list.proofs.form.put_entry.Statement.{statement}
