@@ -9,6 +9,7 @@ use lib.ListN.{length, getD}
 use lib.Seq.{getD-take}
 use Rattle.list.specs.Outcomes.{Code}
 use Rattle.list.specs.DayLists.{blank}
+use Rattle.list.specs.declared.types.Entry.{Entry}
 use Rattle.list.specs.declared.types.DayList.{DayList}
 use Rattle.jackson.specs.Plans.{placesIn}
 use Rattle.codes.specs.Numbers.{three, numbersOf}
@@ -16,8 +17,8 @@ use Rattle.codes.specs.declared.RefusalCode.{RefusalCode}
 use Rattle.report.specs.Text.{ascii, decimal, line}
 use Rattle.report.specs.Runs.{beginsRun, runEnd}
 use Rattle.report.specs.Reports.{entryLine, entryLineAt, runLine, runLineAt, refusalLine}
-use Rattle.report.specs.Parts.{Puts, carriedText}
-use Rattle.report.proofs.Steps.{puts-nothing}
+use Rattle.report.specs.Parts.{Puts, timesText, carriedText}
+use Rattle.report.proofs.Steps.{puts-nothing, puts-then}
 use Rattle.report.proofs.RunCases.{place-read}
 
 -- A refusal's line: its number, what it carries, and the newline.
@@ -60,6 +61,19 @@ module _ {old : List ℕ} {at : ℕ} (plan : List ℕ) (t : ℕ) where
 
   pub run-none : false ≡ beginsRun (placesIn plan) t → Puts old at (runLineAt (length plan) (placesIn plan) t) old at
   run-none begins = rw (← begins) (puts-nothing old at)
+
+-- The end of an entry's line: its five times, each after a space, and the newline.
+pub times-put : {s₀ s₁ s₂ s₃ s₄ s₅ s₆ : List ℕ} {at a b c d last next : ℕ} (e : Entry) (end start : ℕ)
+    → Puts s₀ at (ascii " " ++ decimal (e .r)) s₁ a
+    → Puts s₁ a (ascii " " ++ decimal (e .d)) s₂ b
+    → Puts s₂ b (ascii " " ++ decimal (e .p)) s₃ c
+    → Puts s₃ c (ascii " " ++ decimal end) s₄ d
+    → Puts s₄ d (ascii " " ++ decimal start) s₅ last
+    → Puts s₅ last (ascii "\n") s₆ next
+    → Puts s₀ at (timesText e end start) s₆ next
+unfolding line ascii
+times-put e end start r d p least greatest newline =
+    puts-then r (puts-then d (puts-then p (puts-then least (puts-then greatest newline))))
 
 -- The line of the entry at a place.
 pub entry-put : {old new : List ℕ} {at next : ℕ} (l : DayList) (ends starts : List ℕ) (i : ℕ) → i < l .n

@@ -2,8 +2,8 @@
 -- Assumes nothing.
 use borrow.Author.Needs.{needs}
 use mathlib.Core.Path.{_∙_}
-use Rattle.report.specs.Text.{ascii, line}
-use Rattle.report.proofs.Steps.{puts-then}
+use Rattle.report.specs.Text.{ascii}
+use Rattle.report.proofs.CallCases.{times-put}
 use Rattle.report.proofs.lines.put_times.Statement.{statement}
 use Rattle.report.proofs.lines.put_times.Tie as tie
 
@@ -56,8 +56,8 @@ same-length : tie.Need-same-length
 same-length c = c .before .before .put-bytes .kept .0 ∙ c .before .before .before .before .before .before .before .put-after5 .kept .0 ∙ c .before .before .before .before .before .before .before .before .before .before .before .before .put-after4 .kept .0 ∙ c .before .before .before .before .before .before .before .before .before .before .before .before .before .before .before .before .before .put-after3 .kept .0 ∙ c .before .before .before .before .before .before .before .before .before .before .before .before .before .before .before .before .before .before .before .before .before .before .before .put-after2 .kept .0 ∙ c .before .before .before .before .before .before .before .before .before .before .before .before .before .before .before .before .before .before .before .before .before .before .before .before .before .before .before .before .before .put-after .kept .0
 
 returns : tie.Need-returns
-unfolding line ascii
-returns c = puts-then (c .before .before .before .before .before .before .before .before .before .before .before .before .before .before .before .before .before .before .before .before .before .before .before .before .before .before .before .before .before .put-after .ensures) (puts-then (c .before .before .before .before .before .before .before .before .before .before .before .before .before .before .before .before .before .before .before .before .before .before .before .put-after2 .ensures) (puts-then (c .before .before .before .before .before .before .before .before .before .before .before .before .before .before .before .before .before .put-after3 .ensures) (puts-then (c .before .before .before .before .before .before .before .before .before .before .before .before .put-after4 .ensures) (puts-then (c .before .before .before .before .before .before .before .put-after5 .ensures) (c .before .before .put-bytes .ensures)))))
+unfolding ascii
+returns c = times-put (c .before .before .before .before .before .before .before .before .before .before .before .before .before .before .before .before .before .before .before .before .before .before .before .before .before .before .before .before .before .before .before .before .before .before .args .e) (c .before .before .before .before .before .before .before .before .before .before .before .before .before .before .before .before .before .before .before .before .before .before .before .before .before .before .before .before .before .before .before .before .before .before .args .end) (c .before .before .before .before .before .before .before .before .before .before .before .before .before .before .before .before .before .before .before .before .before .before .before .before .before .before .before .before .before .before .before .before .before .before .args .start) (c .before .before .before .before .before .before .before .before .before .before .before .before .before .before .before .before .before .before .before .before .before .before .before .before .before .before .before .before .before .put-after .ensures) (c .before .before .before .before .before .before .before .before .before .before .before .before .before .before .before .before .before .before .before .before .before .before .before .put-after2 .ensures) (c .before .before .before .before .before .before .before .before .before .before .before .before .before .before .before .before .before .put-after3 .ensures) (c .before .before .before .before .before .before .before .before .before .before .before .before .put-after4 .ensures) (c .before .before .before .before .before .before .before .put-after5 .ensures) (c .before .before .put-bytes .ensures)
 
 pub put-times-spec : {M : Type 1} → statement M
 put-times-spec =
