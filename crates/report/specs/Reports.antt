@@ -92,7 +92,8 @@ refusalLine k =
     ∷ cond (eqb (k .number) 9) (ascii "from" ∷ value 0 ∷ ascii "to" ∷ value 1 ∷ ascii "work" ∷ value 2 ∷ [])
     (cond (eqb (k .number) 10) (ascii "entry" ∷ value 0 ∷ []) (ascii "at" ∷ value 0 ∷ [])))
 
--- the text of a list that was narrowed: the settled windows stand in its entries' lines, and its runs are those of Jackson's schedule
+-- the text of a list that was narrowed: the settled windows stand in its entries' lines, and its runs are those of Jackson's schedule of
+-- them. Demands 2 and 3 of the crate bounds (specs/Calls.antt, specs/Demand3.antt) speak of the same windows, plan and bounds.
 unfoldable pub dayText : DayList → Narrowed → List ℕ
 dayText l v =
     let w = v .windows in

@@ -1,6 +1,6 @@
 // The report: from a day's bytes to the text that the program prints.
-// Promises: `report` stores the text that specs/Reports.antt defines, for every input, in a buffer that has room for it, and refuses a
-// shorter one as 12 with the bytes needed; REPORT_BYTES are enough for every input.
+// Promises: `report` stores the text that specs/Reports.antt defines, for every input, at the start of a buffer that has room for it; a
+// shorter one keeps its bytes and is refused as 12 with the bytes needed. REPORT_BYTES are enough for every input.
 // Uses `read` and the types of the crate list, `plan_day` of bounds and `numbers_of` of codes.
 mod day;
 mod lines;

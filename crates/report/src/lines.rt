@@ -23,6 +23,7 @@ pub(crate) fn put_head(out: &mut [u8], at: usize, h: u16, n: u8, moves: u32, bro
     put_bytes(out, d, b"\n")
 }
 
+// ` 77` or ` -`
 fn put_seal(out: &mut [u8], at: usize, seal: Seal) -> usize
     ensures { λ next. ⌜ Puts (now (out .entry)) at (ascii " " ++ sealText seal) (now (out .exit)) next ⌝ }
 {
@@ -32,6 +33,7 @@ fn put_seal(out: &mut [u8], at: usize, seal: Seal) -> usize
     }
 }
 
+// ` pause` or ` whole`
 fn put_kind(out: &mut [u8], at: usize, kind: Kind) -> usize
     ensures { λ next. ⌜ Puts (now (out .entry)) at (ascii " " ++ kindText kind) (now (out .exit)) next ⌝ }
 {

@@ -50,6 +50,7 @@ fn put_run_at(out: &mut [u8], at: usize, plan: &[u8], t: usize) -> usize
     at
 }
 
+// The lines of all runs of a plan.
 pub(crate) fn put_runs(out: &mut [u8], at: usize, plan: &[u8]) -> usize
     ensures { λ next. ⌜ Puts (now (out .entry)) at (runLines (length (now (plan .entry))) (placesIn (now (plan .entry)))) (now (out .exit)) next ⌝ }
 {
