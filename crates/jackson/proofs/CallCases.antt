@@ -17,6 +17,7 @@ use Rattle.list.specs.declared.types.Refusal.the-variants.{PlanBufferShort}
 use Rattle.list.specs.declared.types.Verdict.{Verdict}
 use Rattle.list.specs.declared.types.Verdict.the-variants.{Accepted, Refused}
 use Rattle.list.specs.declared.types.DayList.{DayList}
+use Rattle.list.proofs.Inversion.{by-accepted, by-refused}
 use Rattle.jackson.specs.Counting.{listOf}
 use Rattle.jackson.specs.Windows.{Windows, windowsOf, windowsIn}
 use Rattle.jackson.specs.Minutes.{State, stateOf, dayStart, chosen, minuteOf, later, placeAt, schedule}
@@ -45,14 +46,6 @@ module _ (day : Day) where
       let e = minute-on (stateOf day) h in
       record { place = rw e place; next = rw e (rw (← place) (step .state)); n = step .n }
 
--- a check that was passed, and one that was not
-module _ (l : DayList) (v : Verdict) (checked : verdictOf v ≡ checkOf l) where
-  passed : v ≡ Accepted → checkOf l ≡ answered tt
-  passed e = sym checked ∙ ap verdictOf e
-
-  not-passed : (x : Refusal) → v ≡ Refused x → checkOf l ≡ refused (codeOf x)
-  not-passed x e = sym checked ∙ ap verdictOf e
-
 -- starting a day with these windows
 module _ (l : DayList) (v : Verdict) (checked : verdictOf v ≡ checkOf l) (w : WindowSet) (day : Day)
     (first : day ≡ record { windows = w; t = 0; last = 255 }) where
@@ -65,10 +58,10 @@ module _ (l : DayList) (v : Verdict) (checked : verdictOf v ≡ checkOf l) (w : 
       }
 
   pub not-started : (x : Refusal) → v ≡ Refused x → Holds emptyList w → Starts l (record { verdict = v; day = day })
-  not-started x e holds = begun emptyList holds (rw (not-passed l v checked x e) refl)
+  not-started x e holds = begun emptyList holds (rw (by-refused checked e) refl)
 
   pub started : v ≡ Accepted → Holds l w → Starts l (record { verdict = v; day = day })
-  started e holds = begun l holds (rw (passed l v checked e) refl)
+  started e holds = begun l holds (rw (by-accepted checked e) refl)
 
 tests-of : (l : DayList) (v : Verdict) → verdictOf v ≡ testOf l → Tests l v
 tests-of l v e = record { outcome = e; decides = rw e (test-decides l) }
@@ -77,11 +70,11 @@ tests-of l v e = record { outcome = e; decides = rw e (test-decides l) }
 module _ (l : DayList) (v : Verdict) (checked : verdictOf v ≡ checkOf l) where
   pub not-tested : (x : Refusal) → v ≡ Refused x → Tests l v
   unfolding testOf
-  not-tested x e = tests-of l v (rw (not-passed l v checked x e) (ap verdictOf e))
+  not-tested x e = tests-of l v (rw (by-refused checked e) (ap verdictOf e))
 
   pub tested : (u : Verdict) (w : WindowSet) → v ≡ Accepted → Holds l w → verdictOf u ≡ overloadOf (windowsIn w) → Tests l u
   unfolding testOf
-  tested u w e holds test = tests-of l u (rw (passed l v checked e) (test ∙ ap overloadOf (holds .windows)))
+  tested u w e holds test = tests-of l u (rw (by-accepted checked e) (test ∙ ap overloadOf (holds .windows)))
 
 -- the first i of h places are stored, and the day has gone i minutes on from s
 pub record Stored (s : State) (h : ℕ) (old new : List ℕ) (day : Day) (i : ℕ) : Type 0 where
@@ -145,12 +138,12 @@ module _ (l : DayList) (old : List ℕ) (a : DayAnswer) (starts : Starts l a) wh
   pub not-filled : (x : Refusal) → a .verdict ≡ Refused x → Fills l old (a .verdict) old
   unfolding fillOf
   not-filled x e =
-      let z = not-passed l (a .verdict) (starts .outcome) x e in
+      let z = by-refused (starts .outcome) e in
       fills-of l old _ _ (rw z (ap verdictOf e)) (rw z refl)
 
   module _ (e : a .verdict ≡ Accepted) where
     well-formed : checkOf l ≡ answered tt
-    well-formed = passed l (a .verdict) (starts .outcome) e
+    well-formed = by-accepted (starts .outcome) e
 
     begins : stateOf (a .day) ≡ dayStart (windowsOf l)
     begins = rw well-formed at (starts .beside)

@@ -14,7 +14,7 @@ use Rattle.jackson.specs.Mirrors.{mirror, mirrorPlan, mirrorBytes}
 use Rattle.jackson.proofs.Sums.{le-or-lt, same-cases, same-ne, between-is}
 use Rattle.jackson.proofs.Sums.{sum-le, sum-lt, sum-cong, sum-zero, sum-reverse, count-between}
 use Rattle.jackson.proofs.Listed.{list-length, list-at}
-use Rattle.jackson.proofs.Searches.{First, first-below, last-below, first-last, reverse-twice}
+use Rattle.jackson.proofs.Searches.{First, first-below, last-within, first-last, reverse-twice}
 
 -- Mirrors.
 
@@ -104,7 +104,7 @@ module _ (h : ℕ) (m : ℕ → ℕ) (i : ℕ) where
 pub end-is : (h : ℕ) (m : ℕ → ℕ) (i : ℕ) → 1 ≤ minutesOf h m i → IsEnd h m i (endOf h m i)
 end-is h m i some =
     let s = rw (mirror-start h m i) at (start-is h (mirrorPlan h m) i (omega (arith, mirror-minutes h m i))) in
-    let within = last-below h (λ t. eqb (m t) i) .within in
+    let within = last-within h (λ t. eqb (m t) i) in
     let e : h - suc (h - endOf h m i) ≡ endOf h m i - 1 = omega (arith, s .below) in
     record {
       after-one = omega (arith, s .below);

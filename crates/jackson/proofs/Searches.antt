@@ -13,12 +13,6 @@ pub record First (n : ℕ) (f : ℕ → Bool) (t : ℕ) : Type 0 where
   pub passes : t < n → f t ≡ true
   pub none-before : (i : ℕ) → i < t → f i ≡ true → ⊥
 
--- e is 0, or e - 1 passes and is below n; nothing from e up to n passes
-pub record Last (n : ℕ) (f : ℕ → Bool) (e : ℕ) : Type 0 where
-  pub within : e ≤ n
-  pub passes : 1 ≤ e → f (e - 1) ≡ true
-  pub none-after : (i : ℕ) → e ≤ i → i < n → f i ≡ true → ⊥
-
 -- what a search for the first answers
 pub first-below : (n : ℕ) (f : ℕ → Bool) → First n f (firstBelow n f)
 unfolding firstBelow
@@ -76,14 +70,6 @@ module _ (h : ℕ) (f : ℕ → Bool) where
   pub first-last : firstBelow h (λ t. f (h - suc t)) ≡ h - lastBelow h f
   first-last = omega (arith, last-reverse, first-below h (λ t. f (h - suc t)) .within)
 
-  -- what a search for the last answers
-  pub last-below : Last h f (lastBelow h f)
-  last-below =
-      let t = firstBelow h (λ t. f (h - suc t)) in
-      let first = first-below h (λ t. f (h - suc t)) in
-      let e : h - suc t ≡ lastBelow h f - 1 = omega (arith, last-reverse) in
-      record {
-        within = omega (arith, last-reverse);
-        passes = λ l. rw (← e) (first .passes (omega (arith, last-reverse)));
-        none-after = λ i k l p. first .none-before (h - suc i) (omega (arith, last-reverse)) (rw (reverse-twice h i l) p);
-      }
+  -- what a search for the last answers is at most the bound
+  pub last-within : lastBelow h f ≤ h
+  last-within = omega (arith, last-reverse)

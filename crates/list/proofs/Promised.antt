@@ -9,7 +9,7 @@ use borrow.Author.Tests.{lt-ltb}
 use lib.ListN.{length, take}
 use lib.Seq.{sets, sets-eq}
 use Rattle.list.specs.Outcomes.{code, answered, refused}
-use Rattle.list.specs.Refusals.{codeOf, verdictOf, writeAnswerOf}
+use Rattle.list.specs.Refusals.{verdictOf, writeAnswerOf}
 use Rattle.list.specs.DayLists.{SameList}
 use Rattle.list.specs.Checks.{WellFormed, checkOf}
 use Rattle.list.specs.Reading.{readOf}
@@ -25,6 +25,7 @@ use Rattle.list.specs.declared.types.Verdict.the-variants.{Refused}
 use Rattle.list.specs.declared.types.ReadAnswer.{ReadAnswer}
 use Rattle.list.specs.declared.types.WriteAnswer.{WriteAnswer}
 use Rattle.list.specs.declared.types.WriteAnswer.the-variants.{Written, NotWritten}
+use Rattle.list.proofs.Inversion.{by-refused}
 use Rattle.list.proofs.WriteCases.{list-written}
 use Rattle.list.proofs.RoundTrip.{written-reads-back, read-one-form}
 
@@ -44,7 +45,7 @@ module _ (l : DayList) (old : List ℕ) (t : Typed l) where
 
   pub write-refused : (v : Verdict) (x : Refusal) → verdictOf v ≡ checkOf l → v ≡ Refused x → Writes l old (NotWritten x) old
   unfolding writeOf
-  write-refused v x w a = let q : checkOf l ≡ refused (codeOf x) = sym w ∙ rw a in promised (NotWritten x) old (rw q) (rw q)
+  write-refused v x w a = let q = by-refused w a in promised (NotWritten x) old (rw q) (rw q)
 
   pub write-short : (size : ℕ) → WellFormed l → size ≡ length (bytesOf l) → length old < size → Writes l old (NotWritten (ListBufferShort size)) old
   unfolding writeOf

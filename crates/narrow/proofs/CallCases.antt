@@ -15,7 +15,7 @@ use Rattle.list.specs.declared.types.Refusal.{Refusal}
 use Rattle.list.specs.declared.types.Verdict.{Verdict}
 use Rattle.list.specs.declared.types.Verdict.the-variants.{Accepted, Refused}
 use Rattle.list.proofs.Sound.{SoundList, sound-list}
-use Rattle.list.proofs.Inversion.{answered-refused, refused-same}
+use Rattle.list.proofs.Inversion.{answered-refused, refused-same, by-accepted, by-refused}
 use Rattle.jackson.specs.Windows.{Windows, windowsOf, windowsIn}
 use Rattle.jackson.specs.Intervals.{overloadOf}
 use Rattle.jackson.specs.Testing.{Holds}
@@ -170,7 +170,7 @@ module _ (l : DayList) (found : VisitAnswer) where
 module _ (l : DayList) (v : Verdict) (checked : verdictOf v ≡ checkOf l) where
   module _ (a : NarrowAnswer) (x : Refusal) (e : v ≡ Refused x) (is : a ≡ record { verdict = v; list = emptyList; moves = 0 }) where
     turned-back : checkOf l ≡ refused (codeOf x)
-    turned-back = sym checked ∙ ap verdictOf e
+    turned-back = by-refused checked e
 
     pub settle-turned : Settles l a
     unfolding settleOf
@@ -182,7 +182,7 @@ module _ (l : DayList) (v : Verdict) (checked : verdictOf v ≡ checkOf l) where
 
   module _ (e : v ≡ Accepted) where
     pub check-passed : WellFormed l
-    check-passed = sym checked ∙ ap verdictOf e
+    check-passed = by-accepted checked e
 
     pub check-few : l .n ≤ 64
     check-few = sound-list l check-passed .header .room

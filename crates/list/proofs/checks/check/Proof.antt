@@ -6,11 +6,10 @@ use mathlib.Core.Path.{_≡_, sym, _∙_}
 use Prim.Native.Nat.{_≤_, _-_}
 use native.Mathlib.Omega.{arith}
 use lib.ListN.{length, drop}
-use Rattle.list.specs.Outcomes.{answered}
 use Rattle.list.specs.DayLists.{entriesOf}
-use Rattle.list.specs.Checks.{headerFault, checkOf, entriesFault}
-use Rattle.list.specs.declared.types.Verdict.the-variants.{Accepted}
+use Rattle.list.specs.Checks.{checkOf, entriesFault}
 use Rattle.list.proofs.Walk.{length-mapped}
+use Rattle.list.proofs.Inversion.{by-accepted}
 use Rattle.list.proofs.Sound.{header-of}
 use Rattle.list.proofs.CheckCases.{check-header, check-entries, check-refused, check-next, check-done}
 use Rattle.list.proofs.checks.check.Statement.{statement}
@@ -42,12 +41,9 @@ cast-count c = search needs
 loop-holds : tie.Need-loop-holds Inv-loop μ-loop
 loop-holds c =
     let list = c .before .before .before .before .args .t1 in
-    let header-fault = c .before .before .header-fault in
-    let v = header-fault .result in
-    let w = header-fault .ensures in
-    let a : v ≡ Accepted = c .enum-told .given .1 in
-    let e : headerFault 0 (list .frame) (list .n) ≡ answered tt = rw a at (sym w) in
-    (zero≤, header-of 0 (list .frame) (list .n) e .room, check-entries list v w a)
+    let w = c .before .before .header-fault .ensures in
+    let a = c .enum-told .given .1 in
+    (zero≤, header-of 0 (list .frame) (list .n) (by-accepted w a) .room, check-entries list _ w a)
 
 mul-entry-fault : tie.Need-mul-entry-fault Inv-loop μ-loop
 mul-entry-fault c = search needs

@@ -1,11 +1,10 @@
 -- `reader::read` meets its contract: the header decides, or what follows it does.
 -- Assumes nothing.
 use borrow.Author.Needs.{needs}
-use mathlib.Core.Path.{_≡_, refl, sym, ap}
+use mathlib.Core.Path.{_≡_, refl, ap}
 use Prim.Native.Nat.{ℕ}
-use Rattle.list.specs.Outcomes.{answered}
-use Rattle.list.specs.Checks.{headerFault}
 use Rattle.list.specs.Reading.{frameOf, countOf}
+use Rattle.list.proofs.Inversion.{by-accepted}
 use Rattle.list.proofs.Sound.{header-of}
 use Rattle.list.proofs.ReadCases.{answers-refused, read-short, read-header, read-body}
 use Rattle.list.proofs.Promised.{reads}
@@ -40,10 +39,9 @@ enum-told c = search needs
 read-body-requires : tie.Need-read-body-requires
 read-body-requires c κs =
     let bytes = c .before .before .before .before .before .before .before .args .bytes .now in
-    let header-fault = c .before .before .header-fault in
     let frame = frame-read (c .before .before .before .before) in
-    let e : headerFault 2 (frameOf bytes) (countOf bytes) ≡ answered tt = rw (c .enum-told .given .1, frame) at (sym (header-fault .ensures)) in
-    (c .before .before .before .before .before .if1 .left, header-of 2 _ _ e .room, frame, refl)
+    let passed = by-accepted (c .before .before .header-fault .ensures) (c .enum-told .given .1) in
+    (c .before .before .before .before .before .if1 .left, header-of 2 _ (countOf bytes) passed .room, frame, refl)
 
 enum-known-header : tie.Need-enum-known-header
 enum-known-header c = search needs

@@ -1,16 +1,11 @@
 -- `writer::write` meets its contract: the value check, then the room, then the one form.
 -- Assumes nothing.
 use borrow.Author.Needs.{needs}
-use mathlib.Core.Path.{_≡_, sym, ap, _∙_}
 use native.Mathlib.Omega.{arith}
-use Rattle.list.specs.Refusals.{verdictOf}
-use Rattle.list.specs.Checks.{WellFormed, checkOf}
-use Rattle.list.specs.declared.types.DayList.{DayList}
-use Rattle.list.specs.declared.types.Verdict.{Verdict}
-use Rattle.list.specs.declared.types.Verdict.the-variants.{Accepted}
 use Rattle.list.specs.Machine.{Typed}
 use Rattle.list.proofs.Walk.{length-mapped}
 use Rattle.list.proofs.InTypes.{each-serial, each-seal}
+use Rattle.list.proofs.Inversion.{by-accepted}
 use Rattle.list.proofs.WriteCases.{has-room}
 use Rattle.list.proofs.Promised.{write-refused, write-short, write-done}
 use Rattle.list.proofs.writer.write.Statement.{statement}
@@ -26,10 +21,6 @@ in-types c =
       seal = each-seal (c .args .list .entries) (z .0) (z .1 .1);
     }
 
--- the list was accepted
-well : (l : DayList) {v : Verdict} → verdictOf v ≡ checkOf l → v ≡ Accepted → WellFormed l
-well l w a = sym w ∙ ap verdictOf a
-
 check-requires : tie.Need-check-requires
 check-requires c κs = search needs
 
@@ -39,21 +30,21 @@ enum-told c = search needs
 list-size-requires : tie.Need-list-size-requires
 list-size-requires c κs =
     let args = c .before .before .before .before .args in
-    has-room (args .list) (well (args .list) (c .before .before .check .ensures) (c .enum-told .given .1))
+    has-room (args .list) (by-accepted (c .before .before .check .ensures) (c .enum-told .given .1))
 
 returns : tie.Need-returns
 returns c =
     let args = c .before .before .before .before .before .before .args in
     let check = c .before .before .before .before .check in
     write-short (args .list) (args .out .now) (in-types (c .before .before .before .before .before .before)) _
-    (well (args .list) (check .ensures) (c .before .before .enum-told .given .1)) (c .before .list-size .ensures) (c .if1 .taken)
+    (by-accepted (check .ensures) (c .before .before .enum-told .given .1)) (c .before .list-size .ensures) (c .if1 .taken)
 
 put-list-requires : tie.Need-put-list-requires
 put-list-requires c κs =
     let args = c .before .before .before .before .before .before .before .args in
     let check = c .before .before .before .before .before .check in
     let enum-told = c .before .before .before .enum-told in (
-      has-room (args .list) (well (args .list) (check .ensures) (enum-told .given .1)),
+      has-room (args .list) (by-accepted (check .ensures) (enum-told .given .1)),
       omega (arith, c .before .before .list-size .ensures, c .before .if1 .left),
     )
 
@@ -72,7 +63,7 @@ returns-2 c =
     let if1 = c .before .before .before .before .if1 in
     write-done (args .list) (args .out .now)
     (in-types (c .before .before .before .before .before .before .before .before .before .before)) _ _
-    (well (args .list) (check .ensures) (enum-told .given .1)) (list-size .ensures) (if1 .left) (c .before .before .put-list .ensures)
+    (by-accepted (check .ensures) (enum-told .given .1)) (list-size .ensures) (if1 .left) (c .before .before .put-list .ensures)
 
 returns-3 : tie.Need-returns-3
 returns-3 c =
