@@ -2,7 +2,7 @@
 -- Assumes nothing.
 use mathlib.Core.Path.{_≡_, refl, sym, ap, _∙_}
 use mathlib.Core.Bool.{Bool, true, false, cond, not}
-use mathlib.Core.List.{List, [], _∷_}
+use mathlib.Core.List.{List}
 use Prim.Native.Nat.{ℕ, zero, suc, _+_, _-_, _<_, _≤_}
 use native.Mathlib.Numerals.{add-one}
 use native.Mathlib.Omega.{arith}
@@ -18,7 +18,7 @@ use Rattle.jackson.specs.Windows.{windowsOf}
 use Rattle.jackson.specs.Plans.{idle, placesIn, startOf, endOf, minutesOf}
 use Rattle.jackson.proofs.Sums.{le-or-lt}
 use Rattle.jackson.proofs.Searches.{first-below, one-first}
-use Rattle.jackson.proofs.PlanFacts.{minutes-within}
+use Rattle.jackson.proofs.PlanFacts.{minutes-within, place-read}
 use Rattle.narrow.specs.Calls.{wholeIn}
 use Rattle.bounds.specs.BrokenEntries.{isBroken, brokenIn}
 use Rattle.bounds.specs.Parts.{HoldsPlan}
@@ -30,12 +30,7 @@ at-most-one false b e = omega (arith, e)
 
 -- a byte read is the place that has its minute
 place-at : (h : ℕ) (bytes : List ℕ) (t : ℕ) → t < h → h ≤ length bytes → getD bytes t 0 ≡ placesIn (take h bytes) t
-place-at h bytes t below room = within bytes t (omega arith) ∙ sym (getD-take h bytes t idle below)
-  where
-    within : (bytes : List ℕ) (t : ℕ) → t < length bytes → getD bytes t 0 ≡ placesIn bytes t
-    within [] t h = absurd (omega arith)
-    within (x ∷ bytes) zero h = refl
-    within (x ∷ bytes) (suc t) h = within bytes t (omega arith)
+place-at h bytes t below room = place-read bytes t (omega arith) ∙ sym (getD-take h bytes t idle below)
 
 -- no minute before t is place k's
 pub record Sought (h : ℕ) (bytes : List ℕ) (k t : ℕ) : Type 0 where

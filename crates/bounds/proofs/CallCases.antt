@@ -19,7 +19,7 @@ use Rattle.list.specs.declared.types.Verdict.the-variants.{Accepted, Refused}
 use Rattle.list.specs.declared.types.DayList.{DayList}
 use Rattle.list.specs.Refusals.{outcomeOf}
 use Rattle.list.proofs.Sound.{sound-list}
-use Rattle.list.proofs.Inversion.{answered-refused}
+use Rattle.list.proofs.Inversion.{answered-refused, by-accepted, by-refused}
 use Rattle.jackson.specs.Windows.{Windows, windowsOf, windowsIn}
 use Rattle.jackson.specs.Plans.{placesIn}
 use Rattle.jackson.specs.Mirrors.{mirror, mirrorBytes, MirrorOf}
@@ -53,7 +53,7 @@ use Rattle.bounds.specs.Calls.{PlansWindows, byPlace, settledOr, planned
 module _ (l : DayList) (v : Verdict) (checked : verdictOf v ≡ checkOf l) where
   module _ (x : Refusal) (e : v ≡ Refused x) where
     failed : checkOf l ≡ refused (codeOf x)
-    failed = sym checked ∙ ap verdictOf e
+    failed = by-refused checked e
 
     pub plan-failed : (room : ℕ) → verdictOf v ≡ planChecks l room
     unfolding planChecks
@@ -65,7 +65,7 @@ module _ (l : DayList) (v : Verdict) (checked : verdictOf v ≡ checkOf l) where
 
   module _ (room : ℕ) (e : v ≡ Accepted) where
     passed : checkOf l ≡ answered tt
-    passed = sym checked ∙ ap verdictOf e
+    passed = by-accepted checked e
 
     pub buffer-short : room < l .frame .h → verdictOf (Refused (PlanBufferShort (l .frame .h))) ≡ planChecks l room
     unfolding planChecks

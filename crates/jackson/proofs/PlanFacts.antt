@@ -1,12 +1,13 @@
 -- Facts about plans alone: their mirrors, their starts and ends, other windows, and the room that a plan needs.
 -- Assumes nothing.
-use mathlib.Core.Path.{_≡_, sym, ap, _∙_, fun-ext}
+use mathlib.Core.Path.{_≡_, refl, sym, ap, _∙_, fun-ext}
 use mathlib.Core.Bool.{cond, _&&_}
-use mathlib.Core.List.{List}
-use Prim.Native.Nat.{ℕ, suc, _+_, _-_, _<_, _≤_}
+use mathlib.Core.List.{List, [], _∷_}
+use Prim.Native.Nat.{ℕ, zero, suc, _+_, _-_, _<_, _≤_}
 use native.Mathlib.Omega.{arith}
 use borrow.Author.Tests.{eqb-true, eq-eqb, lt-ltb, le-ltb}
 use lib.Dec.{eqb, leb, ltb}
+use lib.ListN.{length, getD}
 use Rattle.jackson.specs.Counting.{same}
 use Rattle.jackson.specs.Windows.{Windows, Inside, withWindows}
 use Rattle.jackson.specs.Plans.{minutesOf, Plan, startOf, endOf, IsStart, IsEnd, idle, placesIn, PlanBytes}
@@ -170,6 +171,12 @@ module _ (w : Windows) (m : ℕ → ℕ) (plan : Plan w m) (i : ℕ) (place : i 
         omega (arith, plan .inside i (endOf (w .h) m i - 1) place below (plan-end .minute) .1)
 
 -- Bytes of plans.
+
+-- a byte that is read is the place that has its minute
+pub place-read : (bytes : List ℕ) (t : ℕ) → t < length bytes → getD bytes t 0 ≡ placesIn bytes t
+place-read [] t h = absurd (omega arith)
+place-read (x ∷ bytes) zero h = refl
+place-read (x ∷ bytes) (suc t) h = place-read bytes t (omega arith)
 
 -- the mirror of a plan's bytes has the places of its mirror
 pub mirror-at : (h : ℕ) (bs : List ℕ) (t : ℕ) → t < h → placesIn (mirrorBytes h bs) t ≡ mirrorPlan h (placesIn bs) t

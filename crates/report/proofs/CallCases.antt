@@ -12,6 +12,7 @@ use Rattle.list.specs.DayLists.{blank}
 use Rattle.list.specs.declared.types.Entry.{Entry}
 use Rattle.list.specs.declared.types.DayList.{DayList}
 use Rattle.jackson.specs.Plans.{placesIn}
+use Rattle.jackson.proofs.PlanFacts.{place-read}
 use Rattle.codes.specs.Numbers.{three, numbersOf}
 use Rattle.codes.specs.declared.RefusalCode.{RefusalCode}
 use Rattle.report.specs.Text.{ascii, decimal, line}
@@ -19,7 +20,6 @@ use Rattle.report.specs.Runs.{beginsRun, runEnd}
 use Rattle.report.specs.Reports.{entryLine, entryLineAt, runLine, runLineAt, refusalLine}
 use Rattle.report.specs.Parts.{Puts, timesText, carriedText}
 use Rattle.report.proofs.Steps.{puts-nothing, puts-then}
-use Rattle.report.proofs.RunCases.{place-read}
 
 -- A refusal's line: its number, what it carries, and the newline.
 refusal-text : (k : Code)

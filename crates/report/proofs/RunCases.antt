@@ -1,23 +1,18 @@
 -- Runs of a plan, as code finds them.
 -- Assumes nothing.
-use mathlib.Core.Path.{_≡_, refl, sym, _∙_}
+use mathlib.Core.Path.{_≡_, sym, _∙_}
 use mathlib.Core.Bool.{true, false, not}
-use mathlib.Core.List.{List, [], _∷_}
-use Prim.Native.Nat.{ℕ, zero, suc, _+_, _-_, _<_, _≤_}
+use mathlib.Core.List.{List}
+use Prim.Native.Nat.{ℕ, _+_, _-_, _<_, _≤_}
 use native.Mathlib.Omega.{arith}
 use borrow.Author.Tests.{eq-eqb, ne-eqb, eqb-false, not-true}
 use lib.Dec.{eqb}
 use lib.ListN.{length, getD}
 use Rattle.jackson.specs.Plans.{placesIn}
 use Rattle.jackson.proofs.Sums.{le-or-lt}
+use Rattle.jackson.proofs.PlanFacts.{place-read}
 use Rattle.jackson.proofs.Searches.{first-below, one-first}
 use Rattle.report.specs.Runs.{beginsRun, runEnd}
-
--- a byte read is the place that has its minute
-pub place-read : (plan : List ℕ) (t : ℕ) → t < length plan → getD plan t 0 ≡ placesIn plan t
-place-read [] t h = absurd (omega arith)
-place-read (x ∷ plan) zero h = refl
-place-read (x ∷ plan) (suc t) h = place-read plan t (omega arith)
 
 module _ (plan : List ℕ) (t : ℕ) (below : t < length plan) where
   here : getD plan t 0 ≡ placesIn plan t
