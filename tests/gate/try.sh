@@ -4,13 +4,13 @@
 set -u
 here=$(cd "$(dirname "$0")" && pwd)
 gate=$here/../../.ci/run
-room=$(mktemp -d) || exit 1
-trap 'rm -rf "$room"' EXIT
-export PATH=$room/bin:$PATH
+scratch=$(mktemp -d) || exit 1
+trap 'rm -rf "$scratch"' EXIT
+export PATH=$scratch/bin:$PATH
 wrong=0
 
 # What the fake command does when its first word is WORD.
-fake() { printf '%s\n' "$3" >"$room/bin/$1.$2"; } # COMMAND WORD BODY
+fake() { printf '%s\n' "$3" >"$scratch/bin/$1.$2"; } # COMMAND WORD BODY
 
 # cargo test runs one test program and ends with STATUS.
 tests() { # STATUS ANNOUNCED PASSED FAILED IGNORED MEASURED FILTERED
@@ -19,13 +19,13 @@ tests() { # STATUS ANNOUNCED PASSED FAILED IGNORED MEASURED FILTERED
 
 # A repository on which every step ends well, with 3 proved and 4 Rust tests, and a step that prints closing lines.
 fresh() {
-    rm -rf "${room:?}"/*
-    mkdir -p "$room/bin" "$room/repo/.ci" "$room/repo/crates/one" "$room/repo/tests/gate" "$room/repo/target"
-    cd "$room/repo" && cp "$gate" .ci/run && touch crates/one/lib.rt target/made.rt tests/gate/try.sh
+    rm -rf "${scratch:?}"/*
+    mkdir -p "$scratch/bin" "$scratch/repo/.ci" "$scratch/repo/crates/one" "$scratch/repo/tests/gate" "$scratch/repo/target"
+    cd "$scratch/repo" && cp "$gate" .ci/run && touch crates/one/lib.rt target/made.rt tests/gate/try.sh
     printf '# crates\none: io # a comment\n' >crates.txt
     # shellcheck disable=SC2016
-    printf '#!/usr/bin/env bash\n! [ -f "$0.$1" ] || . "$0.$1"\n' | tee "$room/bin/rt" >"$room/bin/cargo"
-    chmod +x "$room/bin/rt" "$room/bin/cargo"
+    printf '#!/usr/bin/env bash\n! [ -f "$0.$1" ] || . "$0.$1"\n' | tee "$scratch/bin/rt" >"$scratch/bin/cargo"
+    chmod +x "$scratch/bin/rt" "$scratch/bin/cargo"
     fake rt fmt "printf '9 passed, 0 failed\n8\r7 passed, 0 failed\n'; echo 6 passed, 0 failed >&2"
     fake rt ci "echo '3 passed, 0 failed'"
     tests 0 4 4 0 0 0 0
@@ -35,10 +35,10 @@ fresh() {
 hold() { # STATUS LAST WHAT
     local want=1
     [[ $2 != *', 0 failed' ]] || want=0
-    [ "$1" -ne "$want" ] || [ "$(tail -n 1 "$room/log")" != "$2" ] ||
-        [ "$(tr '\r' '\n' <"$room/log" | grep -cE '^[0-9]+ passed, [0-9]+ failed')" -ne 1 ] || return 0
+    [ "$1" -ne "$want" ] || [ "$(tail -n 1 "$scratch/log")" != "$2" ] ||
+        [ "$(tr '\r' '\n' <"$scratch/log" | grep -cE '^[0-9]+ passed, [0-9]+ failed')" -ne 1 ] || return 0
     printf "WRONG: %s: exit status %s; the one closing line must be '%s' and come last:\n" "$3" "$1" "$2"
-    cat "$room/log"
+    cat "$scratch/log"
     wrong=$((wrong + 1))
 }
 
@@ -46,7 +46,7 @@ hold() { # STATUS LAST WHAT
 while IFS='|' read -r last what change; do
     fresh
     eval "$change"
-    (cd / && "$room/repo/.ci/run") >"$room/log" 2>&1
+    (cd / && "$scratch/repo/.ci/run") >"$scratch/log" 2>&1
     hold $? "$last" "$what"
 done <"$here/trials.txt"
 
@@ -59,14 +59,14 @@ until_holds() { # COMMAND...
     return 1
 }
 # No such process is there, or only one that nobody has asked for its status yet.
-step_gone() { ! grep -q '^State:.[^Z]' "/proc/$(cat "$room/step")/status" 2>/dev/null; }
+step_gone() { ! grep -q '^State:.[^Z]' "/proc/$(cat "$scratch/step")/status" 2>/dev/null; }
 
 # A signal ends the run and the step that was running, also one that does not heed it.
 for signal in TERM HUP; do
     fresh
-    fake rt ci "trap '' HUP TERM; echo \$\$ >'$room/step'; sleep 60; sleep 60"
-    .ci/run >"$room/log" 2>&1 &
-    until_holds [ -s "$room/step" ] && kill "-$signal" $!
+    fake rt ci "trap '' HUP TERM; echo \$\$ >'$scratch/step'; sleep 60; sleep 60"
+    .ci/run >"$scratch/log" 2>&1 &
+    until_holds [ -s "$scratch/step" ] && kill "-$signal" $!
     wait $!
     hold $? '0 passed, 1 failed' "signal $signal"
     until_holds step_gone || hold 0 'no closing line' "signal $signal, the step goes on"

@@ -5,7 +5,7 @@ use dock_tests::small::{days, entries};
 use dock_tests::{abi, brute, check, flat, jackson, overload};
 use std::collections::HashSet;
 
-/// How many of the days have a plan and how many do not, counted once by a bipartite matching, outside these tests.
+/// How many of the days have a plan, and how many do not.
 const PLANNED: usize = 2_340;
 const OVERLOADED: usize = 7_281;
 

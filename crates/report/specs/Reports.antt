@@ -64,10 +64,11 @@ entryLine place e end start =
     ∷ decimal start
     ∷ [])
 
--- the lines of a list's entries, with the least end and the greatest start of each place
+-- the line of the entry at place i of a list, with its least end and its greatest start
 abbrev pub entryLineAt : DayList → (ℕ → ℕ) → (ℕ → ℕ) → ℕ → List ℕ
 entryLineAt l end start i = entryLine i (getD (entriesOf l) i blank) (end i) (start i)
 
+-- the lines of all its entries
 unfoldable pub entryLines : DayList → (ℕ → ℕ) → (ℕ → ℕ) → List ℕ
 entryLines l end start = texts (l .n) (entryLineAt l end start)
 
@@ -75,10 +76,11 @@ entryLines l end start = texts (l .n) (entryLineAt l end start)
 unfoldable pub runLine : ℕ → ℕ → ℕ → List ℕ
 runLine s e k = line (decimal s ∷ decimal e ∷ decimal k ∷ [])
 
--- the lines of the runs in the h minutes of m, each at the minute where it begins
+-- the line of the run that begins at minute t of the h minutes of m, if one does
 abbrev pub runLineAt : ℕ → (ℕ → ℕ) → ℕ → List ℕ
 runLineAt h m t = cond (beginsRun m t) (runLine t (runEnd h m t) (m t)) []
 
+-- the lines of all its runs
 unfoldable pub runLines : ℕ → (ℕ → ℕ) → List ℕ
 runLines h m = texts h (runLineAt h m)
 
