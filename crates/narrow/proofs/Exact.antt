@@ -50,17 +50,17 @@ module _ (w : Windows) (k : ℕ) where
   one : (s t : ℕ) → (t < s → ⊥) → (s < t → ⊥) → s ≡ t
   one s t a b = le-or-lt s t (λ l. le-or-lt t s (λ m. omega arith) (λ m. absurd (b m))) (λ l. absurd (a l))
 
-  one-start : (s t : ℕ) → IsLeastStart w k s → IsLeastStart w k t → s ≡ t
+  pub one-start : (s t : ℕ) → IsLeastStart w k s → IsLeastStart w k t → s ≡ t
   one-start s t a b = one s t (λ l. a .least t (b .from-r) l (b .plan)) (λ l. b .least s (a .from-r) l (a .plan))
 
-  one-end : (s t : ℕ) → IsGreatestEnd w k s → IsGreatestEnd w k t → s ≡ t
+  pub one-end : (s t : ℕ) → IsGreatestEnd w k s → IsGreatestEnd w k t → s ≡ t
   one-end s t a b = one s t (λ l. b .greatest s l (a .to-d) (a .plan)) (λ l. a .greatest t l (b .to-d) (b .plan))
 
   -- and where there is one it is not so that there is none
-  some-start : (s : ℕ) → IsLeastStart w k s → NoStart w k → ⊥
+  pub some-start : (s : ℕ) → IsLeastStart w k s → NoStart w k → ⊥
   some-start s start none = none s (start .from-r) (start .room) (start .plan)
 
-  some-end : (e : ℕ) → IsGreatestEnd w k e → NoEnd w k → ⊥
+  pub some-end : (e : ℕ) → IsGreatestEnd w k e → NoEnd w k → ⊥
   some-end e end none = none e (end .to-d) (end .room) (end .plan)
 
 -- Starts.

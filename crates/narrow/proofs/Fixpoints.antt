@@ -11,11 +11,11 @@ use Rattle.jackson.specs.Existence.{Plannable}
 use Rattle.jackson.proofs.Sums.{le-or-lt, below-suc}
 use Rattle.narrow.specs.Searching.{Test, withR, withD, withWindow, leastStart, greatestEnd}
 use Rattle.narrow.specs.Settling.{Settled, SettledInside, Widest}
-use Rattle.narrow.specs.Rounds.{Side, earliest, latest, step, Narrowed, moved, movesOf, counted, narrowSide, visit, visits, round, RoundsGive, last, next, stopped, rounds, slack}
+use Rattle.narrow.specs.Rounds.{Side, earliest, latest, step, Narrowed, moved, movesOf, counted, narrowSide, visit, visits, round, rounds, slack}
 use Rattle.narrow.specs.StepLists.{NothingLeft}
 use Rattle.narrow.specs.Laws.{Formed}
 use Rattle.narrow.proofs.Planners.{Planner}
-use Rattle.narrow.proofs.RoundsEnd.{rounds-are}
+use Rattle.narrow.proofs.RoundsEnd.{rounds-by}
 use Rattle.narrow.proofs.Puts.{place-cases, put-same, put-back, with-r, with-d}
 use Rattle.narrow.proofs.MirrorSettled.{SidePlan}
 use Rattle.narrow.proofs.SettledSteps.{Narrows, NarrowsOr, step-narrows, rounds-narrow}
@@ -147,17 +147,20 @@ module _ (test : Test) (whole : ℕ → Bool) where
       (z .0, rw (z .0) (λ k side place q. z .1 k place side q))
 
   -- so rounds end with nothing to do
-  pub rounds-end : {s : Narrowed} {o : Outcome Narrowed} → RoundsGive test whole s o → Says (λ v. NothingLeft test whole (v .windows)) Anything o
-  rounds-end (last {s = s} {v = v} e none) = round-still s v e none .1
-  rounds-end (next e some rest) = rounds-end rest
-  rounds-end (stopped e) = tt
+  pub rounds-end : (fuel : ℕ) (s : Narrowed) → Formed (s .windows) → slack whole (s .windows) < fuel
+      → Says (λ v. NothingLeft test whole (v .windows)) Anything (rounds test whole fuel s)
+  rounds-end =
+      rounds-by test whole (λ _. Says (λ v. NothingLeft test whole (v .windows)) Anything)
+      (λ s v _ e none. round-still s v e none .1)
+      (λ _ _ _ _ _ _ rest. rest)
+      (λ _ _ _ _. tt)
 
 -- so they answer the widest settled windows
 pub rounds-widest : {test : Test} → Planner test → (whole : ℕ → Bool) (fuel : ℕ) (s : Narrowed) → Formed (s .windows)
     → Plannable (s .windows) → slack whole (s .windows) < fuel
     → Says (λ v. Widest whole (s .windows) (v .windows)) Anything (rounds test whole fuel s)
 rounds-widest {test} planner whole fuel s formed planned enough =
-    go (rounds test whole fuel s) (rounds-narrow planner whole fuel s formed) (rounds-end test whole (rounds-are test whole fuel s formed enough))
+    go (rounds test whole fuel s) (rounds-narrow planner whole fuel s formed) (rounds-end test whole fuel s formed enough)
   where
     go : (o : Outcome Narrowed) → NarrowsOr whole (s .windows) o → Says (λ v. NothingLeft test whole (v .windows)) Anything o
         → Says (λ v. Widest whole (s .windows) (v .windows)) Anything o

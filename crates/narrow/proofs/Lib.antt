@@ -11,19 +11,18 @@ mod RoundsEnd
 pub mod Exact
 pub mod MirrorSettled
 mod SettledSteps
+mod RoundSteps
 pub mod Fixpoints
 mod UnbrokenPlans
 pub mod NarrowLaws
 pub mod OneOutcome
--- Narrowing in the mirror, single rounds, and lists that are narrowed alike.
-mod VisitOrder
-pub mod MirrorRounds
+-- A search of a round in the mirror, single rounds, and lists that are narrowed alike.
+mod MirrorSides
 pub mod SingleRounds
 pub mod Alike
 -- What the code's proofs cite, case by case. Those of the crates above cite ArrayCases and CallCases too.
 pub mod ArrayCases
 mod SearchCases
-mod EndCases
 mod RoundCases
 mod VisitCases
 mod ListCases

@@ -12,16 +12,17 @@ use Rattle.jackson.specs.Windows.{Windows, withWindows}
 use Rattle.jackson.specs.Existence.{Plannable}
 use Rattle.narrow.specs.Searching.{Test, SearchLaw}
 use Rattle.narrow.specs.Settling.{SettledInside, NoneSettled, Widest, minutesCut}
-use Rattle.narrow.specs.Rounds.{Side, step, Narrowed, unmoved, visit, round, RoundsGive, rounds, slack, narrowing}
-use Rattle.narrow.specs.StepLists.{Step, NamesWhole, stepsLeave, someRefused, Completes}
-use Rattle.narrow.specs.Laws.{Formed, RoomInside, Reason, RoundLaw, NarrowLaw}
+use Rattle.narrow.specs.Rounds.{Side, step, Narrowed, unmoved, visit, round, rounds, slack, narrowing}
+use Rattle.narrow.specs.StepLists.{Step, NamesWhole, stepsLeave, someRefused, NothingLeft, Completes}
+use Rattle.narrow.specs.RoundsByPlans.{RoundsGive, roundsSteps}
+use Rattle.narrow.specs.Laws.{Formed, RoomInside, Reason, FromSteps, RoundLaw, NarrowLaw}
 use Rattle.narrow.proofs.Planners.{Planner}
 use Rattle.narrow.proofs.Keeping.{Keeps, formed-inside, keeps-n, keeps-p}
 use Rattle.narrow.proofs.Costs.{CostsOr, round-cost, round-refused, rounds-says}
-use Rattle.narrow.proofs.RoundsEnd.{rounds-are}
 use Rattle.narrow.proofs.Exact.{search-law}
 use Rattle.narrow.proofs.SettledSteps.{Narrows, NarrowsOr, plannable-widen, step-narrows, visit-narrows, round-narrows, rounds-narrow, steps-narrow, steps-none}
-use Rattle.narrow.proofs.Fixpoints.{nothing-widest, rounds-widest, widest-set, widest-unique}
+use Rattle.narrow.proofs.RoundSteps.{AsSteps, round-gives, rounds-give, rounds-as-steps, names-rounds}
+use Rattle.narrow.proofs.Fixpoints.{nothing-widest, rounds-end, rounds-widest, widest-set, widest-unique}
 use Rattle.narrow.proofs.UnbrokenPlans.{unbroken-some, unbroken-widest}
 
 -- Every settled set inside the windows stays inside after every step, visit and round that is answered, and none exists after a refused one.
@@ -53,6 +54,7 @@ module _ {test : Test} (planner : Planner test) (whole : ℕ → Bool) where
   pub round-law : (w : Windows) → Formed w → RoundLaw whole w (round test whole (unmoved w))
   round-law w formed =
       record {
+        by-plans = round-gives planner whole (unmoved w) formed;
         inside = λ v e. round-cost test whole (unmoved w) formed v e .keeps .inside;
         stays = round-stays (unmoved w) formed;
         none = round-none (unmoved w) formed;
@@ -78,9 +80,23 @@ module _ {test : Test} (planner : Planner test) (whole : ℕ → Bool) (w : Wind
       go (answered t) e = pass (planner .exact w formed .1 e)
       go (refused k) e = fail k e (λ planned. let z : _≡_ {A = ℕ} 0 1 = cc (planner .exact w formed .0 planned, e) in omega arith)
 
-  by-rounds : Plannable w → RoundsGive test whole (unmoved w) (narrowing test whole w)
+  by-rounds : Plannable w → RoundsGive whole (unmoved w) (narrowing test whole w)
   by-rounds planned =
-      by-plan (RoundsGive test whole (unmoved w)) (λ _. rounds-are test whole _ (unmoved w) formed (omega arith)) (λ k e none. absurd (none planned))
+      by-plan (RoundsGive whole (unmoved w)) (λ _. rounds-give planner whole _ (unmoved w) formed (omega arith)) (λ k e none. absurd (none planned))
+
+  -- the rounds are a list of steps: it completes, or meets a refusal
+  rounds-steps : Plannable w → (m : ℕ) × FromSteps test whole w (roundsSteps whole (w .n) m) (narrowing test whole w)
+  rounds-steps planned =
+      by-plan (λ o. (m : ℕ) × FromSteps test whole w (roundsSteps whole (w .n) m) o)
+      (λ _. let z = rounds-as-steps planner whole (w .n) _ (unmoved w) formed (omega arith) refl in
+      (z .0, go (z .0) outcome (z .1) (rounds-end test whole _ (unmoved w) formed (omega arith))))
+      (λ k e none. absurd (none planned))
+    where
+      go : (m : ℕ) (o : Outcome Narrowed) → AsSteps test (roundsSteps whole (w .n) m) (unmoved w) o
+          → Says (λ v. NothingLeft test whole (v .windows)) Anything o → FromSteps test whole w (roundsSteps whole (w .n) m) o
+      go m (answered v) steps nothing =
+          (record { names = names-rounds whole (w .n) m; nothing-left = rw (steps .leaves) nothing }, steps .leaves)
+      go m (refused k) steps nothing = (names-rounds whole (w .n) m, steps .leaves)
 
   -- settled sets stay inside, and a refusal says that there is none
   narrowing-narrows : NarrowsOr whole w (narrowing test whole w)
@@ -158,15 +174,15 @@ module _ {test : Test} (planner : Planner test) (whole : ℕ → Bool) (w : Wind
   module _ (planned : Plannable w) where
     -- one with a refused step leaves no settled set, so narrowing is refused too, by row 10
     steps-refused : (ss : List Step) → NamesWhole whole (w .n) ss → someRefused test ss w ≡ true
-        → (i : ℕ) × (narrowing test whole w ≡ refused (code 10 (i ∷ [])))
+        → (i : ℕ) × (narrowing test whole w ≡ refused (code 10 (i ∷ []))) × RoundsGive whole (unmoved w) (refused (code 10 (i ∷ [])))
     steps-refused ss names some =
         let z = refused-if-none (steps-none planner whole ss w formed names some) in
         go (z .0) (z .1) (reason (z .0) (z .1))
       where
         go : (k : Code) → narrowing test whole w ≡ refused k → Reason whole w k
-            → (i : ℕ) × (narrowing test whole w ≡ refused (code 10 (i ∷ [])))
+            → (i : ℕ) × (narrowing test whole w ≡ refused (code 10 (i ∷ []))) × RoundsGive whole (unmoved w) (refused (code 10 (i ∷ [])))
         go k e (inl (_, none)) = absurd (none planned)
-        go k e (inr ((i, _, _, ten), _)) = (i, e ∙ ap refused ten)
+        go k e (inr ((i, _, _, ten), _)) = let is = e ∙ ap refused ten in (i, is, rw is at (by-rounds planned))
 
     module _ (ss : List Step) (done : Completes test whole w ss) where
       narrows : Narrows whole w (stepsLeave test ss w)
@@ -207,6 +223,7 @@ module _ {test : Test} (planner : Planner test) (whole : ℕ → Bool) (w : Wind
         reason = reason;
         steps-refused = steps-refused;
         steps-settled = steps-settled;
+        rounds-steps = rounds-steps;
         order-free =
             λ planned ss xs done ended.
             steps-are planned xs ended _ (narrows planned ss done .keeps) (steps-widest planned ss done);

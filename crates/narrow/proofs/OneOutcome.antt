@@ -14,7 +14,7 @@ use Rattle.narrow.specs.Searching.{Test}
 use Rattle.narrow.specs.Settling.{Widest}
 use Rattle.narrow.specs.Rounds.{Narrowed}
 use Rattle.narrow.specs.Laws.{Reason, NarrowLaw}
-use Rattle.narrow.proofs.RoundsEnd.{rounds-unique}
+use Rattle.narrow.proofs.RoundSteps.{rounds-unique}
 use Rattle.narrow.proofs.SettledSteps.{plannable-widen}
 use Rattle.narrow.proofs.Fixpoints.{widest-set}
 

@@ -1,21 +1,29 @@
--- Searches with their moves, visits and rounds, as code makes them.
+-- Searches with their moves, as code makes them.
 -- Assumes nothing.
-use mathlib.Core.Path.{_≡_, sym, ap}
+use mathlib.Core.Path.{_≡_, refl, sym, ap, _∙_}
 use Prim.Native.Nat.{ℕ, _+_, _<_, _≤_, min}
 use native.Mathlib.Omega.{arith}
 use borrow.Author.Tests.{eq-eqb, ne-eqb}
 use lib.ListN.{length, getD, set}
 use Rattle.list.specs.Outcomes.{Code, answered, refused}
-use Rattle.jackson.specs.Windows.{columns, windowsIn}
+use Rattle.list.specs.Refusals.{outcomeOf}
+use Rattle.list.specs.declared.types.Verdict.{Verdict}
+use Rattle.list.specs.declared.types.Verdict.the-variants.{Accepted, Refused}
+use Rattle.jackson.specs.Windows.{Windows, columns, windowsIn}
+use Rattle.jackson.specs.Mirrors.{mirror}
 use Rattle.jackson.specs.Intervals.{overloadOf}
 use Rattle.jackson.specs.declared.types.WindowSet.{WindowSet}
 use Rattle.jackson.proofs.Sums.{same-cases}
-use Rattle.narrow.specs.Searching.{Test, withR, withD, leastStart, greatestEnd}
+use Rattle.narrow.specs.Searching.{Test, withR, leastStart}
 use Rattle.narrow.specs.Rounds.{earliest, latest, Narrowed, moved, movesOf, narrowSide}
-use Rattle.narrow.specs.Parts.{stateOf}
+use Rattle.narrow.specs.Parts.{stateOf, narrowedOf, Searchable}
+use Rattle.narrow.specs.declared.rounds.VisitAnswer.{VisitAnswer}
+use Rattle.narrow.proofs.OverloadPlanner.{overload-planner}
 use Rattle.narrow.proofs.Puts.{put-same}
+use Rattle.narrow.proofs.MirrorSearches.{formed-mirror}
+use Rattle.narrow.proofs.MirrorSides.{mirrorState, mirrorOutcome, side-by-mirror}
 use Rattle.narrow.proofs.Costs.{moved-same}
-use Rattle.narrow.proofs.ArrayCases.{held-r, held-d}
+use Rattle.narrow.proofs.ArrayCases.{held-r}
 
 pub moved-none : (x y : ℕ) → x ≡ y → 0 ≡ moved x y
 moved-none x y e = rw (eq-eqb x y e)
@@ -26,42 +34,43 @@ moved-once x y e = rw (ne-eqb x y e)
 pub moved-one : (x y : ℕ) → moved x y ≤ 1
 moved-one x y = same-cases x y (λ e _. rw (eq-eqb x y e) (omega arith)) (λ e _. rw (ne-eqb x y e) (omega arith))
 
--- The search for d is computed like that for r: by the mirror it would be longer.
 module _ (test : Test) (k : ℕ) (s : Narrowed) where
-  module _ (x : ℕ) where
-    pub start-found : leastStart test (s .windows) k ≡ answered x
-        → narrowSide test earliest k s ≡ answered (record { windows = withR (s .windows) k x; moves = s .moves + moved (s .windows .r k) x })
-    unfolding narrowSide
-    start-found e = rw e (ap (λ (m : ℕ). answered (record { windows = withR (s .windows) k x; moves = s .moves + m })) one)
-      where
-        one : movesOf k (s .windows) (withR (s .windows) k x) ≡ moved (s .windows .r k) x
-        one = rw (put-same k x (s .windows .r), moved-same (s .windows .d k)) (omega arith)
+  start-found : (x : ℕ) → leastStart test (s .windows) k ≡ answered x
+      → narrowSide test earliest k s ≡ answered (record { windows = withR (s .windows) k x; moves = s .moves + moved (s .windows .r k) x })
+  unfolding narrowSide
+  start-found x e = rw e (ap (λ (m : ℕ). answered (record { windows = withR (s .windows) k x; moves = s .moves + m })) one)
+    where
+      one : movesOf k (s .windows) (withR (s .windows) k x) ≡ moved (s .windows .r k) x
+      one = rw (put-same k x (s .windows .r), moved-same (s .windows .d k)) (omega arith)
 
-    pub end-found : greatestEnd test (s .windows) k ≡ answered x
-        → narrowSide test latest k s ≡ answered (record { windows = withD (s .windows) k x; moves = s .moves + moved (s .windows .d k) x })
-    unfolding narrowSide
-    end-found e = rw e (ap (λ (m : ℕ). answered (record { windows = withD (s .windows) k x; moves = s .moves + m })) one)
-      where
-        one : movesOf k (s .windows) (withD (s .windows) k x) ≡ moved (s .windows .d k) x
-        one = rw (put-same k x (s .windows .d), moved-same (s .windows .r k)) (omega arith)
+  pub start-refused : (x : Code) → leastStart test (s .windows) k ≡ refused x → narrowSide test earliest k s ≡ refused x
+  unfolding narrowSide
+  start-refused x e = rw e
 
-  module _ (x : Code) where
-    pub start-refused : leastStart test (s .windows) k ≡ refused x → narrowSide test earliest k s ≡ refused x
-    unfolding narrowSide
-    start-refused e = rw e
+-- what code leaves in the arrays is that
+pub placed-r : (s : WindowSet) (moves k x m : ℕ) → k < length (s .r) → m ≡ moved (getD (s .r) k 0) x → leastStart overloadOf (windowsIn s) k ≡ answered x
+    → answered (record { windows = columns (s .h) (min (s .n) 64) (set (s .r) k x) (s .d) (s .p); moves = moves + m })
+    ≡ narrowSide overloadOf earliest k (stateOf s moves)
+placed-r s moves k x m h e found = rw (e, held-r s k x h) (sym (start-found overloadOf k (stateOf s moves) x found))
 
-    pub end-refused : greatestEnd test (s .windows) k ≡ refused x → narrowSide test latest k s ≡ refused x
-    unfolding narrowSide
-    end-refused e = rw e
+-- The search for d, as code makes it: that for r in the mirror t of the windows s.
+module _ (s t : WindowSet) (moves k : ℕ) (mirrors : windowsIn t ≡ mirror (windowsIn s)) (ready : Searchable s k) where
+  -- the mirror can be searched
+  pub mirror-searchable : Searchable t k
+  mirror-searchable =
+      let count : windowsIn t .n ≡ windowsIn s .n = ap (λ (w : Windows). w .n) mirrors in
+      record { formed = rw mirrors (formed-mirror (windowsIn s) (ready .formed)); place = omega (arith, ready .place, count) }
 
--- What code leaves in the arrays is that.
-module _ (s : WindowSet) (moves k x m : ℕ) where
-  pub placed-r : k < length (s .r) → m ≡ moved (getD (s .r) k 0) x → leastStart overloadOf (windowsIn s) k ≡ answered x
-      → answered (record { windows = columns (s .h) (min (s .n) 64) (set (s .r) k x) (s .d) (s .p); moves = moves + m })
-      ≡ narrowSide overloadOf earliest k (stateOf s moves)
-  placed-r h e found = rw (e, held-r s k x h) (sym (start-found overloadOf k (stateOf s moves) x found))
-
-  pub placed-d : k < length (s .d) → m ≡ moved (getD (s .d) k 0) x → greatestEnd overloadOf (windowsIn s) k ≡ answered x
-      → answered (record { windows = columns (s .h) (min (s .n) 64) (s .r) (set (s .d) k x) (s .p); moves = moves + m })
-      ≡ narrowSide overloadOf latest k (stateOf s moves)
-  placed-d h e found = rw (e, held-d s k x h) (sym (end-found overloadOf k (stateOf s moves) x found))
+  -- what it leaves is mirrored back to u
+  pub mirror-placed : (a : VisitAnswer) → narrowedOf a ≡ narrowSide overloadOf earliest k (stateOf t moves)
+      → (u : WindowSet) → windowsIn u ≡ mirror (windowsIn (a .windows))
+      → narrowedOf (record { verdict = a .verdict; windows = u; moves = a .moves }) ≡ narrowSide overloadOf latest k (stateOf s moves)
+  mirror-placed a is u back =
+      ap (λ (w : Windows). outcomeOf (a .verdict) (record { windows = w; moves = a .moves })) back
+      ∙ mirrored (a .verdict)
+      ∙ ap mirrorOutcome (rw mirrors at is)
+      ∙ sym (side-by-mirror overload-planner k (stateOf s moves) (ready .formed) (ready .place))
+    where
+      mirrored : (v : Verdict) → outcomeOf v (mirrorState (stateOf (a .windows) (a .moves))) ≡ mirrorOutcome (outcomeOf v (stateOf (a .windows) (a .moves)))
+      mirrored Accepted = refl
+      mirrored (Refused x) = refl

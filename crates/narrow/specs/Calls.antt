@@ -95,7 +95,7 @@ pub record Settles (l : DayList) (a : NarrowAnswer) : Type 0 where
   -- the law, for a list that passes the value check, of the windows and moves answered
   pub law : WellFormed l → NarrowLaw overloadOf (wholeIn l) (windowsOf l) (narrowedIn a)
 
--- what `round` answers of the list l
+-- what `untested_round` answers of the list l
 pub record MakesRound (l : DayList) (a : NarrowAnswer) : Type 0 where
   pub answers : AnswersAs l (roundOf l) a
   pub holds : HoldsAnswer l (roundOf l) a

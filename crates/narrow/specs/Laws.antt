@@ -11,8 +11,9 @@ use Rattle.jackson.specs.Intervals.{ShowsOverload}
 use Rattle.jackson.specs.Existence.{Plannable}
 use Rattle.narrow.specs.Searching.{Test, SearchLaw}
 use Rattle.narrow.specs.Settling.{SettledInside, NoneSettled, Widest, Unbroken, minutesCut}
-use Rattle.narrow.specs.Rounds.{Narrowed, unmoved, RoundsGive, slack}
+use Rattle.narrow.specs.Rounds.{Narrowed, unmoved, slack}
 use Rattle.narrow.specs.StepLists.{Step, NamesWhole, stepsLeave, someRefused, Completes}
+use Rattle.narrow.specs.RoundsByPlans.{RoundGives, RoundsGive, roundsSteps}
 
 -- What the laws ask of windows: at most 255 entries, since a byte names no more, each of which needs a minute and has room in the day.
 -- The windows of a list that passes the value check have this.
@@ -36,8 +37,16 @@ WholeRefused whole n k = (i : ℕ) × (i < n) × (whole i ≡ true) × (k ≡ co
 abbrev pub Reason : (ℕ → Bool) → Windows → Code → Type 0
 Reason whole w k = (ShowsOverload w k × (Plannable w → ⊥)) ⊎ (WholeRefused whole (w .n) k × Plannable w)
 
+-- the outcome o as that of a list of steps ss from the windows w: after it nothing is left to do and it left the windows answered, or one
+-- of its steps is refused
+abbrev pub FromSteps : Test → (ℕ → Bool) → Windows → List Step → Outcome Narrowed → Type 0
+FromSteps test whole w ss (answered v) = Completes test whole w ss × (stepsLeave test ss w ≡ v .windows)
+FromSteps test whole w ss (refused k) = NamesWhole whole (w .n) ss × (someRefused test ss w ≡ true)
+
 -- the outcome o of one round of the windows w
 pub record RoundLaw (whole : ℕ → Bool) (w : Windows) (o : Outcome Narrowed) : Type 0 where
+  -- it is that of the round as document 01 has it: each search finds the minute for which a plan exists
+  pub by-plans : RoundGives whole (unmoved w) o
   pub inside : (v : Narrowed) → o ≡ answered v → Inside (v .windows) w
   -- every settled set of windows inside stays inside, and after a refusal there is none
   pub stays : (v : Narrowed) → o ≡ answered v → (r d : ℕ → ℕ) → SettledInside whole w r d → SettledInside whole (v .windows) r d
@@ -54,19 +63,21 @@ pub record NarrowLaw (test : Test) (whole : ℕ → Bool) (w : Windows) (o : Out
   pub searches : (v : Windows) → RoomInside w v → (k : ℕ) → k < w .n → SearchLaw test v k
   -- and the windows that a list of steps leaves are such windows
   pub steps-room : (ss : List Step) → NamesWhole whole (w .n) ss → RoomInside w (stepsLeave test ss w)
-  -- the answer is that of the rounds as document 01 has them
-  pub by-rounds : Plannable w → RoundsGive test whole (unmoved w) o
+  -- the answer is that of the rounds as document 01 has them, each search of which finds the minute for which a plan exists
+  pub by-rounds : Plannable w → RoundsGive whole (unmoved w) o
   -- it is the widest settled set of windows inside those given
   pub widest : (v : Narrowed) → o ≡ answered v → Widest whole w (v .windows)
   -- or a refusal, exactly when there is none
   pub refused-exactly : ((k : Code) × (o ≡ refused k)) ↔ NoneSettled whole w
   pub reason : (k : Code) → o ≡ refused k → Reason whole w k
-  -- lists of steps: if a step of one is refused, the rounds give 10
+  -- lists of steps: if a step of one is refused, the answer is 10 with the place that the rounds give
   pub steps-refused : Plannable w → (ss : List Step) → NamesWhole whole (w .n) ss → someRefused test ss w ≡ true
-      → (i : ℕ) × (o ≡ refused (code 10 (i ∷ [])))
+      → (i : ℕ) × (o ≡ refused (code 10 (i ∷ []))) × RoundsGive whole (unmoved w) (refused (code 10 (i ∷ [])))
   -- if nothing is left to do after one, the rounds answer the windows that it left
   pub steps-settled : Plannable w → (ss : List Step) → Completes test whole w ss
       → (moves : ℕ) × (o ≡ answered (record { windows = stepsLeave test ss w; moves = moves }))
+  -- there is a list of each kind where the outcome asks for it: the steps of the rounds
+  pub rounds-steps : Plannable w → (rounds : ℕ) × FromSteps test whole w (roundsSteps whole (w .n) rounds) o
   -- so two such lists leave the same windows, and if some list meets a refusal there is no such list
   pub order-free : Plannable w → (ss xs : List Step) → Completes test whole w ss → Completes test whole w xs
       → stepsLeave test ss w ≡ stepsLeave test xs w

@@ -1,9 +1,8 @@
 -- Rounds of visits.
 use Prim.Native.Nat.{ℕ, zero, suc, _+_, _-_}
-use mathlib.Core.Path.{_≡_}
 use mathlib.Core.Bool.{Bool, cond}
 use lib.Dec.{eqb}
-use Rattle.list.specs.Outcomes.{Code, Outcome, answered, refused, andThen}
+use Rattle.list.specs.Outcomes.{Outcome, answered, andThen}
 use Rattle.jackson.specs.Counting.{sum}
 use Rattle.jackson.specs.Windows.{Windows}
 use Rattle.narrow.specs.Searching.{Test, withR, withD, leastStart, greatestEnd}
@@ -56,14 +55,8 @@ visits test whole (suc k) s = andThen (visits test whole k s) (visit test whole 
 abbrev pub round : Test → (ℕ → Bool) → Narrowed → Outcome Narrowed
 round test whole s = visits test whole (s .windows .n) s
 
--- "Then rounds follow. .. A round without moves is the last, and what it leaves are the windows answered": the rounds from s on end so
-pub data RoundsGive (test : Test) (whole : ℕ → Bool) : Narrowed → Outcome Narrowed → Type 0 where
-  last : {s v : Narrowed} → round test whole s ≡ answered v → v .moves ≡ s .moves → RoundsGive test whole s (answered v)
-  next : {s v : Narrowed} {o : Outcome Narrowed} → round test whole s ≡ answered v → (v .moves ≡ s .moves → ⊥)
-      → RoundsGive test whole v o → RoundsGive test whole s o
-  stopped : {s : Narrowed} {k : Code} → round test whole s ≡ refused k → RoundsGive test whole s (refused k)
-
--- the same as a function, if the bound on the rounds is large enough (`rounds-are`): after so many it stops with the windows that it has
+-- "Then rounds follow. .. A round without moves is the last, and what it leaves are the windows answered": after so many rounds it stops
+-- with the windows that it has, which never happens where `narrowing` uses it (`by-rounds` of Laws.antt)
 unfoldable pub rounds : Test → (ℕ → Bool) → ℕ → Narrowed → Outcome Narrowed
 rounds test whole zero s = answered s
 rounds test whole (suc fuel) s =

@@ -1,7 +1,7 @@
 // Visits and rounds.
 use crate::search::Found;
-use crate::search::greatest_end;
 use crate::search::least_start;
+use jackson::mirrored;
 use jackson::types::WindowSet;
 use list::types::DayList;
 use list::types::Kind;
@@ -70,21 +70,18 @@ fn narrow_start(windows: WindowSet, moves: u32, k: usize) -> VisitAnswer
     }
 }
 
-// The search for entry k's d, with its move. In a visit it finds one, since the r just found is a place.
+// The search for entry k's d, with its move: that for its r in the mirror. In a visit it finds one, since the r just found is a place.
 fn narrow_end(windows: WindowSet, moves: u32, k: usize) -> VisitAnswer
     requires { ⌜ Searchable windows k ⌝ }
     requires { ⌜ moves < 4294967295 ⌝ }
     ensures { λ a. ⌜ narrowedOf a ≡ narrowSide overloadOf latest k (stateOf windows moves) ⌝ }
 {
-    let Found::Minute(e) = greatest_end(windows, k) else {
-        return refused_at(windows, moves, k);
-    };
-    let mut next = windows;
-    next.d[k] = e;
+    let found = narrow_start(mirrored(windows), moves, k);
+    let verdict = found.verdict;
     VisitAnswer {
-        verdict: Verdict::Accepted,
-        windows: next,
-        moves: moves + moved_from(windows.d[k], e),
+        verdict: verdict,
+        windows: mirrored(found.windows),
+        moves: found.moves,
     }
 }
 

@@ -1,5 +1,4 @@
-// A visit's two searches.
-use jackson::mirrored;
+// A visit's search for an entry's r; that for its d is this one in the mirror (rounds.rt).
 use jackson::types::WindowSet;
 use jackson::untested_overload;
 use list::types::Verdict;
@@ -9,7 +8,7 @@ ghost use lib.ListN.{getD};
 ghost use Rattle.list.specs.Refusals.{verdictOf};
 ghost use Rattle.jackson.specs.Windows.{windowsIn};
 ghost use Rattle.jackson.specs.Intervals.{overloadOf};
-ghost use Rattle.narrow.specs.Searching.{accepts, fixedAt, leastStart, greatestEnd};
+ghost use Rattle.narrow.specs.Searching.{accepts, fixedAt, leastStart};
 ghost use Rattle.narrow.specs.Parts.{foundOf, Searchable};
 
 // What a search answers.
@@ -56,17 +55,5 @@ pub(crate) fn least_start(windows: WindowSet, k: usize) -> Found
             break Found::Minute(s);
         }
         s += 1;
-    }
-}
-
-// The greatest end of entry k, from its d down: its least start in the mirror.
-pub(crate) fn greatest_end(windows: WindowSet, k: usize) -> Found
-    requires { ⌜ Searchable windows k ⌝ }
-    ensures { λ f. ⌜ foundOf k f ≡ greatestEnd overloadOf (windowsIn windows) k ⌝ }
-{
-    let found = least_start(mirrored(windows), k);
-    match found {
-        Found::Minute(s) => Found::Minute(windows.h - s),
-        Found::NoMinute => Found::NoMinute,
     }
 }

@@ -5,8 +5,8 @@ use mathlib.Core.Path.{_≡_}
 use lib.ListN.{length}
 use Rattle.list.proofs.Walk.{length-mapped}
 use Rattle.narrow.proofs.CallCases.{list-countable, check-passed, check-few, round-turned, round-found}
-use Rattle.narrow.proofs.calls.round.Statement.{statement}
-use Rattle.narrow.proofs.calls.round.Tie as tie
+use Rattle.narrow.proofs.calls.untested_round.Statement.{statement}
+use Rattle.narrow.proofs.calls.untested_round.Tie as tie
 
 -- the array has 64 entries
 long : (c : tie.Start) → length (c .args .list .entries) ≡ 64
@@ -57,8 +57,8 @@ returns-2 c =
     round-found (args .list) (check .result) (check .ensures) (enum-told .given .1) (untested-windows .result) (untested-windows .ensures)
     (c .answer-with .result) (one-round .result) (one-round .ensures) (c .answer-with .ensures)
 
-pub round-spec : {M : Type 1} → statement M
-round-spec =
+pub untested-round-spec : {M : Type 1} → statement M
+untested-round-spec =
     tie.close
     (tie.spec
     check-requires
