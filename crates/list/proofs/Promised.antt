@@ -27,10 +27,10 @@ use Rattle.list.specs.declared.types.WriteAnswer.{WriteAnswer}
 use Rattle.list.specs.declared.types.WriteAnswer.the-variants.{Written, NotWritten}
 use Rattle.list.proofs.Inversion.{by-refused}
 use Rattle.list.proofs.WriteCases.{list-written}
-use Rattle.list.proofs.RoundTrip.{written-reads-back, read-one-form}
+use Rattle.list.proofs.RoundTrip.{written-reads-back, read-well-formed, read-one-form}
 
 pub reads : (bs : List ℕ) (a : ReadAnswer) → Bytes bs → AnswersAs (readOf bs) a → Reads bs a
-reads bs a b w = record { outcome = w .outcome; beside = w .beside; back = λ l e. read-one-form bs l e b }
+reads bs a b w = record { outcome = w .outcome; beside = w .beside; back = λ l e. (read-well-formed bs l e, read-one-form bs l e b) }
 
 module _ (l : DayList) (old : List ℕ) (t : Typed l) where
   promised : (a : WriteAnswer) (new : List ℕ) → writeAnswerOf a ≡ writeOf l (length old) → new ≡ bufferAfter (writeOf l (length old)) l old → Writes l old a new

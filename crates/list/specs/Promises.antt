@@ -6,17 +6,18 @@ use lib.ListN.{length, take}
 use Rattle.list.specs.Outcomes.{answered}
 use Rattle.list.specs.Refusals.{readAnswerOf, writeAnswerOf}
 use Rattle.list.specs.DayLists.{SameList}
+use Rattle.list.specs.Checks.{WellFormed}
 use Rattle.list.specs.Reading.{readOf, listOr}
 use Rattle.list.specs.Writing.{bytesOf, writeOf, bufferAfter}
 use Rattle.list.specs.declared.types.DayList.{DayList}
 use Rattle.list.specs.declared.types.ReadAnswer.{ReadAnswer}
 use Rattle.list.specs.declared.types.WriteAnswer.{WriteAnswer}
 
--- what `read` answers of the bytes bs; accepted bytes are the one form of the list read
+-- what `read` answers of the bytes bs; a list read is well-formed, so that `write` accepts it, and the bytes are its one form
 pub record Reads (bs : List ℕ) (a : ReadAnswer) : Type 0 where
   pub outcome : readAnswerOf a ≡ readOf bs
   pub beside : a .list ≡ listOr (readOf bs)
-  pub back : (l : DayList) → readOf bs ≡ answered l → bytesOf l ≡ bs
+  pub back : (l : DayList) → readOf bs ≡ answered l → WellFormed l × (bytesOf l ≡ bs)
 
 -- what `write` answers of the list l and a buffer that held old, and what the buffer holds then; the bytes written read back as the list
 pub record Writes (l : DayList) (old : List ℕ) (a : WriteAnswer) (new : List ℕ) : Type 0 where

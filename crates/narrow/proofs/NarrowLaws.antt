@@ -22,39 +22,29 @@ use Rattle.narrow.proofs.Costs.{CostsOr, round-cost, round-refused, rou
 use Rattle.narrow.proofs.Exact.{search-law}
 use Rattle.narrow.proofs.SettledSteps.{Narrows, NarrowsOr, plannable-widen, step-narrows, visit-narrows, round-narrows, rounds-narrow, steps-narrow, steps-none}
 use Rattle.narrow.proofs.RoundSteps.{AsSteps, round-gives, rounds-give, rounds-as-steps, names-rounds}
+use Rattle.narrow.proofs.SingleRounds.{round-after}
 use Rattle.narrow.proofs.Fixpoints.{nothing-widest, rounds-end, rounds-widest, widest-set, widest-unique}
 use Rattle.narrow.proofs.UnbrokenPlans.{unbroken-some, unbroken-widest}
 
--- Every settled set inside the windows stays inside after every step, visit and round that is answered, and none exists after a refused one.
+-- Every settled set inside the windows stays inside after a round that is answered, and none exists after a refused one.
 
 module _ {test : Test} (planner : Planner test) (whole : ℕ → Bool) where
-  module _ (side : Side) (w : Windows) (formed : Formed w) (k : ℕ) (place : k < w .n) (is-whole : whole k ≡ true) where
-    pub step-stays : (v : Windows) → step test side k w ≡ answered v → (r d : ℕ → ℕ) → SettledInside whole w r d → SettledInside whole v r d
-    step-stays v e = (rw e at (step-narrows planner whole side w formed k place is-whole)) .narrows .stays
-
-    pub step-none : (x : Code) → step test side k w ≡ refused x → NoneSettled whole w
-    step-none x e = rw e at (step-narrows planner whole side w formed k place is-whole)
-
   module _ (s : Narrowed) (formed : Formed (s .windows)) where
-    pub visit-stays : (k : ℕ) → k < s .windows .n → (v : Narrowed) → visit test whole k s ≡ answered v
-        → (r d : ℕ → ℕ) → SettledInside whole (s .windows) r d → SettledInside whole (v .windows) r d
-    visit-stays k place v e = (rw e at (visit-narrows planner whole s formed k place)) .stays
-
-    pub visit-none : (k : ℕ) → k < s .windows .n → (x : Code) → visit test whole k s ≡ refused x → NoneSettled whole (s .windows)
-    visit-none k place x e = rw e at (visit-narrows planner whole s formed k place)
-
-    pub round-stays : (v : Narrowed) → round test whole s ≡ answered v
+    round-stays : (v : Narrowed) → round test whole s ≡ answered v
         → (r d : ℕ → ℕ) → SettledInside whole (s .windows) r d → SettledInside whole (v .windows) r d
     round-stays v e = (rw e at (round-narrows planner whole s formed)) .stays
 
-    pub round-none : (x : Code) → round test whole s ≡ refused x → NoneSettled whole (s .windows)
+    round-none : (x : Code) → round test whole s ≡ refused x → NoneSettled whole (s .windows)
     round-none x e = rw e at (round-narrows planner whole s formed)
 
   -- All that a round from windows not yet moved keeps.
   pub round-law : (w : Windows) → Formed w → RoundLaw whole w (round test whole (unmoved w))
   round-law w formed =
       record {
-        by-plans = round-gives planner whole (unmoved w) formed;
+        by-plans =
+            λ m.
+            let s : Narrowed = record { windows = w; moves = m } in
+            rw (← round-after test whole s) (round-gives planner whole s formed);
         inside = λ v e. round-cost test whole (unmoved w) formed v e .keeps .inside;
         stays = round-stays (unmoved w) formed;
         none = round-none (unmoved w) formed;

@@ -93,9 +93,6 @@ module _ (w : Windows) (k x s e : ℕ) where
   pub window-after-r : withWindow (withR w k x) k s e ≡ withWindow w k s e
   window-after-r = ap (λ (f : ℕ → ℕ). withWindows w f (put k e (w .d))) (put-twice k s x (w .r))
 
-  pub window-after-d : withWindow (withD w k x) k s e ≡ withWindow w k s e
-  window-after-d = ap (λ (f : ℕ → ℕ). withWindows w (put k s (w .r)) f) (put-twice k e x (w .d))
-
 pub up-to-formed : (w : Windows) → Formed w → (k e : ℕ) → k < w .n → w .p k ≤ e → e ≤ w .d k → Formed (fixedUpTo w k e)
 up-to-formed w formed k e place long due = rw (fixed-up-to w k e long) (fixed-formed w formed k (e - w .p k) place (omega arith))
 

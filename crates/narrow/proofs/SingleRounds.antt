@@ -7,50 +7,47 @@ use native.Mathlib.Omega.{arith}
 use Rattle.list.specs.Outcomes.{Outcome, answered, refused, andThen}
 use Rattle.jackson.specs.Windows.{Windows}
 use Rattle.narrow.specs.Searching.{Test}
-use Rattle.narrow.specs.Rounds.{Side, earliest, latest, step, Narrowed, unmoved, movesOf, counted, narrowSide, visit, visits, round}
+use Rattle.narrow.specs.Rounds.{Side, earliest, latest, step, Narrowed, unmoved, movesOf, counted, narrowSide, visit, visits, movedBefore, round}
 
 -- with m moves made before
-abbrev pub after : ℕ → Narrowed → Narrowed
+abbrev after : ℕ → Narrowed → Narrowed
 after m v = record { windows = v .windows; moves = m + v .moves }
 
-abbrev pub afterAll : ℕ → Outcome Narrowed → Outcome Narrowed
-afterAll m o = andThen o (λ v. answered (after m v))
-
 module _ (test : Test) (whole : ℕ → Bool) (m : ℕ) where
-  side-after : (side : Side) (k : ℕ) (s : Narrowed) → narrowSide test side k (after m s) ≡ afterAll m (narrowSide test side k s)
+  side-after : (side : Side) (k : ℕ) (s : Narrowed) → narrowSide test side k (after m s) ≡ movedBefore m (narrowSide test side k s)
   unfolding narrowSide
   side-after side k s = go (step test side k (s .windows))
     where
       go : (o : Outcome Windows)
-          → andThen o (λ v. answered (counted k (after m s) v)) ≡ afterAll m (andThen o (λ v. answered (counted k s v)))
+          → andThen o (λ v. answered (counted k (after m s) v)) ≡ movedBefore m (andThen o (λ v. answered (counted k s v)))
       go (answered v) =
           let z : m + s .moves + movesOf k (s .windows) v ≡ m + (s .moves + movesOf k (s .windows) v) = omega arith in
           ap (λ (x : ℕ). answered (record { windows = v; moves = x })) z
       go (refused k) = refl
 
   -- one thing after another
-  then-after : (o : Outcome Narrowed) (f : Narrowed → Outcome Narrowed) → ((s : Narrowed) → f (after m s) ≡ afterAll m (f s))
-      → andThen (afterAll m o) f ≡ afterAll m (andThen o f)
+  then-after : (o : Outcome Narrowed) (f : Narrowed → Outcome Narrowed) → ((s : Narrowed) → f (after m s) ≡ movedBefore m (f s))
+      → andThen (movedBefore m o) f ≡ movedBefore m (andThen o f)
   then-after (answered s) f same = same s
   then-after (refused k) f same = refl
 
-  visit-after : (k : ℕ) (s : Narrowed) → visit test whole k (after m s) ≡ afterAll m (visit test whole k s)
+  visit-after : (k : ℕ) (s : Narrowed) → visit test whole k (after m s) ≡ movedBefore m (visit test whole k s)
   unfolding visit
   visit-after k s = go (whole k)
     where
       go : (t : Bool) → cond t (andThen (narrowSide test earliest k (after m s)) (narrowSide test latest k)) (answered (after m s))
-          ≡ afterAll m (cond t (andThen (narrowSide test earliest k s) (narrowSide test latest k)) (answered s))
+          ≡ movedBefore m (cond t (andThen (narrowSide test earliest k s) (narrowSide test latest k)) (answered s))
       go true = rw (side-after earliest k s) (then-after (narrowSide test earliest k s) (narrowSide test latest k) (side-after latest k))
       go false = refl
 
-  visits-after : (k : ℕ) (s : Narrowed) → visits test whole k (after m s) ≡ afterAll m (visits test whole k s)
+  visits-after : (k : ℕ) (s : Narrowed) → visits test whole k (after m s) ≡ movedBefore m (visits test whole k s)
   unfolding visits
   visits-after zero s = refl
   visits-after (suc k) s = rw (visits-after k s) (then-after (visits test whole k s) (visit test whole k) (visit-after k))
 
 -- a round, from the windows as if nothing had moved
 pub round-after : (test : Test) (whole : ℕ → Bool) (s : Narrowed)
-    → round test whole s ≡ afterAll (s .moves) (round test whole (unmoved (s .windows)))
+    → round test whole s ≡ movedBefore (s .moves) (round test whole (unmoved (s .windows)))
 round-after test whole s =
     let z : s .moves ≡ s .moves + 0 = omega arith in
     ap (λ (x : ℕ). round test whole (record { windows = s .windows; moves = x })) z

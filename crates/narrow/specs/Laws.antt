@@ -11,7 +11,7 @@ use Rattle.jackson.specs.Intervals.{ShowsOverload}
 use Rattle.jackson.specs.Existence.{Plannable}
 use Rattle.narrow.specs.Searching.{Test, SearchLaw}
 use Rattle.narrow.specs.Settling.{SettledInside, NoneSettled, Widest, Unbroken, minutesCut}
-use Rattle.narrow.specs.Rounds.{Narrowed, unmoved, slack}
+use Rattle.narrow.specs.Rounds.{Narrowed, unmoved, movedBefore, slack}
 use Rattle.narrow.specs.StepLists.{Step, NamesWhole, stepsLeave, someRefused, Completes}
 use Rattle.narrow.specs.RoundsByPlans.{RoundGives, RoundsGive, roundsSteps}
 
@@ -45,8 +45,9 @@ FromSteps test whole w ss (refused k) = NamesWhole whole (w .n) ss × (someRefus
 
 -- the outcome o of one round of the windows w
 pub record RoundLaw (whole : ℕ → Bool) (w : Windows) (o : Outcome Narrowed) : Type 0 where
-  -- it is that of the round as document 01 has it: each search finds the minute for which a plan exists
-  pub by-plans : RoundGives whole (unmoved w) o
+  -- it is that of the round as document 01 has it, each search of which finds the minute for which a plan exists; whatever moves were made
+  -- before, so that rounds may be made one by one
+  pub by-plans : (moves : ℕ) → RoundGives whole (record { windows = w; moves = moves }) (movedBefore moves o)
   pub inside : (v : Narrowed) → o ≡ answered v → Inside (v .windows) w
   -- every settled set of windows inside stays inside, and after a refusal there is none
   pub stays : (v : Narrowed) → o ≡ answered v → (r d : ℕ → ℕ) → SettledInside whole w r d → SettledInside whole (v .windows) r d

@@ -51,6 +51,10 @@ unfoldable pub visits : Test → (ℕ → Bool) → ℕ → Narrowed → Outcome
 visits test whole zero s = answered s
 visits test whole (suc k) s = andThen (visits test whole k s) (visit test whole k)
 
+-- an outcome with so many moves made before it
+abbrev pub movedBefore : ℕ → Outcome Narrowed → Outcome Narrowed
+movedBefore m o = andThen o (λ v. answered (record { windows = v .windows; moves = m + v .moves }))
+
 -- one round: a visit to each place
 abbrev pub round : Test → (ℕ → Bool) → Narrowed → Outcome Narrowed
 round test whole s = visits test whole (s .windows .n) s
