@@ -17,17 +17,31 @@ tests() { # STATUS ANNOUNCED PASSED FAILED IGNORED MEASURED FILTERED
     fake cargo test "printf 'running $2 tests\ntest result: ok. $3 passed; $4 failed; $5 ignored; $6 measured; $7 filtered out\n'; exit $1"
 }
 
-# A repository on which every step ends well, with 3 proved and 4 Rust tests, and a step that prints closing lines.
+# rt ci proves one crate and has the edits refused, each with a log that says why.
+proves() { # EDITS
+    fake rt ci "echo 'rt: ok, 1 crates proved, $1 must-fail edits refused'; echo '3 passed, 0 failed'"
+}
+# What the log of the edit `wrong` has.
+log() { printf '%s\n' "$1" >target/must-fail/one/wrong/.log; }
+
+# A repository on which every step ends well, with 3 proved (2 of them edits) and 4 Rust tests, and a step that prints closing lines.
 fresh() {
     rm -rf "${scratch:?}"/*
-    mkdir -p "$scratch/bin" "$scratch/repo/.ci" "$scratch/repo/crates/one" "$scratch/repo/tests/gate" "$scratch/repo/target"
+    mkdir -p "$scratch/bin" "$scratch/repo/.ci" "$scratch/repo/crates/one/must-fail" "$scratch/repo/tests/gate" "$scratch/repo/target/must-fail/one/wrong" \
+        "$scratch/repo/target/must-fail/one/worse"
     cd "$scratch/repo" && cp "$gate" .ci/run && touch crates/one/lib.rt target/made.rt tests/gate/try.sh
+    printf '# least\nedits 2\ntests 4\n' >.ci/least
+    echo 'file: src/lib.rt' | tee crates/one/must-fail/wrong.edit >crates/one/must-fail/worse.edit
+    # shellcheck disable=SC2016
+    log 'proofs/one/Proof.antt:3:5: error: `returns`: the two types differ'
+    # shellcheck disable=SC2016
+    echo 'fn one::one: no proof: expected `one-spec`; `search` does not close `add-result`' >target/must-fail/one/worse/.log
     printf '# crates\none: io # a comment\n' >crates.txt
     # shellcheck disable=SC2016
     printf '#!/usr/bin/env bash\n! [ -f "$0.$1" ] || . "$0.$1"\n' | tee "$scratch/bin/rt" >"$scratch/bin/cargo"
     chmod +x "$scratch/bin/rt" "$scratch/bin/cargo"
     fake rt fmt "printf '9 passed, 0 failed\n8\r7 passed, 0 failed\n'; echo 6 passed, 0 failed >&2"
-    fake rt ci "echo '3 passed, 0 failed'"
+    proves 2
     tests 0 4 4 0 0 0 0
 }
 
