@@ -1,7 +1,7 @@
-//! What the tests of the dock planner stand on. The names of the tests begin with the layer that they test:
-//! `read_` and `write_` (the list), `jackson_` (overload test and schedule of the windows as given),
-//! `narrow_`, `bounds_` (the calls that plan), `report_` (the report's text) and `program_` (the built
-//! program); `traps`, `sample_days` and `documents` are for themselves.
+//! What the tests of the dock planner stand on. The tests are a program for each layer: `list` (reading and
+//! writing), `jackson` (overload test and schedule of the windows as given), `narrow`, `bounds` (the calls that
+//! plan), `report` (the report's text), `program` (the built program); and `documents` for the pages and
+//! document 01's traps.
 
 // What is tested.
 pub mod abi; // the calls of the static library

@@ -1,4 +1,4 @@
-//! A refusal writes nothing to what was lent, one input and one value for each number (12 is in write_buffer.rs).
+//! A refusal writes nothing to what was lent, one input and one value for each number (12 is in write_buffer).
 
 use dock_tests::samples::{self, hex};
 use dock_tests::{abi, check, flat};
