@@ -170,6 +170,7 @@ fn large_sum(refused: Refused) {
         refused(day(&[[r, 100, p]]), 7, 0);
         refused(day(&[[0, 100, 1], [r, 100, p]]), 7, 1);
     }
+    refused(day(&[[65_535, 65_535, 65_535]]), 7, 0);
 }
 
 /// An empty window makes no interval and would pass the overload test, and no start could be tried in it. It

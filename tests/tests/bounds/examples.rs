@@ -4,9 +4,11 @@
 
 use dock_tests::abi::{self, Call};
 use dock_tests::check_bounds::{ask_all, asked, by_trying_everything, calls};
+use dock_tests::check_narrow::with_windows;
 use dock_tests::day::{Day, MOST_ENTRIES};
 use dock_tests::flat::{self, Fields};
-use dock_tests::samples::{self, boxes, hex, plan};
+use dock_tests::samples::{self, boxes, hex, plan, with_serials};
+use dock_tests::settled::windows_of;
 
 /// What planning says of a list: its settled windows in short, the moves and the broken entries, the least
 /// end and greatest start of each place, and the minutes.
@@ -26,7 +28,8 @@ fn planned(day: &Day, says: Says) {
     ask_all(day);
     let (answer, lent) = abi::ask(Call::Plan, &flat::of_day(day), day.h.into());
     assert_eq!((answer.number, answer.values), (0, [says.moves, says.broken, 0]), "{day:?}");
-    assert!(lent.narrowed == flat::of_day(&boxes(day.h, says.windows)), "windows of {day:?}");
+    let settled = with_windows(day, &windows_of(&boxes(day.h, says.windows)));
+    assert!(lent.narrowed == flat::of_day(&settled), "windows of {day:?}");
     assert_eq!(lent.plan, plan(says.plan), "plan of {day:?}");
     let n = day.entries.len();
     assert_eq!((says.ends.len(), says.starts.len()), (n, n));
@@ -225,6 +228,12 @@ fn a_plan_may_break_a_whole_entry() {
     let windows = "w[0,4)2 w[1,3)1";
     let says = Says { windows, moves: 0, broken: 1, ends: &[2, 2], starts: &[2, 2], plan: "0 1 0 -" };
     planned(&day, says);
+    let day = boxes(6, "w[0,6)3 p[1,4)1");
+    let windows = "w[0,6)3 p[1,4)1";
+    let says = Says { windows, moves: 0, broken: 1, ends: &[3, 2], starts: &[3, 3], plan: "0 1 0 0 - -" };
+    planned(&day, says);
+    shown(&day, 0, "0 0 0 1 - -", "- - 1 0 0 0");
+    shown(&day, 1, "0 1 0 0 - -", "- - 0 1 0 0");
 }
 
 /// Only whole entries count as broken, each of them once.
@@ -272,6 +281,31 @@ fn settled_windows_without_an_unbroken_plan_are_planned() {
         plan: "0 0 1 3 1 2 2",
     };
     planned(&day, says);
+}
+
+/// Three minutes in a row begin at 5 at least, behind the block [3, 5); in the mirror they end at 3 at most.
+#[test]
+fn a_whole_entry_beside_a_block() {
+    for (given, settled, ends, starts, minutes) in [
+        ("w[1,8)3 p[3,5)2", "w[5,8)3 p[3,5)2", [8, 5], [5, 3], "- - - 1 1 0 0 0"),
+        ("w[0,7)3 p[3,5)2", "w[0,3)3 p[3,5)2", [3, 5], [0, 3], "0 0 0 1 1 - - -"),
+    ] {
+        let day = boxes(8, given);
+        let says =
+            Says { windows: settled, moves: 1, broken: 0, ends: &ends, starts: &starts, plan: minutes };
+        planned(&day, says);
+        (0..2).for_each(|place| shown(&day, place, minutes, minutes));
+    }
+}
+
+/// "The same serial may stand twice."
+#[test]
+fn one_serial_twice() {
+    let day = with_serials(boxes(12, "p[0,6)4 w[6,12)5"), &[7, 7]);
+    let (early, late) = ("0 0 0 0 - - 1 1 1 1 1 -", "- - 0 0 0 0 - 1 1 1 1 1");
+    let windows = "p[0,6)4 w[6,12)5";
+    planned(&day, Says { windows, moves: 0, broken: 0, ends: &[4, 11], starts: &[2, 7], plan: early });
+    (0..2).for_each(|place| shown(&day, place, early, late));
 }
 
 /// In the given windows place 0 could have minutes 0 and 2, and place 2 the last one.

@@ -3,7 +3,7 @@
 //! nothing here relies on it."
 
 use dock_tests::abi::{self, Answer, Call, Lent};
-use dock_tests::check_bounds::{ask, asked, calls};
+use dock_tests::check_bounds::{ask, asked, calls, refused};
 use dock_tests::check_narrow::windows_in;
 use dock_tests::day::{Day, MOST_ENTRIES};
 use dock_tests::flat::{self, Fields, SIZE};
@@ -106,6 +106,7 @@ fn an_empty_list_before_sixty_four_places_of_junk() {
         assert_eq!((answer.number, answer.values), (0, [0, 0, 0]));
         assert_eq!(lent.plan, plan("- - -"));
         assert_eq!(lent.bounds, [0; 2 * MOST_ENTRIES]);
+        [Call::Early(0), Call::Late(0)].iter().for_each(|&call| refused(call, &fields, 3, 13, 0));
     }
 }
 

@@ -2,8 +2,9 @@
 //! more moves than a byte counts.
 
 use dock_tests::abi::Call;
+use dock_tests::check::written;
 use dock_tests::check_bounds::{ask, asked, calls, refused};
-use dock_tests::day::{Day, IDLE, LONGEST_DAY, MOST_ENTRIES};
+use dock_tests::day::{Day, IDLE, LONGEST_DAY, LONGEST_LIST, MOST_ENTRIES};
 use dock_tests::samples::{self, all_whole, boxes, plan, whole, windows};
 use dock_tests::{chains, flat};
 
@@ -112,6 +113,17 @@ fn sixty_four_entries_that_may_have_any_minutes() {
     }
 }
 
+/// A longest list: each of its entries may have the first three minutes of its window or the last three.
+#[test]
+fn sixty_four_entries_with_all_their_fields() {
+    for mut day in of_either_kind(windows(LONGEST_DAY, &[(2, 1439, 3); MOST_ENTRIES])) {
+        day.entries.iter_mut().for_each(|entry| entry.seal = Some(77));
+        assert_eq!(written(&flat::of_day(&day), LONGEST_LIST).len(), LONGEST_LIST);
+        assert_eq!(bounds(&day), [(5, 1436); MOST_ENTRIES]);
+        assert_eq!(asked(Call::Plan, &day).0.values, [0, 0, 0]);
+    }
+}
+
 /// None of 64 entries has a choice.
 #[test]
 fn sixty_four_entries_without_a_choice() {
@@ -161,6 +173,16 @@ fn a_pause_entry_around_one_that_leaves_two_minutes() {
         let plan = asked(call, &day).1.plan;
         assert_eq!((plan[0], plan[1439]), (0, 0), "{call:?}");
         assert!(plan[1..1439].iter().all(|&byte| byte == 1), "{call:?}");
+    }
+}
+
+/// The work of 9 passes 65,535.
+#[test]
+fn the_greatest_work_is_92160() {
+    let fields = flat::of_day(&windows(LONGEST_DAY, &[(0, 1440, 1440); MOST_ENTRIES]));
+    for call in [Call::Plan, Call::Early(0), Call::Late(63)] {
+        let (answer, _) = ask(call, &fields, 1440);
+        assert_eq!((answer.number, answer.values), (9, [0, 1440, 92_160]), "{call:?}");
     }
 }
 

@@ -182,8 +182,12 @@ fn nine_comes_before_ten() {
 /// 10 carries the place at which the rounds stop, whatever place is asked for.
 #[test]
 fn ten_carries_the_rounds_place_not_the_one_asked_for() {
-    let fields = flat::of_day(&boxes(11, "w[0,11)2 w[0,11)2 w[5,6)1 w[0,11)4 w[0,7)2"));
-    for call in calls(5) {
-        refused(call, &fields, 11, 10, 1);
+    for (h, entries, place) in
+        [(11, "w[0,11)2 w[0,11)2 w[5,6)1 w[0,11)4 w[0,7)2", 1), (7, "w[1,7)2 p[2,4)2 w[0,5)3", 2)]
+    {
+        let day = boxes(h, entries);
+        for call in calls(day.entries.len()) {
+            refused(call, &flat::of_day(&day), h.into(), 10, place);
+        }
     }
 }

@@ -93,9 +93,13 @@ fn sixty_four_whole_entries_that_may_have_any_minutes() {
     stays(&whole_windows(64, &[(0, 64, 1); MOST_ENTRIES]));
     stays(&whole_windows(1408, &[(0, 1408, 22); MOST_ENTRIES]));
     stays(&whole_windows(1440, &[(0, 1440, 22); MOST_ENTRIES]));
+    stays(&whole_windows(1440, &[(2, 1439, 3); MOST_ENTRIES]));
     let refusal =
         settle(&flat::of_day(&whole_windows(63, &[(0, 63, 1); MOST_ENTRIES]))).expect_err("overloaded");
     assert_eq!(refusal.code(), (9, [0, 63, 64]));
+    let most = whole_windows(LONGEST_DAY, &[(0, 1440, 1440); MOST_ENTRIES]);
+    let refusal = settle(&flat::of_day(&most)).expect_err("overloaded");
+    assert_eq!(refusal.code(), (9, [0, 1440, 92_160]));
 }
 
 #[test]

@@ -106,6 +106,14 @@ fn ten_may_name_another_entry_than_the_one_without_minutes() {
     round_refused(&flat::of_day(&whole_alone(day, 2)), 10, 2);
 }
 
+/// Places 1 and 2 fill [0, 5), so place 0 is moved behind them. Then place 2 finds no three minutes in a row.
+#[test]
+fn ten_after_a_move_of_the_same_round() {
+    let day = boxes(7, "w[1,7)2 p[2,4)2 w[0,5)3");
+    assert_eq!(no_place(&day), 2);
+    assert_eq!(by_trying_everything(&day).values, [2, 0, 0]);
+}
+
 #[test]
 fn ten_in_round_two() {
     let day = boxes(7, "w[0,7)2 p[4,6)1 w[0,7)3 p[1,3)1");
