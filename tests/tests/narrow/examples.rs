@@ -1,10 +1,10 @@
 //! Document 01's examples as narrowing sees them, round by round, and its sample input.
 
 use dock_tests::check::accepted;
-use dock_tests::check_narrow::{by_trying_everything, no_place, round_refused, rounds_leave};
-use dock_tests::check_narrow::{settle, settled, settled_by_rounds};
+use dock_tests::check_narrow::{by_trying_everything, no_place, rounds, rounds_leave, settle, settled};
 use dock_tests::day::{Day, Interval, Refusal};
 use dock_tests::samples::{self, boxes, hex};
+use dock_tests::settled::windows_of;
 use dock_tests::{abi, flat};
 
 /// This list must be refused with 9 before any round, showing this interval.
@@ -71,7 +71,6 @@ fn example_e_is_10_entry_0() {
     let (answer, fields) = abi::settle(&flat::of_day(&day));
     assert_eq!((answer.number, answer.values), (10, [0, 0, 0]));
     assert!(fields == abi::untouched_fields(), "a refusal writes nothing");
-    round_refused(&flat::of_day(&day), 10, 0);
     assert_eq!(by_trying_everything(&day).number, 10);
 }
 
@@ -98,10 +97,9 @@ fn examples_f_and_g_have_no_move() {
 fn example_h_from_its_bytes() {
     let (answer, fields) = abi::read(&hex("01 00 00"));
     assert_eq!(answer.number, 0);
-    for (answer, narrowed) in [abi::settle(&fields), abi::round(&fields)] {
-        assert_eq!((answer.number, answer.values), (0, [0, 0, 0]));
-        assert!(narrowed == fields, "the empty list stays as it is");
-    }
+    let (answer, narrowed) = abi::settle(&fields);
+    assert_eq!((answer.number, answer.values), (0, [0, 0, 0]));
+    assert!(narrowed == fields, "the empty list stays as it is");
 }
 
 /// The report of the sample input says `moves 1`, and settled windows [0,12), [5,8) and [3,6).
@@ -122,10 +120,7 @@ fn the_sample_input_from_its_bytes() {
 /// minutes of place 2.
 #[test]
 fn the_sample_input_round_by_round() {
-    let day = accepted(&samples::document());
-    let rounds = settled_by_rounds(&flat::of_day(&day));
-    assert_eq!(rounds.iter().map(|round| round.1).collect::<Vec<_>>(), [1, 0]);
-    let (windows, moves) = settled(&day);
-    let times: Vec<_> = windows.entries.iter().map(|entry| (entry.r, entry.d, entry.p)).collect();
-    assert_eq!((times, moves), (vec![(0, 12, 4), (5, 8, 3), (3, 6, 2)], 1));
+    let rounds = rounds(&accepted(&samples::document()));
+    assert_eq!(rounds.moves(), [1, 0]);
+    assert_eq!(windows_of(&rounds.done[0].day), [(0, 12), (5, 8), (3, 6)]);
 }

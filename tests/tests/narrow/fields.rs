@@ -1,26 +1,21 @@
 //! The fields that are lent for the narrowed list. Answered, they hold the list with its windows narrowed,
 //! all else as it was given, and zeros from place n on. "A refusal writes nothing to any lent buffer."
 
-use dock_tests::abi::{self, Answer};
 use dock_tests::check_narrow::{settle, settled};
 use dock_tests::day::{Day, Entry};
 use dock_tests::flat::{self, Fields, SIZE, WIDTH};
 use dock_tests::random::{self, Random};
 use dock_tests::samples::{self, boxes};
-use dock_tests::{check, values, writer};
+use dock_tests::{abi, check, values, writer};
 
-/// Both calls, by name.
-type Call = fn(&Fields, &mut Fields) -> Answer;
-const CALLS: [(&str, Call); 2] = [("settling", abi::settle_into), ("one round", abi::round_into)];
-
-/// A value for each refusal, and whether one round gives it too.
-fn refused_values() -> Vec<(u64, Fields, bool)> {
+/// A value for each refusal; the last one is refused after moves.
+fn refused_values() -> Vec<(u64, Fields)> {
     let days = [
-        (9, flat::of_day(&boxes(12, "w[0,12)12 p[11,12)1")), false),
-        (10, flat::of_day(&boxes(6, "w[0,6)3 p[2,4)2")), true),
-        (10, flat::of_day(&boxes(7, "w[0,7)2 p[4,6)1 w[0,7)3 p[1,3)1")), false),
+        (9, boxes(12, "w[0,12)12 p[11,12)1")),
+        (10, boxes(6, "w[0,6)3 p[2,4)2")),
+        (10, boxes(7, "w[0,7)2 p[4,6)1 w[0,7)3 p[1,3)1")),
     ];
-    values::wrong().map(|(number, fields)| (number, fields, true)).into_iter().chain(days).collect()
+    values::wrong().into_iter().chain(days.map(|(number, day)| (number, flat::of_day(&day)))).collect()
 }
 
 /// Fields to be lent: zeros, ones, a list, what no list has.
@@ -31,34 +26,13 @@ fn contents() -> Vec<Fields> {
 
 #[test]
 fn a_refusal_leaves_every_number_as_it_was() {
-    for (number, fields, by_round) in refused_values() {
+    for (number, fields) in refused_values() {
         for before in contents() {
-            for (name, call) in CALLS {
-                if name == "one round" && !by_round {
-                    continue;
-                }
-                let mut narrowed = before;
-                assert_eq!(call(&fields, &mut narrowed).number, number, "{name}");
-                assert!(narrowed == before, "numbers changed by refusal {number}, {name}");
-            }
+            let mut narrowed = before;
+            assert_eq!(abi::settle_into(&fields, &mut narrowed).number, number);
+            assert!(narrowed == before, "numbers changed by refusal {number}");
         }
     }
-}
-
-/// Refused in round two: what round one did is not written either.
-#[test]
-fn a_refusal_after_moves_writes_nothing() {
-    let fields = flat::of_day(&boxes(7, "w[0,7)2 p[4,6)1 w[0,7)3 p[1,3)1"));
-    let (answer, first) = abi::round(&fields);
-    assert_eq!((answer.number, answer.values), (0, [2, 0, 0]));
-    assert!(first != fields, "round one moves");
-    let mut narrowed = [7; SIZE];
-    let answer = abi::settle_into(&fields, &mut narrowed);
-    assert_eq!((answer.number, answer.values), (10, [0, 0, 0]));
-    assert!(narrowed == [7; SIZE], "numbers changed by a refusal");
-    let answer = abi::round_into(&first, &mut narrowed);
-    assert_eq!((answer.number, answer.values), (10, [0, 0, 0]));
-    assert!(narrowed == [7; SIZE], "numbers changed by a refused round");
 }
 
 /// A settled list that stands in the fields survives every refusal.
@@ -69,7 +43,7 @@ fn a_refusal_keeps_an_earlier_answer() {
     let mut narrowed = abi::untouched_fields();
     assert_eq!(abi::settle_into(&flat::of_day(&day), &mut narrowed).number, 0);
     assert!(narrowed == wanted, "settled");
-    for (number, fields, _) in refused_values() {
+    for (number, fields) in refused_values() {
         assert_eq!(abi::settle_into(&fields, &mut narrowed).number, number);
         assert!(narrowed == wanted, "after refusal {number}");
     }
@@ -86,15 +60,12 @@ fn whatever_the_fields_held_the_answer_is_the_same() {
     ];
     for day in days {
         let fields = flat::of_day(&day);
-        for (name, call) in CALLS {
-            let mut wanted = abi::untouched_fields();
-            let answer = call(&fields, &mut wanted);
-            assert_eq!(answer.number, 0, "{name} of {day:?}");
-            for before in contents() {
-                let mut narrowed = before;
-                assert_eq!(call(&fields, &mut narrowed), answer, "{name} of {day:?}");
-                assert!(narrowed == wanted, "{name} of {day:?}");
-            }
+        let (answer, wanted) = abi::settle(&fields);
+        assert_eq!(answer.number, 0, "{day:?}");
+        for before in contents() {
+            let mut narrowed = before;
+            assert_eq!(abi::settle_into(&fields, &mut narrowed), answer, "{day:?}");
+            assert!(narrowed == wanted, "{day:?}");
         }
     }
 }
@@ -112,11 +83,9 @@ fn from_place_n_on_the_answer_has_zeros() {
         let used = 2 + WIDTH * n;
         let mut fields = flat::of_day(&day);
         fields[used..].fill_with(|| random.any() as u32);
-        for (name, call) in CALLS {
-            let mut narrowed = abi::untouched_fields();
-            assert_eq!(call(&fields, &mut narrowed).number, 0, "{name} of {n} entries");
-            assert!(narrowed[used..].iter().all(|&number| number == 0), "{name} of {n} entries");
-        }
+        let (answer, narrowed) = abi::settle(&fields);
+        assert_eq!(answer.number, 0, "{n} entries");
+        assert!(narrowed[used..].iter().all(|&number| number == 0), "{n} entries");
     }
 }
 

@@ -12,12 +12,10 @@ use dock_tests::random::{self, Random};
 use dock_tests::samples::{boxes, with_serials};
 use dock_tests::settled::Windows;
 
-/// What both calls say of a value, with the windows that they leave.
-fn said(fields: &Fields, n: usize) -> [(Answer, Windows); 2] {
-    [abi::settle(fields), abi::round(fields)].map(|(answer, narrowed)| {
-        let windows = if answer.number == 0 { windows_in(&narrowed, n) } else { vec![] };
-        (answer, windows)
-    })
+/// What is said of a value, with the windows that are left.
+fn said(fields: &Fields, n: usize) -> (Answer, Windows) {
+    let (answer, narrowed) = abi::settle(fields);
+    (answer, if answer.number == 0 { windows_in(&narrowed, n) } else { vec![] })
 }
 
 /// Random days that are settled, with moves and without, or refused with 9 or 10.
@@ -57,15 +55,15 @@ impl Seen {
     }
 }
 
-/// Changes these numbers of every entry of random days, to any value: both calls must say the same as before,
-/// and the answered list has what was given.
+/// Changes these numbers of every entry of random days, to any value: the same must be said as before, and the
+/// answered list has what was given.
 fn travels_along(seed: u64, numbers: &[usize]) {
     let mut seen = Seen::default();
     days(&mut Random::new(seed), |random, day| {
         let n = day.entries.len();
         let fields = flat::of_day(day);
         let before = said(&fields, n);
-        seen.count(before[0].0);
+        seen.count(before.0);
         let other = ignored::with_any(random, &fields, numbers);
         assert!(said(&other, n) == before, "{numbers:?} of {day:?}");
         let (answer, narrowed) = abi::settle(&other);
@@ -110,10 +108,10 @@ fn places_from_n_on_are_never_looked_at() {
     let mut seen = Seen::default();
     days(&mut Random::new(94), |random, day| {
         let fields = flat::of_day(day);
-        let before = [abi::settle(&fields), abi::round(&fields)];
-        seen.count(before[0].0);
+        let before = abi::settle(&fields);
+        seen.count(before.0);
         for other in ignored::with_junk(random, &fields) {
-            assert!([abi::settle(&other), abi::round(&other)] == before, "junk after {day:?}");
+            assert!(abi::settle(&other) == before, "junk after {day:?}");
         }
     });
     seen.all_often();
@@ -137,10 +135,9 @@ fn an_empty_list_before_sixty_four_places_of_junk() {
     for junk in [1, 3, 65_535, u32::MAX] {
         let mut fields = [junk; SIZE];
         (fields[0], fields[1]) = (3, 0);
-        for (answer, narrowed) in [abi::settle(&fields), abi::round(&fields)] {
-            assert_eq!((answer.number, answer.values), (0, [0, 0, 0]));
-            assert!(narrowed == flat::of_day(&boxes(3, "")), "zeros after {junk}");
-        }
+        let (answer, narrowed) = abi::settle(&fields);
+        assert_eq!((answer.number, answer.values), (0, [0, 0, 0]));
+        assert!(narrowed == flat::of_day(&boxes(3, "")), "zeros after {junk}");
     }
 }
 

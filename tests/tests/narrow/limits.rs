@@ -1,24 +1,21 @@
 //! The limits: no entries and 64, 1 minute and 1,440, one entry filling the day, pause entries alone, and
 //! more moves than a byte counts.
 
-use dock_tests::check_narrow::{no_place, not_settled, round, round_refused};
-use dock_tests::check_narrow::{settle, settled, settled_by_rounds};
-use dock_tests::day::{Day, LONGEST_DAY, MOST_ENTRIES};
+use dock_tests::check_narrow::{no_place, not_settled, rounds, settle, settled};
+use dock_tests::day::{Day, Refusal, LONGEST_DAY, MOST_ENTRIES};
 use dock_tests::random::{self, Random};
 use dock_tests::samples::{self, all_whole, boxes, whole, windows};
-use dock_tests::{abi, chains, flat};
+use dock_tests::{chains, flat};
 
 /// A day with these entries, all of them whole.
 fn whole_windows(h: u16, entries: &[(u16, u16, u16)]) -> Day {
     all_whole(windows(h, entries))
 }
 
-/// This list has nothing to move, by either call.
+/// This list has nothing to move.
 #[track_caller]
 fn stays(day: &Day) {
     assert_eq!(settled(day), (day.clone(), 0));
-    let narrowed = round(&flat::of_day(day)).expect("a round");
-    assert_eq!((&narrowed.day, narrowed.moves), (day, 0));
 }
 
 #[test]
@@ -47,10 +44,8 @@ fn one_entry_fills_the_day() {
     let mut fields = flat::of_day(&whole_windows(LONGEST_DAY, &[(0, 1440, 1440)]));
     fields[7] = 1441;
     not_settled(&fields, 7, 0);
-    round_refused(&fields, 7, 0);
     fields[0] = 1441;
     not_settled(&fields, 2, 0);
-    round_refused(&fields, 2, 0);
 }
 
 /// A whole entry of all minutes but one: the one that is taken decides on which side it stands.
@@ -117,7 +112,7 @@ fn sixty_four_whole_entries_in_one_round() {
     let wanted = whole_windows(64, &Vec::from_iter((0..64).map(|place| (place, place + 1, 1))));
     let day = whole_windows(64, &Vec::from_iter((0..64).map(|place| (0, place + 1, 1))));
     assert_eq!(settled(&day), (wanted.clone(), 63));
-    assert_eq!(round(&flat::of_day(&day)).expect("a round").moves, 63);
+    assert_eq!(rounds(&day).moves(), [63, 0]);
     let day = whole_windows(64, &Vec::from_iter((0..64).map(|place| (place, 64, 1))));
     assert_eq!(settled(&day), (wanted, 63));
 }
@@ -142,7 +137,6 @@ fn sixty_five_entries_are_3() {
     let mut fields = flat::of_day(&whole_windows(64, &[(0, 64, 1); MOST_ENTRIES]));
     fields[1] = 65;
     not_settled(&fields, 3, 0);
-    round_refused(&fields, 3, 0);
 }
 
 /// Example (a) with more entries, of more minutes: each round settles one, from the last place to the first.
@@ -158,11 +152,10 @@ fn one_entry_in_each_round() {
 #[test]
 fn sixty_five_rounds() {
     let (day, wanted) = chains::settled_one_by_one(MOST_ENTRIES, 2);
-    let rounds = settled_by_rounds(&flat::of_day(&day));
-    let moves = Vec::from_iter(rounds.iter().map(|round| round.1));
-    assert_eq!(moves, [vec![1], vec![2; 62], vec![1, 0]].concat());
-    assert!(rounds[64].0 == flat::of_day(&wanted), "the last windows");
-    assert!(rounds[62].0 != flat::of_day(&wanted), "two rounds before");
+    let rounds = rounds(&day);
+    assert_eq!(rounds.moves(), [vec![1], vec![2; 62], vec![1, 0]].concat());
+    assert_eq!(rounds.done[64].day, wanted, "the last windows");
+    assert_ne!(rounds.done[62].day, wanted, "two rounds before");
 }
 
 /// The same around minutes that the innermost entry cannot have: with 64 entries 61 rounds come before the
@@ -170,9 +163,9 @@ fn sixty_five_rounds() {
 #[test]
 fn ten_after_many_rounds() {
     for n in [4, 5, 6, 20, MOST_ENTRIES] {
-        let fields = flat::of_day(&chains::refused_in_the_end(n));
-        not_settled(&fields, 10, 2);
-        assert_eq!(settled_by_rounds(&fields).len(), n - 3, "rounds before the refusal of {n} entries");
+        let rounds = rounds(&chains::refused_in_the_end(n));
+        assert_eq!(rounds.refusal, Some(Refusal::NoPlace { place: 2 }), "{n} entries");
+        assert_eq!(rounds.done.len(), n - 3, "rounds before the refusal of {n} entries");
     }
 }
 
@@ -187,14 +180,10 @@ fn pause_entries_alone() {
             _ => random::planned_day(&mut random, LONGEST_DAY, MOST_ENTRIES, 4, &[1, 60]),
         };
         day.entries.iter_mut().for_each(|entry| entry.whole = false);
-        let fields = flat::of_day(&day);
-        match settle(&fields) {
+        match settle(&flat::of_day(&day)) {
             Ok(narrowed) => assert_eq!((&narrowed.day, narrowed.moves), (&day, 0)),
             Err(refusal) => assert_eq!(refusal.code().0, 9, "{day:?}"),
         }
-        let (answer, narrowed) = abi::round(&fields);
-        assert_eq!((answer.number, answer.values), (0, [0, 0, 0]), "one round of {day:?}");
-        assert!(narrowed == fields, "one round, with a plan or without one, of {day:?}");
     }
 }
 

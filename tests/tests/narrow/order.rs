@@ -1,8 +1,7 @@
 //! What the order of the places decides: the moves, the rounds and the place of 10; and what it does not: the
 //! windows, and whether a list is refused.
 
-use dock_tests::check_narrow::{by_trying_everything, no_place, round_refused, rounds_leave};
-use dock_tests::check_narrow::{settled, settled_by_rounds};
+use dock_tests::check_narrow::{by_trying_everything, no_place, rounds, rounds_leave, settled};
 use dock_tests::day::{Day, Refusal};
 use dock_tests::narrow::{self, Side};
 use dock_tests::samples::boxes;
@@ -102,8 +101,7 @@ fn ten_may_name_another_entry_than_the_one_without_minutes() {
     assert_eq!(by_trying_everything(&day).values, [1, 0, 0]);
     let steps = Plans::of(&day).steps();
     assert!(steps.refused.contains(&1) && steps.refused.contains(&2), "{:?}", steps.refused);
-    assert_eq!(no_place(&whole_alone(day.clone(), 2)), 2);
-    round_refused(&flat::of_day(&whole_alone(day, 2)), 10, 2);
+    assert_eq!(no_place(&whole_alone(day, 2)), 2);
 }
 
 /// Places 1 and 2 fill [0, 5), so place 0 is moved behind them. Then place 2 finds no three minutes in a row.
@@ -137,8 +135,7 @@ fn ten_in_round_three() {
 fn ten_in_round_six() {
     let day = boxes(30, "w[8,9)1 w[19,25)5 w[0,24)4 w[0,23)6 w[5,30)2 w[2,27)3 w[1,30)4 w[8,28)5");
     assert_eq!(no_place(&day), 2);
-    let rounds = settled_by_rounds(&flat::of_day(&day));
-    assert_eq!(Vec::from_iter(rounds.iter().map(|round| round.1)), [4, 1, 1, 3, 4]);
+    assert_eq!(rounds(&day).moves(), [4, 1, 1, 3, 4]);
 }
 
 /// A refusal carries its place and no moves, however many were made.

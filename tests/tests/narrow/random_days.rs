@@ -1,7 +1,7 @@
 //! Random days of both kinds, fixed by their seeds: small ones against trying everything, longer ones against
 //! the second narrowing, and others against their mirror.
 
-use dock_tests::check_narrow::{by_trying_everything, round, settle, settled_by_rounds};
+use dock_tests::check_narrow::{by_trying_everything, rounds, settle};
 use dock_tests::day::{Day, Refusal};
 use dock_tests::random::{self, each_of, Count, Random};
 use dock_tests::{abi, flat, mirror, narrow};
@@ -50,11 +50,7 @@ fn late_refusals_against_trying_everything() {
 
 #[test]
 fn ten_thousand_days_of_up_to_12_minutes_against_the_second_narrowing() {
-    let seen: Seen = each_of(10_000, 103, up_to(12, 6), |day| {
-        let settled = settle(&flat::of_day(day));
-        let round = round(&flat::of_day(day));
-        assert!(settled.is_err() || round.is_ok(), "{day:?}");
-    });
+    let seen: Seen = each_of(10_000, 103, up_to(12, 6), |day| settle(&flat::of_day(day)));
     assert!(seen.rounds[..3].iter().all(|&count| count > 100), "{seen:?}");
     assert!(seen.overloaded > 1_000 && seen.no_place > 200, "{seen:?}");
 }
@@ -62,9 +58,10 @@ fn ten_thousand_days_of_up_to_12_minutes_against_the_second_narrowing() {
 #[test]
 fn three_thousand_days_of_up_to_60_minutes_against_the_second_narrowing() {
     let seen: Seen = each_of(3_000, 104, up_to(60, 12), |day| {
-        let settled = settle(&flat::of_day(day));
-        if !matches!(settled, Err(Refusal::Overloaded(_))) {
-            settled_by_rounds(&flat::of_day(day));
+        if abi::overload(&flat::of_day(day)).number == 9 {
+            let _ = settle(&flat::of_day(day));
+        } else {
+            rounds(day);
         }
     });
     assert!(seen.rounds[..4].iter().all(|&count| count > 20), "{seen:?}");

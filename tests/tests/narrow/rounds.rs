@@ -1,32 +1,29 @@
-//! One round by a call of its own, from the windows as given: each round's windows and moves equal the
-//! rule's, and rounds one after the other come to what settling answers.
+//! Round after round: from the windows that a round leaves, settling makes the moves of the rounds that are
+//! still to come.
 
-use dock_tests::check_narrow::{round, settled_by_rounds};
+use dock_tests::chains;
+use dock_tests::check_narrow::{rounds, rounds_leave};
 use dock_tests::random::{self, Random};
 use dock_tests::samples::boxes;
-use dock_tests::{chains, flat, narrow};
 
 /// A visit sees what the visits before it in the same round have left: place 1 here sees place 0 moved.
 #[test]
 fn a_visit_sees_the_visits_before_it() {
-    let day = boxes(4, "w[0,4)2 w[0,3)2");
-    let narrowed = round(&flat::of_day(&day)).expect("a round");
-    assert_eq!((narrowed.day, narrowed.moves), (boxes(4, "w[2,4)2 w[0,2)2"), 2));
+    rounds_leave(&boxes(4, "w[0,4)2 w[0,3)2"), &[("w[2,4)2 w[0,2)2", 2), ("w[2,4)2 w[0,2)2", 0)]);
 }
 
 /// The moves of a round are its own, not all since the given windows.
 #[test]
 fn a_round_counts_its_own_moves() {
     let (day, _) = chains::settled_one_by_one(6, 2);
-    let rounds = settled_by_rounds(&flat::of_day(&day));
-    assert_eq!(Vec::from_iter(rounds.iter().map(|round| round.1)), [1, 2, 2, 2, 2, 1, 0]);
+    assert_eq!(rounds(&day).moves(), [1, 2, 2, 2, 2, 1, 0]);
 }
 
-/// Every round of random days, one after the other, as the second narrowing makes it; then a refusal or not.
+/// Every round of random days as the second narrowing makes it; then a refusal or not.
 #[test]
-fn each_rounds_windows_equal_the_rules() {
+fn each_round_of_random_days() {
     let mut random = Random::new(111);
-    let mut rounds = 0;
+    let mut made = 0;
     for turn in 0..2_000 {
         let h = random.within(8, 40);
         let n = 3 + random.below(6);
@@ -35,16 +32,9 @@ fn each_rounds_windows_equal_the_rules() {
             _ => random::unbroken_day(&mut random, h, n, false, h / 2),
         };
         day.entries.iter_mut().for_each(|entry| entry.whole |= turn % 3 > 0);
-        let wanted = narrow::rounds(&day);
-        let found = settled_by_rounds(&flat::of_day(&day));
-        assert_eq!(found.len(), wanted.done.len(), "rounds of {day:?}");
-        for (number, (found, wanted)) in (1..).zip(found.iter().zip(&wanted.done)) {
-            assert_eq!(found.1, wanted.moves, "moves of round {number} of {day:?}");
-            assert!(found.0 == flat::of_day(&wanted.day), "windows of round {number} of {day:?}");
-        }
-        rounds += found.len();
+        made += rounds(&day).done.len();
     }
-    assert!(rounds > 3_000, "{rounds} rounds");
+    assert!(made > 3_000, "{made} rounds");
 }
 
 /// Found by search: days of few entries that take many rounds.
@@ -66,11 +56,6 @@ fn days_of_many_rounds() {
             vec![4, 1, 4, 3, 6, 4, 4, 3, 2, 1, 0],
         ),
     ] {
-        let rounds = settled_by_rounds(&flat::of_day(&boxes(h, entries)));
-        assert_eq!(
-            Vec::from_iter(rounds.iter().map(|round| round.1)),
-            moves,
-            "moves of the rounds of {entries}"
-        );
+        assert_eq!(rounds(&boxes(h, entries)).moves(), moves, "moves of the rounds of {entries}");
     }
 }
