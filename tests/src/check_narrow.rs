@@ -1,7 +1,7 @@
 //! Holds the static library's narrowing against the second one, and on small days against trying everything.
 
 use crate::abi::{self, Answer};
-use crate::check::refusing;
+use crate::check::{is_refused, refusing};
 use crate::day::{Day, Refusal};
 use crate::flat::{self, Fields};
 use crate::narrow::{self, Narrowed, Rounds};
@@ -54,8 +54,7 @@ pub fn no_place(day: &Day) -> usize {
 /// Settles a value that must be refused with this number, carrying this value.
 #[track_caller]
 pub fn not_settled(fields: &Fields, number: u32, carries: usize) {
-    let refusal = settle(fields).expect_err("must not be settled");
-    assert_eq!(refusal.code(), (number, [carries as u64, 0, 0]));
+    is_refused(settle(fields), number, carries);
 }
 
 /// Settles a list that is not overloaded with the library, from its windows as given and from those that each

@@ -37,4 +37,5 @@ pub mod chains; // days that need many rounds
 pub mod ignored; // values that differ in what no call looks at
 pub mod random; // lists, damaged inputs and values, fixed by their seeds
 pub mod samples; // lists that several tests share, and short forms to write others down
+pub mod told; // how often each number was answered
 pub mod values; // values that every call refuses or accepts

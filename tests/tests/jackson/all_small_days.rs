@@ -60,7 +60,6 @@ fn the_schedule_is_jacksons_and_one_of_the_days_plans() {
         assert_eq!((answer.number, answer.values), (0, [0; 3]), "answer to {day:?}");
         assert_eq!(bytes, jackson::schedule(&day), "schedule of {day:?}");
         assert!(plans.contains(&bytes), "{bytes:?} is no plan of {day:?}");
-        assert!(brute::is_plan(&day, &bytes), "{bytes:?} is no plan of {day:?}");
         planned += 1;
     }
     assert_eq!(planned, PLANNED);

@@ -32,26 +32,13 @@ fn overloaded_days() -> Vec<Day> {
 }
 
 #[test]
-fn a_buffer_of_h_bytes_is_filled() {
-    for day in planned_days() {
-        let plan = check::planned(&day);
-        assert_eq!(plan.len(), usize::from(day.h));
-        let (answer, bytes) = abi::schedule(&flat::of_day(&day), plan.len());
-        assert_eq!((answer.number, answer.values), (0, [0, 0, 0]));
-        assert_eq!(bytes, plan);
-    }
-}
-
-#[test]
-fn a_longer_buffer_keeps_the_bytes_after_h() {
+fn the_first_h_bytes_are_written() {
     for day in planned_days() {
         let h = usize::from(day.h);
         let plan = check::planned(&day);
+        assert_eq!(plan.len(), h);
         for more in [1, 2, 3, 100, 1000, 5000] {
-            let (answer, bytes) = abi::schedule(&flat::of_day(&day), h + more);
-            assert_eq!((answer.number, answer.values), (0, [0, 0, 0]));
-            assert_eq!(bytes[..h], plan);
-            assert_eq!(bytes[h..], abi::untouched_bytes(h + more)[h..], "{more} bytes after {h}");
+            assert_eq!(schedule(&flat::of_day(&day), h + more).as_ref(), Ok(&plan), "{more} bytes after {h}");
         }
     }
 }
@@ -90,20 +77,8 @@ fn a_buffer_under_h_bytes_is_11_with_h() {
         let fields = flat::of_day(&day);
         for room in (0..h).filter(|room| room % 97 == 0 || room + 3 > h) {
             not_planned(&fields, room, 11, h);
-            let (answer, bytes) = abi::schedule(&fields, room);
-            assert_eq!((answer.number, answer.values), (11, [h as u64, 0, 0]));
-            assert_eq!(bytes, abi::untouched_bytes(room), "a refusal writes nothing");
         }
     }
-}
-
-/// One byte decides: H - 1 is 11, H and H + 1 are not.
-#[test]
-fn around_h_bytes() {
-    let fields = flat::of_day(&windows(6, &[(1, 5, 2), (0, 6, 3)]));
-    not_planned(&fields, 5, 11, 6);
-    assert_eq!(schedule(&fields, 6), Ok(plan("1 0 0 1 1 -")));
-    assert_eq!(schedule(&fields, 7), Ok(plan("1 0 0 1 1 -")));
 }
 
 /// Row 11 stands above row 9: "the first that holds is given".
@@ -127,7 +102,6 @@ fn a_short_buffer_is_told_even_if_the_list_is_overloaded() {
 fn a_buffer_of_no_bytes_is_always_too_short() {
     for h in [1, 2, 255, 256, 1440] {
         let fields = flat::of_day(&windows(h, &[]));
-        not_planned(&fields, 0, 11, usize::from(h));
         let answer = abi::schedule_into(&fields, &mut []);
         assert_eq!(answer, Answer { number: 11, values: [u64::from(h), 0, 0] });
     }
@@ -159,7 +133,6 @@ fn a_refusal_leaves_every_byte_as_it_was() {
             let (answer, bytes) = abi::schedule(&fields, room);
             assert_eq!(answer.number, number);
             assert!(bytes == abi::untouched_bytes(room), "bytes changed by refusal {number}");
-            assert_eq!(schedule(&fields, room).map_err(|refusal| u64::from(refusal.code().0)), Err(number));
         }
     }
 }

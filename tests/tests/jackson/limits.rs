@@ -2,43 +2,38 @@
 
 use dock_tests::check::{not_planned, overload, overloaded, planned, schedule, test_refused};
 use dock_tests::day::{Interval, IDLE, LONGEST_DAY, MOST_ENTRIES};
+use dock_tests::flat;
 use dock_tests::samples::{plan, windows};
-use dock_tests::{abi, flat};
 
 /// The longest day in bytes.
 const LONGEST: usize = LONGEST_DAY as usize;
 
 #[test]
-fn no_entries_make_h_idle_minutes() {
-    for h in [1, 2, 63, 64, 65, 255, 256, 257, 1439, 1440] {
-        assert_eq!(planned(&windows(h, &[])), vec![IDLE; usize::from(h)]);
-    }
-}
-
-#[test]
 fn a_day_of_one_minute() {
-    assert_eq!(planned(&windows(1, &[])), [255]);
     assert_eq!(planned(&windows(1, &[(0, 1, 1)])), [0]);
     assert_eq!(overloaded(&windows(1, &[(0, 1, 1); 2])), Interval { a: 0, b: 1, work: 2 });
     assert_eq!(overloaded(&windows(1, &[(0, 1, 1); MOST_ENTRIES])), Interval { a: 0, b: 1, work: 64 });
 }
 
 #[test]
-fn one_entry_fills_the_longest_day() {
-    assert_eq!(planned(&windows(LONGEST_DAY, &[(0, 1440, 1440)])), [0; LONGEST]);
-    let mut fields = flat::of_day(&windows(LONGEST_DAY, &[(0, 1440, 1440)]));
-    not_planned(&fields, 1439, 11, 1440);
-    fields[7] = 1441;
-    not_planned(&fields, 1440, 7, 0);
-    test_refused(&fields, 7, 0);
-}
-
-#[test]
 fn one_entry_fills_days_of_every_length() {
     for h in 1..=LONGEST_DAY {
-        let fields = flat::of_day(&windows(h, &[(0, h, h)]));
-        assert_eq!(schedule(&fields, usize::from(h)), Ok(vec![0; usize::from(h)]));
+        let (fields, bytes) = (flat::of_day(&windows(h, &[(0, h, h)])), usize::from(h));
+        assert_eq!(schedule(&fields, bytes), Ok(vec![0; bytes]));
+        not_planned(&fields, bytes - 1, 11, bytes);
     }
+}
+
+/// One minute more than fills the day is 7, a day of one minute more 2.
+#[test]
+fn one_entry_is_too_long_for_the_day() {
+    let mut fields = flat::of_day(&windows(LONGEST_DAY, &[(0, 1440, 1440)]));
+    fields[7] = 1441;
+    test_refused(&fields, 7, 0);
+    not_planned(&fields, 1440, 7, 0);
+    fields[0] = 1441;
+    test_refused(&fields, 2, 0);
+    not_planned(&fields, 1441, 2, 0);
 }
 
 /// The last minute of the day is planned, and the one before the first of a window is not.
@@ -47,14 +42,6 @@ fn one_minute_at_either_end_of_the_longest_day() {
     let bytes = planned(&windows(LONGEST_DAY, &[(1439, 1440, 1), (0, 1, 1)]));
     assert_eq!((bytes[0], bytes[1439]), (1, 0));
     assert!(bytes[1..1439].iter().all(|&byte| byte == IDLE));
-}
-
-#[test]
-fn a_day_of_1441_minutes_is_2() {
-    let mut fields = flat::of_day(&windows(LONGEST_DAY, &[(0, 1440, 1440)]));
-    fields[0] = 1441;
-    test_refused(&fields, 2, 0);
-    not_planned(&fields, 1441, 2, 0);
 }
 
 #[test]
@@ -80,14 +67,6 @@ fn sixty_four_entries_of_22_minutes_in_the_longest_day() {
     assert_eq!(shown, Interval { a: 0, b: 1440, work: 1472 });
 }
 
-#[test]
-fn sixty_five_entries_are_3() {
-    let mut fields = flat::of_day(&windows(64, &[(0, 64, 1); MOST_ENTRIES]));
-    fields[1] = 65;
-    test_refused(&fields, 3, 0);
-    not_planned(&fields, 64, 3, 0);
-}
-
 /// 64 entries in a row, each interrupting the one before, and all of them ending the other way round.
 #[test]
 fn sixty_three_interruptions_one_inside_the_other() {
@@ -101,11 +80,7 @@ fn sixty_three_interruptions_one_inside_the_other() {
 fn the_greatest_work_is_92160() {
     let day = windows(LONGEST_DAY, &[(0, 1440, 1440); MOST_ENTRIES]);
     assert_eq!(overloaded(&day), Interval { a: 0, b: 1440, work: 92_160 });
-    let fields = flat::of_day(&day);
-    let answer = abi::overload(&fields);
-    assert_eq!((answer.number, answer.values), (9, [0, 1440, 92_160]));
-    assert_eq!(abi::schedule(&fields, LONGEST).0, answer);
-    not_planned(&fields, 1439, 11, 1440);
+    not_planned(&flat::of_day(&day), 1439, 11, 1440);
 }
 
 /// Work that is 65,536 more than a small number must not be taken for that number.

@@ -41,7 +41,6 @@ fn an_equal_d_does_not_interrupt_though_it_needs_fewer_minutes() {
 
 #[test]
 fn a_d_smaller_by_one_interrupts_at_once() {
-    planned(6, &[(1, 5, 2), (0, 6, 3)], "1 0 0 1 1 -");
     planned(6, &[(0, 6, 3), (1, 5, 2)], "0 1 1 0 0 -");
 }
 

@@ -41,8 +41,11 @@ fn every_day_length_without_entries() {
     for h in 0..=1500 {
         let fields = value(h, 0, &[]);
         match h {
-            1..=1440 => assert_eq!(schedule(&fields, ROOM), Ok(vec![255; h as usize])),
-            _ => not_planned(&fields, ROOM, 2, 0),
+            1..=1440 => {
+                assert_eq!(overload(&fields), Ok(()));
+                assert_eq!(schedule(&fields, ROOM), Ok(vec![255; h as usize]));
+            }
+            _ => refused(&fields, 2, 0),
         }
     }
 }

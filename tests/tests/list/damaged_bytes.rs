@@ -3,6 +3,7 @@
 use dock_tests::check;
 use dock_tests::random::{self, Random};
 use dock_tests::samples;
+use dock_tests::told::Told;
 
 #[test]
 fn every_truncation_lacks_a_field() {
@@ -56,11 +57,11 @@ fn every_change_of_one_byte_of_a_longest_list() {
 #[test]
 fn a_hundred_thousand_damaged_lists() {
     let mut random = Random::new(1);
-    let mut seen = [0; 9];
+    let mut told = Told::default();
     for _ in 0..100_000 {
-        seen[check::number(&check::read(&random::damaged(&mut random)))] += 1;
+        told.count(check::number(&check::read(&random::damaged(&mut random))));
     }
-    assert!(seen.iter().all(|&times| times > 500), "too few of an answer: {seen:?}");
+    told.more_than(500, &[0, 1, 2, 3, 4, 5, 6, 7, 8]);
 }
 
 #[test]

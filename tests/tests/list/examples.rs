@@ -1,23 +1,12 @@
 //! The inputs that document 01 writes out, and others where the order of the rows decides.
 
-use dock_tests::day::{Day, Entry, LONGEST_LIST};
+use dock_tests::day::LONGEST_LIST;
 use dock_tests::samples::{self, hex};
 use dock_tests::{abi, check, writer};
 
-fn three_boxes() -> Day {
-    let first = Entry { serial: 501, seal: None, r: 0, d: 12, p: 4, whole: false };
-    let second = Entry { serial: 502, seal: Some(77), r: 2, d: 8, p: 3, whole: true };
-    let third = Entry { serial: 503, seal: Some(78), r: 3, d: 6, p: 2, whole: false };
-    Day { h: 12, entries: vec![first, second, third] }
-}
-
-#[test]
-fn the_documents_sample_is_read() {
-    assert_eq!(check::accepted(&samples::document()), three_boxes());
-}
-
 #[test]
 fn the_documents_sample_in_flat_form() {
+    check::accepted(&samples::document());
     let (answer, fields) = abi::read(&samples::document());
     assert_eq!((answer.number, answer.values), (0, [0, 0, 0]));
     assert_eq!(fields[..2], [12, 3]);
@@ -34,12 +23,6 @@ fn the_documents_sample_is_written() {
     assert_eq!((answer.number, answer.values), (0, [40, 0, 0]));
     assert_eq!(out[..40], samples::document());
     assert_eq!(out[40], abi::untouched_bytes(41)[40]);
-}
-
-#[test]
-fn a_day_of_one_minute_without_entries_is_accepted() {
-    let day = check::accepted(&hex("01 00 00"));
-    assert_eq!(day, Day { h: 1, entries: vec![] });
 }
 
 #[test]
@@ -63,11 +46,4 @@ fn the_longest_list_has_963_bytes() {
     let bytes = writer::form(&samples::longest());
     assert_eq!((bytes.len(), LONGEST_LIST), (963, 963));
     assert_eq!(check::accepted(&bytes), samples::longest());
-}
-
-#[test]
-fn a_964th_byte_is_left_over() {
-    let mut bytes = writer::form(&samples::longest());
-    bytes.push(0);
-    check::refused(&bytes, 8, 963);
 }

@@ -1,14 +1,8 @@
 //! The header: its length, the day's length H, the number of entries n, in this order.
 
 use dock_tests::check::{accepted, refused};
+use dock_tests::day::Day;
 use dock_tests::samples::{hex, list, SHORT};
-
-#[test]
-fn under_three_bytes_is_1_with_the_inputs_length() {
-    refused(&[], 1, 0);
-    refused(&hex("01"), 1, 1);
-    refused(&hex("01 00"), 1, 2);
-}
 
 #[test]
 fn a_short_header_comes_before_a_wrong_day() {
@@ -17,21 +11,13 @@ fn a_short_header_comes_before_a_wrong_day() {
     refused(&hex("FF FF"), 1, 2);
 }
 
-#[test]
-fn the_day_has_1_to_1440_minutes() {
-    refused(&hex("00 00 00"), 2, 0);
-    assert_eq!(accepted(&hex("01 00 00")).h, 1);
-    assert_eq!(accepted(&hex("A0 05 00")).h, 1440);
-    refused(&hex("A1 05 00"), 2, 0);
-    refused(&hex("FF FF 00"), 2, 0);
-}
-
+/// "day length H in minutes (2 bytes, 1 to 1,440)"; `01 00 00` is document 01's (h).
 #[test]
 fn every_day_length() {
     for h in 0..=u16::MAX {
         let bytes = list(h, &[]);
         match h {
-            1..=1440 => assert_eq!(accepted(&bytes).h, h),
+            1..=1440 => assert_eq!(accepted(&bytes), Day { h, entries: vec![] }),
             _ => refused(&bytes, 2, 0),
         }
     }
@@ -74,7 +60,6 @@ fn the_header_comes_before_the_entries() {
 }
 
 #[test]
-fn bytes_after_an_empty_list_are_left_over() {
-    refused(&hex("01 00 00 | 11"), 8, 3);
+fn the_first_of_several_bytes_left_over_is_told() {
     refused(&hex("01 00 00 | 11 22 33"), 8, 3);
 }

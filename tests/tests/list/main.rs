@@ -5,7 +5,6 @@ mod entry_fields;
 mod examples;
 mod header;
 mod map_byte;
-mod round_trip;
 mod seals_and_serials;
 mod untouched;
 mod write_buffer;

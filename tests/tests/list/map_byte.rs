@@ -54,20 +54,6 @@ fn every_wrong_map_byte_with_enough_bytes_after_it() {
 }
 
 #[test]
-fn every_right_map_byte_alone_lacks_its_fields() {
-    for map in RIGHT {
-        refused(&[before_one(), vec![map]].concat(), 1, 4);
-        refused(&[before_two(), vec![map]].concat(), 1, 11);
-    }
-}
-
-#[test]
-fn a_missing_map_byte_is_1() {
-    refused(&before_one(), 1, 3);
-    refused(&before_two(), 1, 10);
-}
-
-#[test]
 fn every_right_map_byte_with_its_fields_is_accepted() {
     for map in RIGHT {
         let day = accepted(&[before_one(), entry(map)].concat());
@@ -80,6 +66,7 @@ fn every_right_map_byte_with_its_fields_is_accepted() {
     }
 }
 
+/// Cut anywhere in the entry, before its map byte too, bytes are missing; one byte more is left over.
 #[test]
 fn every_right_map_byte_decides_how_many_bytes_follow() {
     for (map, size) in RIGHT.into_iter().zip([7, 11, 9, 13, 9, 13, 11, 15].into_iter().cycle()) {

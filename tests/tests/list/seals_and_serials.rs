@@ -6,8 +6,10 @@ use dock_tests::{abi, flat};
 
 const VALUES: [u32; 10] = [0, 1, 255, 256, 65_535, 65_536, 0x0102_0304, 0x7FFF_FFFF, 0x8000_0000, u32::MAX];
 
-/// The seven numbers of a place, as the library reads them.
+/// The seven numbers of a place, as the library reads them from bytes that must be accepted.
+#[track_caller]
 fn numbers(bytes: &[u8], place: usize) -> [u32; flat::WIDTH] {
+    accepted(bytes);
     let (_, fields) = abi::read(bytes);
     std::array::from_fn(|i| fields[2 + flat::WIDTH * place + i])
 }
@@ -16,7 +18,6 @@ fn numbers(bytes: &[u8], place: usize) -> [u32; flat::WIDTH] {
 fn any_serial_is_kept() {
     for serial in VALUES {
         let bytes = list(10, &[Written { serial, ..SHORT }]);
-        assert_eq!(accepted(&bytes).entries[0].serial, serial);
         assert_eq!(numbers(&bytes, 0), [serial, 0, 0, 0, 10, 1, 0]);
     }
 }
@@ -25,7 +26,6 @@ fn any_serial_is_kept() {
 fn any_seal_is_kept() {
     for seal in VALUES {
         let bytes = list(10, &[Written { seal: Some(seal), ..SHORT }]);
-        assert_eq!(accepted(&bytes).entries[0].seal, Some(seal));
         assert_eq!(numbers(&bytes, 0), [9, 1, seal, 0, 10, 1, 0]);
     }
 }
@@ -34,7 +34,6 @@ fn any_seal_is_kept() {
 fn seal_0_is_not_a_missing_seal() {
     let with = list(10, &[Written { seal: Some(0), ..SHORT }]);
     let without = list(10, &[SHORT]);
-    assert_ne!(accepted(&with), accepted(&without));
     assert_eq!(numbers(&with, 0), [9, 1, 0, 0, 10, 1, 0]);
     assert_eq!(numbers(&without, 0), [9, 0, 0, 0, 10, 1, 0]);
 }
@@ -52,7 +51,6 @@ fn the_same_serial_twice_makes_two_entries() {
     let early = Written { d: Some(4), p: 2, ..SHORT };
     let late = Written { r: Some(5), p: 3, whole: true, seal: Some(1), ..SHORT };
     let bytes = list(10, &[early, late]);
-    assert_eq!(accepted(&bytes).entries.len(), 2);
     assert_eq!(numbers(&bytes, 0), [9, 0, 0, 0, 4, 2, 0]);
     assert_eq!(numbers(&bytes, 1), [9, 1, 1, 5, 10, 3, 1]);
 }

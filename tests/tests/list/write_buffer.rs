@@ -1,11 +1,11 @@
 //! The buffer that is lent to the writer: exactly long enough, too short, longer, empty.
 
-use dock_tests::check::{not_written, written};
+use dock_tests::check::{accepted, not_written, written};
 use dock_tests::day::Day;
-use dock_tests::{abi, flat, samples, writer};
+use dock_tests::{flat, samples, writer};
 
 fn lists() -> Vec<Day> {
-    let document = dock_tests::check::accepted(&samples::document());
+    let document = accepted(&samples::document());
     vec![Day { h: 1, entries: vec![] }, document, samples::every_shape(), samples::longest()]
 }
 
@@ -44,19 +44,4 @@ fn an_empty_list_needs_3_bytes() {
         not_written(&fields, room, 12, 3);
     }
     assert_eq!(written(&fields, 3), [2, 1, 0]);
-}
-
-#[test]
-fn the_longest_list_needs_963_bytes() {
-    let fields = flat::of_day(&samples::longest());
-    not_written(&fields, 0, 12, 963);
-    not_written(&fields, 962, 12, 963);
-    assert_eq!(written(&fields, 963).len(), 963);
-}
-
-#[test]
-fn a_buffer_that_is_too_short_keeps_its_bytes() {
-    let (answer, out) = abi::write(&flat::of_day(&samples::longest()), 962);
-    assert_eq!((answer.number, answer.values), (12, [963, 0, 0]));
-    assert_eq!(out, abi::untouched_bytes(962));
 }

@@ -1,9 +1,10 @@
 //! A list handed over as a value: 2, 3, then 6 and 7 for each entry by its place, and only then 12.
 
-use dock_tests::check::{not_written, number, write, written};
+use dock_tests::check::{accepted, not_written, number, write, written};
 use dock_tests::day::{Entry, MOST_ENTRIES};
+use dock_tests::random::{self, Random};
 use dock_tests::samples::{day, entry, hex, value};
-use dock_tests::values;
+use dock_tests::{flat, values};
 
 /// More room than any list needs.
 const ROOM: usize = 1000;
@@ -50,6 +51,16 @@ fn seal_and_kind_are_written_in_the_map_byte() {
     assert_eq!(written(&day(&[whole]), ROOM), hex("64 00 01 | 31 09000000 0300"));
     let both = Entry { whole: true, seal: Some(0x0807_0605), ..entry(0, 100, 3) };
     assert_eq!(written(&day(&[both]), ROOM), hex("64 00 01 | 33 09000000 05060708 0300"));
+}
+
+/// What is written reads back as the same list.
+#[test]
+fn five_thousand_lists_are_written_and_read_back() {
+    let mut random = Random::new(4);
+    for _ in 0..5_000 {
+        let day = random::any_day(&mut random);
+        assert_eq!(accepted(&written(&flat::of_day(&day), ROOM)), day);
+    }
 }
 
 #[test]

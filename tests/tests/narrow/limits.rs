@@ -132,13 +132,6 @@ fn the_last_of_sixty_four_places() {
     assert_eq!(no_place(&whole(windows(128, &entries), &[0])), 0);
 }
 
-#[test]
-fn sixty_five_entries_are_3() {
-    let mut fields = flat::of_day(&whole_windows(64, &[(0, 64, 1); MOST_ENTRIES]));
-    fields[1] = 65;
-    not_settled(&fields, 3, 0);
-}
-
 /// Example (a) with more entries, of more minutes: each round settles one, from the last place to the first.
 #[test]
 fn one_entry_in_each_round() {

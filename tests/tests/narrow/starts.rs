@@ -5,6 +5,7 @@ use dock_tests::check_narrow::{by_trying_everything, no_place, settled};
 use dock_tests::day::{Day, LONGEST_DAY};
 use dock_tests::random::Random;
 use dock_tests::samples::{boxes, whole, windows};
+use dock_tests::told::Told;
 use dock_tests::{abi, flat, small};
 
 /// A whole entry at place 0, r, d and p, among pause entries that fill their windows.
@@ -88,14 +89,14 @@ fn the_only_start_may_be_anywhere() {
 /// Every entry and every block of a day of 8 minutes.
 #[test]
 fn every_entry_beside_every_block() {
-    let mut seen = [0; 11];
+    assert_eq!(small::entries(8).len(), 120);
+    let mut told = Told::default();
     for (a, b) in (0..8).flat_map(|a| (a + 1..=8).map(move |b| (a, b))) {
         for entry in small::entries(8) {
-            seen[as_the_free_minutes_say(8, entry, &[(a, b)]) as usize] += 1;
+            told.count(as_the_free_minutes_say(8, entry, &[(a, b)]) as usize);
         }
     }
-    assert_eq!(seen.iter().sum::<usize>(), 36 * 120);
-    assert!([0, 9, 10].iter().all(|&number| seen[number] > 100), "{seen:?}");
+    told.more_than(100, &[0, 9, 10]);
 }
 
 /// Blocks one after the other, often with free minutes between them.
@@ -116,16 +117,16 @@ fn blocks(random: &mut Random, h: u16) -> Vec<(u16, u16)> {
 #[test]
 fn one_entry_among_many_blocks() {
     let mut random = Random::new(51);
-    let mut seen = [0; 11];
+    let mut told = Told::default();
     for _ in 0..3_000 {
         let h = random.within(10, 60);
         let blocks = blocks(&mut random, h);
         let r = random.within(0, h - 8);
         let d = random.within(r + 8, h);
         let p = random.within(1, 8);
-        seen[as_the_free_minutes_say(h, (r, d, p), &blocks) as usize] += 1;
+        told.count(as_the_free_minutes_say(h, (r, d, p), &blocks) as usize);
     }
-    assert!([0, 9, 10].iter().all(|&number| seen[number] > 50), "{seen:?}");
+    told.more_than(50, &[0, 9, 10]);
 }
 
 /// In the longest day, 63 blocks between runs of 21 free minutes and one of 22: this is where 22 minutes may

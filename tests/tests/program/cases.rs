@@ -1,9 +1,9 @@
 //! The cases in the folder tests/cases: the built program prints each case's report when it gets the list
-//! through a pipe, and so do the library and the second report.
+//! through a pipe, and the library stores it.
 
 use dock_tests::cases::{self, Case};
 use dock_tests::check_report::{number, stored};
-use dock_tests::report::{text, ENOUGH};
+use dock_tests::report::ENOUGH;
 use dock_tests::samples::{self, hex};
 use dock_tests::{program, writer};
 use std::collections::BTreeSet;
@@ -74,12 +74,5 @@ fn the_program_prints_the_report_of_each_case() {
 fn the_library_stores_the_report_of_each_case() {
     for Case { list, report, .. } in cases::all() {
         stored(&list, &report, ENOUGH);
-    }
-}
-
-#[test]
-fn the_second_report_is_that_of_each_case() {
-    for Case { name, list, report } in cases::all() {
-        assert_eq!(text(&list), report, "{name}");
     }
 }

@@ -10,10 +10,11 @@
 //! | 1,000 | inputs of more than 964 bytes: a full list, damaged or not, with bytes added |
 //! | 400 | full days, 64 entries and 1,440 minutes, each some hundredths of a second in the library |
 
-use dock_tests::check_report::{report, Told};
+use dock_tests::check_report::{number, report};
 use dock_tests::day::{Day, LONGEST_DAY, MOST_ENTRIES};
 use dock_tests::random::{self, Random};
 use dock_tests::report::{text, LONGEST_INPUT};
+use dock_tests::told::Told;
 use dock_tests::{samples, writer};
 
 /// Makes so many inputs, reports each of them with both programs, and counts what was told.
@@ -21,7 +22,7 @@ use dock_tests::{samples, writer};
 fn reports(inputs: usize, seed: u64, mut make: impl FnMut(&mut Random) -> Vec<u8>) -> Told {
     let mut random = Random::new(seed);
     let mut told = Told::default();
-    (0..inputs).for_each(|_| told.count(&report(&make(&mut random))));
+    (0..inputs).for_each(|_| told.count(number(&report(&make(&mut random)))));
     told
 }
 
