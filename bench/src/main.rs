@@ -9,8 +9,9 @@ mod plain;
 mod table;
 
 use days::FullDay;
-use dock_tests::abi;
-use dock_tests::flat::{self, Fields};
+use dock_tests::day::Day;
+use dock_tests::narrow::{self, Narrowed};
+use dock_tests::{abi, check, flat};
 use table::Row;
 
 fn main() {
@@ -18,7 +19,7 @@ fn main() {
     let mut rows = vec![];
     for FullDay { name: day, about, number, list } in days::all() {
         let fields = flat::of_day(&list);
-        let (answered, outcome) = outcome(&fields);
+        let (answered, outcome) = outcome(&list);
         assert_eq!(answered, number, "{day}");
         println!("\n{day}: {about}\n  {outcome}");
         for job in jobs::ALL.iter().filter(|job| job.is_for(&fields)) {
@@ -30,23 +31,24 @@ fn main() {
     println!("\n{}", table::worst(&rows));
 }
 
-/// The number that narrowing answers, and what it makes of a list, in words.
-fn outcome(fields: &Fields) -> (u64, String) {
-    let test = abi::overload(fields);
-    if test.number != 0 {
-        let [a, b, work] = test.values;
-        return (test.number, format!("refused, from {a} to {b} work {work}"));
+/// The number that narrowing answers, and what it makes of a list, in words. The rounds are those of the tests'
+/// second narrowing, and must come to what the library answers.
+fn outcome(list: &Day) -> (u64, String) {
+    let (answer, _) = abi::settle(&flat::of_day(list));
+    if answer.number == 9 {
+        let [a, b, work] = answer.values;
+        return (9, format!("refused, from {a} to {b} work {work}"));
     }
-    let mut windows = *fields;
-    let (mut rounds, mut moves) = (0, 0);
-    loop {
-        let given = windows;
-        let answer = abi::round_into(&given, &mut windows);
-        rounds += 1;
-        match (answer.number, answer.values[0]) {
-            (0, 0) => return (0, format!("settled, rounds {rounds}, moves {moves}")),
-            (0, more) => moves += more,
-            (number, place) => return (number, format!("refused, entry {place}, in round {rounds}")),
+    let rounds = narrow::rounds(list);
+    let words = match rounds.outcome_after(0) {
+        Ok(Narrowed { moves, .. }) => {
+            assert_eq!((answer.number, answer.values[0]), (0, moves));
+            format!("settled, rounds {}, moves {moves}", rounds.done.len())
         }
-    }
+        Err(refusal) => {
+            assert_eq!(answer, check::refusing(&refusal));
+            format!("refused, entry {}, in round {}", answer.values[0], rounds.done.len() + 1)
+        }
+    };
+    (answer.number, words)
 }

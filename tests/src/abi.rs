@@ -10,7 +10,6 @@ extern "C" {
     fn dock_overload(fields: *const Fields) -> Answer;
     fn dock_schedule(fields: *const Fields, plan: *mut u8, len: usize) -> Answer;
     fn dock_settle(fields: *const Fields, narrowed: *mut Fields) -> Answer;
-    fn dock_round(fields: *const Fields, narrowed: *mut Fields) -> Answer;
     fn dock_plan(
         fields: *const Fields,
         plan: *mut u8,
@@ -111,17 +110,6 @@ pub fn settle(fields: &Fields) -> (Answer, Fields) {
 pub fn settle_into(fields: &Fields, narrowed: &mut Fields) -> Answer {
     // SAFETY: the library reads one array and writes another, both of them lent here.
     unsafe { dock_settle(fields, narrowed) }
-}
-
-/// Narrows a list's windows by one round through the library.
-pub fn round(fields: &Fields) -> (Answer, Fields) {
-    lending_fields(|narrowed| round_into(fields, narrowed))
-}
-
-/// Narrows a list's windows by one round through the library into these fields, whatever they hold.
-pub fn round_into(fields: &Fields, narrowed: &mut Fields) -> Answer {
-    // SAFETY: the library reads one array and writes another, both of them lent here.
-    unsafe { dock_round(fields, narrowed) }
 }
 
 /// The least ends of 64 places, then their greatest starts.

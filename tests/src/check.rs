@@ -4,6 +4,7 @@ use crate::abi::{self, Answer};
 use crate::day::{Day, Interval, Refusal};
 use crate::flat::{self, Fields};
 use crate::{brute, planner, reader, writer};
+use std::fmt::Debug;
 
 /// The answer of a call that succeeds and has nothing to count.
 const ACCEPTED: Answer = Answer { number: 0, values: [0; 3] };
@@ -44,11 +45,17 @@ pub fn accepted(bytes: &[u8]) -> Day {
     read(bytes).unwrap_or_else(|refusal| panic!("{refusal:?} of {bytes:02X?}"))
 }
 
+/// The answer must be a refusal with this number, carrying this value.
+#[track_caller]
+pub fn is_refused<T: Debug>(answer: Result<T, Refusal>, number: u32, carries: usize) {
+    let refusal = answer.expect_err("must be refused");
+    assert_eq!(refusal.code(), (number, [carries as u64, 0, 0]));
+}
+
 /// Reads an input that must be refused with this number, carrying this value.
 #[track_caller]
 pub fn refused(bytes: &[u8], number: u32, carries: usize) {
-    let refusal = read(bytes).expect_err("must be refused");
-    assert_eq!(refusal.code(), (number, [carries as u64, 0, 0]), "refusal of {bytes:02X?}");
+    is_refused(read(bytes), number, carries);
 }
 
 /// Writes with both programs into `room` bytes. Answer and bytes must be alike: the form at the start, and
@@ -79,8 +86,7 @@ pub fn written(fields: &Fields, room: usize) -> Vec<u8> {
 /// Writes a value that must be refused with this number, carrying this value.
 #[track_caller]
 pub fn not_written(fields: &Fields, room: usize, number: u32, carries: usize) {
-    let refusal = write(fields, room).expect_err("must not be written");
-    assert_eq!(refusal.code(), (number, [carries as u64, 0, 0]));
+    is_refused(write(fields, room), number, carries);
 }
 
 /// Tests a value for overload with both programs. The answers must be alike.
@@ -139,13 +145,11 @@ pub fn overloaded(day: &Day) -> Interval {
 /// Plans a value into `room` bytes that must be refused with this number, carrying this value.
 #[track_caller]
 pub fn not_planned(fields: &Fields, room: usize, number: u32, carries: usize) {
-    let refusal = schedule(fields, room).expect_err("must not be planned");
-    assert_eq!(refusal.code(), (number, [carries as u64, 0, 0]));
+    is_refused(schedule(fields, room), number, carries);
 }
 
 /// Tests a value for overload that must be refused with this number, carrying this value.
 #[track_caller]
 pub fn test_refused(fields: &Fields, number: u32, carries: usize) {
-    let refusal = overload(fields).expect_err("must be refused");
-    assert_eq!(refusal.code(), (number, [carries as u64, 0, 0]));
+    is_refused(overload(fields), number, carries);
 }

@@ -1,10 +1,10 @@
 //! Holds the static library's narrowing against the second one, and on small days against trying everything.
 
 use crate::abi::{self, Answer};
-use crate::check::refusing;
+use crate::check::{is_refused, refusing};
 use crate::day::{Day, Refusal};
 use crate::flat::{self, Fields};
-use crate::narrow::{self, Narrowed};
+use crate::narrow::{self, Narrowed, Rounds};
 use crate::settled::{self, Plans, Windows};
 use crate::{overload, samples};
 
@@ -33,85 +33,52 @@ pub fn settle(fields: &Fields) -> Result<Narrowed, Refusal> {
     expected
 }
 
-/// Narrows a value's windows by one round with both programs. Answer and fields must be alike.
-#[track_caller]
-pub fn round(fields: &Fields) -> Result<Narrowed, Refusal> {
-    let expected = narrow::round(&flat::value(fields));
-    alike(fields, abi::round(fields), wanted(&expected));
-    expected
-}
-
-/// Settles a list that must be settled, and gives its settled windows and the moves. Rounds, each by a call
-/// of its own, must come to the same, and settled windows must stay as they are.
+/// Settles a list that must be settled, and gives its settled windows and the moves.
 #[track_caller]
 pub fn settled(day: &Day) -> (Day, u64) {
-    let fields = flat::of_day(day);
-    let narrowed = settle(&fields).unwrap_or_else(|refusal| panic!("{refusal:?} of {day:?}"));
-    settled_by_rounds(&fields);
-    let again = Narrowed { day: narrowed.day.clone(), moves: 0 };
-    assert_eq!(settle(&flat::of_day(&narrowed.day)), Ok(again), "settled once more");
-    (narrowed.day, narrowed.moves)
+    match rounds(day).outcome_after(0) {
+        Ok(Narrowed { day, moves }) => (day, moves),
+        Err(refusal) => panic!("{refusal:?} of {day:?}"),
+    }
 }
 
-/// Settles a list that must be refused with 10, and gives the place that it carries. Rounds, each by a call
-/// of its own, must be refused alike.
+/// Settles a list that must be refused with 10, and gives the place that it carries.
 #[track_caller]
 pub fn no_place(day: &Day) -> usize {
-    let fields = flat::of_day(day);
-    let refusal = settle(&fields).expect_err("must be refused");
-    settled_by_rounds(&fields);
-    match refusal {
-        Refusal::NoPlace { place } => place,
-        _ => panic!("{refusal:?} of {day:?}"),
+    match rounds(day).refusal {
+        Some(Refusal::NoPlace { place }) => place,
+        refusal => panic!("{refusal:?} of {day:?}"),
     }
 }
 
 /// Settles a value that must be refused with this number, carrying this value.
 #[track_caller]
 pub fn not_settled(fields: &Fields, number: u32, carries: usize) {
-    let refusal = settle(fields).expect_err("must not be settled");
-    assert_eq!(refusal.code(), (number, [carries as u64, 0, 0]));
+    is_refused(settle(fields), number, carries);
 }
 
-/// Narrows a value by one round that must be refused with this number, carrying this value.
+/// Settles a list that is not overloaded with the library, from its windows as given and from those that each
+/// round with moves leaves, and gives the rounds of the second narrowing. From each of these windows the
+/// library must make the moves of the rounds that are still to come and give the last windows, or the same
+/// refusal.
 #[track_caller]
-pub fn round_refused(fields: &Fields, number: u32, carries: usize) {
-    let refusal = round(fields).expect_err("must be refused");
-    assert_eq!(refusal.code(), (number, [carries as u64, 0, 0]));
-}
-
-/// Makes rounds with the library, each by a call of its own from the windows that the last one left, to one
-/// without moves or to a refusal, and gives the windows that each left with its moves. Settling must give the
-/// last windows and all moves, or this refusal.
-#[track_caller]
-pub fn settled_by_rounds(fields: &Fields) -> Vec<(Fields, u64)> {
-    let mut rounds: Vec<(Fields, u64)> = vec![];
-    let mut last = abi::round(fields);
-    while last.0.number == 0 {
-        let (windows, moves) = (last.1, last.0.values[0]);
-        rounds.push((windows, moves));
-        if moves == 0 {
-            last.0.values[0] = rounds.iter().map(|round| round.1).sum();
-            break;
-        }
-        last = abi::round(&windows);
-        assert!(last.1 != windows || last.0.values[0] == 0, "moves without a change of {:?}", &windows[..]);
+pub fn rounds(day: &Day) -> Rounds {
+    let rounds = narrow::rounds(day);
+    let moving = rounds.done.iter().filter(|round| round.moves > 0).map(|round| &round.day);
+    for (made, windows) in [day].into_iter().chain(moving).enumerate() {
+        let fields = flat::of_day(windows);
+        alike(&fields, abi::settle(&fields), wanted(&rounds.outcome_after(made)));
     }
-    alike(fields, abi::settle(fields), last);
     rounds
 }
 
-/// Rounds of the library, each by a call of its own, leave these windows, in short, with these moves: all
-/// rounds up to the one without moves, or all before a refusal.
+/// The rounds of a list leave these windows, in short, with these moves: all rounds up to the one without
+/// moves, or all before a refusal.
 #[track_caller]
 pub fn rounds_leave(day: &Day, wanted: &[(&str, u64)]) {
-    let rounds = settled_by_rounds(&flat::of_day(day));
-    assert_eq!(rounds.len(), wanted.len(), "number of rounds of {day:?}");
-    for (number, (found, wanted)) in (1..).zip(rounds.iter().zip(wanted)) {
-        let day = samples::boxes(day.h, wanted.0);
-        assert_eq!(found.1, wanted.1, "moves of round {number}");
-        assert!(found.0 == flat::of_day(&day), "round {number} leaves {:?}, not {}", &found.0[..], wanted.0);
-    }
+    let wanted =
+        wanted.iter().map(|&(windows, moves)| Narrowed { day: samples::boxes(day.h, windows), moves });
+    assert_eq!(rounds(day).done, Vec::from_iter(wanted), "rounds of {day:?}");
 }
 
 /// Settles a small day with the library, and holds the answer against all its plans, all sets of windows

@@ -36,27 +36,3 @@ pub fn number(text: &str) -> usize {
     let refused = text.strip_prefix("refused ");
     refused.map_or(0, |rest| rest.split(' ').next().and_then(|word| word.parse().ok()).expect("a number"))
 }
-
-/// How often each number was told.
-#[derive(Debug, Default)]
-pub struct Told([usize; 11]);
-
-impl Told {
-    pub fn count(&mut self, text: &str) {
-        self.0[number(text)] += 1;
-    }
-
-    /// Each of these numbers was told at least so often.
-    #[track_caller]
-    pub fn at_least(&self, bounds: &[(usize, usize)]) {
-        for &(number, times) in bounds {
-            assert!(self.0[number] >= times, "{number} less than {times} times: {self:?}");
-        }
-    }
-
-    /// None of these numbers was told.
-    #[track_caller]
-    pub fn never(&self, numbers: &[usize]) {
-        assert!(numbers.iter().all(|&number| self.0[number] == 0), "one of {numbers:?}: {self:?}");
-    }
-}

@@ -1,7 +1,7 @@
-//! What the tests of the dock planner stand on. The names of the tests begin with the layer that they test:
-//! `read_` and `write_` (the list), `jackson_` (overload test and schedule of the windows as given),
-//! `narrow_`, `bounds_` (the calls that plan), `report_` (the report's text) and `program_` (the built
-//! program); `traps`, `sample_days` and `documents` are for themselves.
+//! What the tests of the dock planner stand on. The tests are a program for each layer: `list` (reading and
+//! writing), `jackson` (overload test and schedule of the windows as given), `narrow`, `bounds` (the calls that
+//! plan), `report` (the report's text), `program` (the built program); and `documents` for the pages and
+//! document 01's traps.
 
 // What is tested.
 pub mod abi; // the calls of the static library
@@ -37,4 +37,5 @@ pub mod chains; // days that need many rounds
 pub mod ignored; // values that differ in what no call looks at
 pub mod random; // lists, damaged inputs and values, fixed by their seeds
 pub mod samples; // lists that several tests share, and short forms to write others down
+pub mod told; // how often each number was answered
 pub mod values; // values that every call refuses or accepts

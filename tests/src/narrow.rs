@@ -22,24 +22,28 @@ pub enum Side {
 /// What settling makes of a value: "First the given windows are tested for overload. Then rounds follow."
 pub fn settle(value: &Value) -> Result<Narrowed, Refusal> {
     planner::overload(value)?;
-    let Rounds { mut done, refusal } = rounds(&writer::checked(value)?);
-    if let Some(refusal) = refusal {
-        return Err(refusal);
-    }
-    let moves = done.iter().map(|round| round.moves).sum();
-    let last = done.pop().expect("a last round");
-    Ok(Narrowed { day: last.day, moves })
-}
-
-/// What one round makes of a value: the given windows are not tested for overload.
-pub fn round(value: &Value) -> Result<Narrowed, Refusal> {
-    one_round(&writer::checked(value)?)
+    rounds(&writer::checked(value)?).outcome_after(0)
 }
 
 /// Rounds, each with the windows that it left and its own moves, and the refusal that ended them, if one did.
 pub struct Rounds {
     pub done: Vec<Narrowed>,
     pub refusal: Option<Refusal>,
+}
+
+impl Rounds {
+    /// The last windows with the moves of all rounds but the first ones, so many of which are left out; or
+    /// the refusal.
+    pub fn outcome_after(&self, first: usize) -> Result<Narrowed, Refusal> {
+        self.refusal.map_or(Ok(()), Err)?;
+        let last = self.done.last().expect("a last round");
+        Ok(Narrowed { day: last.day.clone(), moves: self.moves()[first..].iter().sum() })
+    }
+
+    /// The moves of each round.
+    pub fn moves(&self) -> Vec<u64> {
+        self.done.iter().map(|round| round.moves).collect()
+    }
 }
 
 /// The rounds from these windows on. "A round without moves is the last".

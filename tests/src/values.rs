@@ -6,6 +6,7 @@ use crate::day::MOST_ENTRIES;
 use crate::flat::{self, Fields, SIZE, WIDTH};
 use crate::random::{self, Random};
 use crate::samples::boxes;
+use crate::told::Told;
 use std::panic::{self, AssertUnwindSafe};
 
 /// Holds a call against the values that it must refuse: `check` gets each of them with the number and the
@@ -170,6 +171,7 @@ fn large_sum(refused: Refused) {
         refused(day(&[[r, 100, p]]), 7, 0);
         refused(day(&[[0, 100, 1], [r, 100, p]]), 7, 1);
     }
+    refused(day(&[[65_535, 65_535, 65_535]]), 7, 0);
 }
 
 /// An empty window makes no interval and would pass the overload test, and no start could be tried in it. It
@@ -218,27 +220,13 @@ pub fn wrong() -> [(u64, Fields); 6] {
     })
 }
 
-/// How often each number was answered, 0 for a success.
-#[derive(Debug)]
-pub struct Seen([usize; 14]);
-
 /// Asks a call for the number that it answers to so many values that may break any row.
-pub fn wild(seed: u64, times: usize, mut call: impl FnMut(&mut Random, &Fields) -> usize) -> Seen {
+pub fn wild(seed: u64, times: usize, mut call: impl FnMut(&mut Random, &Fields) -> usize) -> Told {
     let mut random = Random::new(seed);
-    let mut seen = Seen([0; 14]);
+    let mut told = Told::default();
     for _ in 0..times {
         let fields = random::wild_fields(&mut random);
-        seen.0[call(&mut random, &fields)] += 1;
+        told.count(call(&mut random, &fields));
     }
-    seen
-}
-
-impl Seen {
-    /// Each of these numbers was answered more than `times`.
-    #[track_caller]
-    pub fn more_than(&self, times: usize, numbers: &[usize]) {
-        for &number in numbers {
-            assert!(self.0[number] > times, "too few of an answer: {self:?}");
-        }
-    }
+    told
 }

@@ -1,0 +1,11 @@
+//! The calls that plan a list in its settled windows: its plan and bounds, and the early and late plan of a place.
+
+mod all_small_days;
+mod buffers;
+mod examples;
+mod full_days;
+mod ignored;
+mod limits;
+mod places;
+mod random_days;
+mod value;

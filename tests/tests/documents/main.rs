@@ -1,0 +1,4 @@
+//! What the documents say: the pages of this repository, and document 01's traps.
+
+mod pages;
+mod traps;

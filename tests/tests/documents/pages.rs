@@ -1,0 +1,100 @@
+//! The links of the pages, README and those under docs/ and samples/, lead to files; the name that stands before
+//! a link to a Rattle file is declared there; and the report that README shows is the sample's.
+
+use dock_tests::cases::{names, root};
+use std::fs;
+use std::path::{Path, PathBuf};
+
+/// A link to a file of the repository, and the name in backquotes right before it, if there is one.
+struct Link {
+    page: String,
+    name: Option<String>,
+    file: PathBuf,
+}
+
+fn pages() -> Vec<String> {
+    let docs = names(&root().join("docs"), "md").into_iter().map(|name| format!("docs/{name}.md"));
+    ["README.md", "samples/README.md"].map(String::from).into_iter().chain(docs).collect()
+}
+
+fn text_of(file: &Path) -> String {
+    fs::read_to_string(file).unwrap_or_else(|error| panic!("{}: {error}", file.display()))
+}
+
+fn links() -> Vec<Link> {
+    pages().iter().flat_map(|page| links_of(page)).collect()
+}
+
+fn links_of(page: &str) -> Vec<Link> {
+    let text = text_of(&root().join(page));
+    let folder = root().join(page).parent().expect("a page stands in a folder").to_path_buf();
+    text.match_indices("](")
+        .map(|(at, _)| {
+            let target = text[at + 2..].split(')').next().expect("a link must end");
+            let (file, part) = target.split_once('#').unwrap_or((target, ""));
+            let line = part.strip_prefix('L').is_some_and(|line| line.parse::<usize>().is_ok());
+            assert!(!line, "{page}: {target} names a line, which moves");
+            let start = text[..at].rfind('[').expect("a link must start");
+            Link { page: page.to_string(), name: name_before(&text[..start]), file: folder.join(file) }
+        })
+        .collect()
+}
+
+/// The name in backquotes that ends a text: a link follows after white space, a comma or a bracket.
+fn name_before(text: &str) -> Option<String> {
+    let quoted = text.trim_end_matches(|c: char| c.is_whitespace() || "(,".contains(c)).strip_suffix('`')?;
+    quoted.rsplit(['`', ':']).next().map(String::from)
+}
+
+/// The name that a line of a Rattle or antt file declares.
+fn declared(line: &str) -> Option<&str> {
+    const MARKS: [&str; 12] = [
+        "pub",
+        "crate",
+        "unfoldable",
+        "abbrev",
+        "extern",
+        "\"C\"",
+        "fn",
+        "struct",
+        "enum",
+        "const",
+        "record",
+        "data",
+    ];
+    let mut words =
+        line.split(|c: char| c.is_whitespace() || "():;{<".contains(c)).filter(|word| !word.is_empty());
+    words.next().filter(|word| MARKS.contains(word))?;
+    words.find(|word| !MARKS.contains(word))
+}
+
+#[test]
+fn every_link_leads_to_a_file() {
+    let links = links();
+    assert!(links.len() > 100, "{} links", links.len());
+    for link in links {
+        assert!(link.file.exists(), "{}: {}", link.page, link.file.display());
+    }
+}
+
+#[test]
+fn a_file_that_is_linked_declares_the_name_before_the_link() {
+    let mut found = 0;
+    for Link { page, name, file } in links() {
+        let Some(name) = name else { continue };
+        if !file.extension().is_some_and(|ending| ending == "rt" || ending == "antt") {
+            continue;
+        }
+        let declares = text_of(&file).lines().any(|line| declared(line) == Some(&name));
+        assert!(declares, "{page}: {} does not declare {name}", file.display());
+        found += 1;
+    }
+    assert!(found > 70, "{found} names");
+}
+
+#[test]
+fn the_report_that_readme_shows_is_the_samples() {
+    let report = text_of(&root().join("samples/morning.report"));
+    let readme = text_of(&root().join("README.md"));
+    assert!(readme.contains(&format!("```\n{report}```\n")), "README must show samples/morning.report");
+}

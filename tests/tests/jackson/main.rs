@@ -1,0 +1,12 @@
+//! The windows as they are given: the overload test and Jackson's schedule.
+
+mod all_small_days;
+mod buffer;
+mod examples;
+mod ignored;
+mod limits;
+mod overload_interval;
+mod random_days;
+mod serials;
+mod ties;
+mod value;

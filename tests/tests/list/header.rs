@@ -1,0 +1,65 @@
+//! The header: its length, the day's length H, the number of entries n, in this order.
+
+use dock_tests::check::{accepted, refused};
+use dock_tests::day::Day;
+use dock_tests::samples::{hex, list, SHORT};
+
+#[test]
+fn a_short_header_comes_before_a_wrong_day() {
+    refused(&hex("00"), 1, 1);
+    refused(&hex("00 00"), 1, 2);
+    refused(&hex("FF FF"), 1, 2);
+}
+
+/// "day length H in minutes (2 bytes, 1 to 1,440)"; `01 00 00` is document 01's (h).
+#[test]
+fn every_day_length() {
+    for h in 0..=u16::MAX {
+        let bytes = list(h, &[]);
+        match h {
+            1..=1440 => assert_eq!(accepted(&bytes), Day { h, entries: vec![] }),
+            _ => refused(&bytes, 2, 0),
+        }
+    }
+}
+
+#[test]
+fn every_number_of_entries_before_an_input_that_ends() {
+    for n in 0..=u8::MAX {
+        let bytes = [100, 0, n];
+        match n {
+            0 => assert!(accepted(&bytes).entries.is_empty()),
+            1..=64 => refused(&bytes, 1, 3),
+            _ => refused(&bytes, 3, 2),
+        }
+    }
+}
+
+#[test]
+fn every_number_of_entries_with_as_many_entries() {
+    for n in 0..=u8::MAX {
+        let bytes = list(100, &vec![SHORT; usize::from(n)]);
+        match n {
+            0..=64 => assert_eq!(accepted(&bytes).entries.len(), usize::from(n)),
+            _ => refused(&bytes, 3, 2),
+        }
+    }
+}
+
+#[test]
+fn a_wrong_day_comes_before_too_many_entries() {
+    refused(&hex("00 00 41"), 2, 0);
+    refused(&hex("A1 05 FF"), 2, 0);
+    refused(&hex("A0 05 41"), 3, 2);
+}
+
+#[test]
+fn the_header_comes_before_the_entries() {
+    refused(&hex("00 00 01 | 00"), 2, 0);
+    refused(&hex("01 00 41 | 00"), 3, 2);
+}
+
+#[test]
+fn the_first_of_several_bytes_left_over_is_told() {
+    refused(&hex("01 00 00 | 11 22 33"), 8, 3);
+}

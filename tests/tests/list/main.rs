@@ -1,0 +1,12 @@
+//! The day's list: reading its bytes and writing its one form.
+
+mod damaged_bytes;
+mod entry_fields;
+mod examples;
+mod header;
+mod map_byte;
+mod seals_and_serials;
+mod untouched;
+mod write_buffer;
+mod write_ignored;
+mod write_value;
