@@ -20,12 +20,14 @@ use Rattle.jackson.proofs.Listed.{list-is, list-same, list-at, list-length}
 use Rattle.narrow.specs.Searching.{accepts, withD}
 use Rattle.narrow.specs.Laws.{Formed}
 use Rattle.narrow.specs.Calls.{isWhole, wholeIn}
+use Rattle.narrow.specs.Parts.{Searchable}
 use Rattle.narrow.proofs.OverloadPlanner.{overload-planner}
 use Rattle.narrow.proofs.MirrorSearches.{formed-mirror}
 use Rattle.bounds.specs.Ends.{leastEnd, greatestStart}
-use Rattle.bounds.specs.Calls.{byPlace}
-use Rattle.narrow.specs.Parts.{Searchable}
+use Rattle.bounds.specs.Calls.{byPlace, boundOf}
 use Rattle.bounds.specs.Parts.{HoldsFormed}
+use Rattle.bounds.specs.declared.shown.Shown.{Shown}
+use Rattle.bounds.specs.declared.shown.Shown.the-variants.{Early, Late}
 use Rattle.bounds.proofs.EndSearches.{deadline-mono, least-end-whole, least-end-found, least-end-range}
 use Rattle.bounds.proofs.MirrorEnds.{start-by-mirror}
 
@@ -90,7 +92,8 @@ module _ (w : Windows) (formed : Formed w) (k : ℕ) (place : k < w .n) where
             go false q = refl
             go true q = sym (deadline-mono w formed k place overload-planner e middle room less due q) ∙ no-plan
 
-  pub halve-done : (whole : Bool) → whole ≡ false → (low high : ℕ) → Halved w k low high → high ≤ low → low ≡ leastEnd overloadOf (λ _. whole) w k
+  pub halve-done : (whole : Bool) → whole ≡ false → (low high : ℕ) → Halved w k low high → high ≤ low
+      → low ≡ leastEnd overloadOf (λ _. whole) w k
   halve-done whole is low high so end =
       let z : high ≡ low = omega (arith, so .order) in
       sym
@@ -105,10 +108,12 @@ module _ (w : Windows) (formed : Formed w) (k : ℕ) (place : k < w .n) where
 pub whole-end : (whole : Bool) (w : Windows) (k : ℕ) → whole ≡ true → w .r k + w .p k ≡ leastEnd overloadOf (λ _. whole) w k
 whole-end whole w k is = sym (least-end-whole overloadOf (λ _. whole) w k is)
 
--- the least end depends on the kind of its own entry alone
-pub least-end-kind : (whole : ℕ → Bool) (b : Bool) (w : Windows) (k : ℕ) → b ≡ whole k → leastEnd overloadOf (λ _. b) w k ≡ leastEnd overloadOf whole w k
-unfolding leastEnd
-least-end-kind whole b w k e = rw e
+-- a bound depends on the kind of its own entry alone
+pub bound-kind : (x : Shown) (whole : ℕ → Bool) (b : Bool) (w : Windows) (k : ℕ) → b ≡ whole k
+    → boundOf x (λ _. b) k w ≡ boundOf x whole k w
+unfolding leastEnd greatestStart
+bound-kind Early whole b w k e = rw e
+bound-kind Late whole b w k e = rw e
 
 -- numbers by place: the first i are stored
 module _ (f : ℕ → ℕ) where
@@ -174,7 +179,10 @@ module _ (l : DayList) (s : WindowSet) (has : HoldsFormed l s) where
   module _ (t : WindowSet) (turned : MirrorOf s t) where
     pub formed-in-mirror : HoldsFormed l t
     formed-in-mirror =
-        record { formed = rw (turned .windows) (formed-mirror (windowsIn s) (has .formed)); count = ap (λ (x : ℕ). min x 64) (turned .n) ∙ has .count }
+        record {
+          formed = rw (turned .windows) (formed-mirror (windowsIn s) (has .formed));
+          count = ap (λ (x : ℕ). min x 64) (turned .n) ∙ has .count;
+        }
 
     -- the mirrors of the least ends in the mirror
     module _ (ends : List ℕ) (are : ends ≡ byPlace (l .n) (leastEnd overloadOf (wholeIn l) (windowsIn t))) where
@@ -188,9 +196,11 @@ module _ (l : DayList) (s : WindowSet) (has : HoldsFormed l s) where
       mirror-end-in-day i h =
           let formed = formed-mirror (windowsIn s) (has .formed) in
           let place = searchable-at i h .place in
-          omega (arith, mirror-end i h, least-end-range overloadOf (wholeIn l) (mirror (windowsIn s)) formed i place .1, formed .in-day i place)
+          let due = least-end-range overloadOf (wholeIn l) (mirror (windowsIn s)) formed i place .1 in
+          omega (arith, mirror-end i h, due, formed .in-day i place)
 
-      pub starts-by-mirror : byPlace (l .n) (λ i. s .h - getD ends i 0) ≡ byPlace (l .n) (greatestStart overloadOf (wholeIn l) (windowsIn s))
+      pub starts-by-mirror : byPlace (l .n) (λ i. s .h - getD ends i 0)
+          ≡ byPlace (l .n) (greatestStart overloadOf (wholeIn l) (windowsIn s))
       starts-by-mirror =
           by-place-same (l .n) _ _
           (λ i h.

@@ -8,44 +8,107 @@ use native.Mathlib.Omega.{arith}
 use borrow.Author.Tests.{eq-eqb, ne-eqb, lt-ltb, le-ltb, le-leb, lt-leb}
 use lib.Dec.{eqb, leb, ltb}
 use lib.ListN.{length, getD, set, take, drop, length-set, take-append-drop, List·getD-append}
-use lib.Seq.{getD-set-same, getD-set-other, getD-take, length-take-le, length-front, set-append-left}
+use lib.Seq.{getD-set-same, getD-set-other, getD-take, length-take-le, length-front, set-append-left, drop-at}
 use Rattle.list.specs.declared.types.Verdict.{Verdict}
 use Rattle.jackson.specs.Counting.{listOf}
-use Rattle.jackson.specs.Windows.{Windows}
+use Rattle.jackson.specs.Windows.{Windows, windowsIn}
 use Rattle.jackson.specs.Plans.{idle, placesIn}
-use Rattle.jackson.specs.Mirrors.{mirrorBytes}
+use Rattle.jackson.specs.Mirrors.{mirror, mirrorBytes, MirrorOf}
 use Rattle.jackson.specs.Intervals.{overloadOf}
 use Rattle.jackson.specs.Minutes.{schedule}
 use Rattle.jackson.specs.Planning.{FillsWindows}
+use Rattle.jackson.specs.declared.types.WindowSet.{WindowSet}
 use Rattle.jackson.proofs.Sums.{le-or-lt, same-cases}
 use Rattle.jackson.proofs.Listed.{list-is, list-same, list-at, list-length}
 use Rattle.narrow.specs.Searching.{withD}
-use Rattle.bounds.specs.Ends.{leastEnd}
-use Rattle.bounds.specs.Parts.{StoresEarly}
+use Rattle.narrow.specs.Laws.{Formed}
+use Rattle.narrow.specs.Parts.{Searchable}
+use Rattle.narrow.proofs.OverloadPlanner.{overload-planner}
+use Rattle.narrow.proofs.MirrorSearches.{formed-mirror}
+use Rattle.bounds.specs.Ends.{leastEnd, greatestStart}
+use Rattle.bounds.specs.ShownPlans.{earlyPlan, latePlan}
+use Rattle.bounds.specs.Calls.{lateOf, shownPlan}
+use Rattle.bounds.specs.Parts.{Stores}
+use Rattle.bounds.specs.declared.shown.Shown.{Shown}
+use Rattle.bounds.specs.declared.shown.Shown.the-variants.{Early, Late}
+use Rattle.bounds.proofs.EndCases.{bound-kind}
+use Rattle.bounds.proofs.EndSearches.{least-end-range}
+use Rattle.bounds.proofs.MirrorEnds.{start-by-mirror, late-by-mirror}
 
 -- a buffer in which a plan of h bytes was stored is as long as before
 pub stored-long : (h : ℕ) (xs old new : List ℕ) → new ≡ xs ++ drop h old → length xs ≡ h → h ≤ length old → length new ≡ length old
 stored-long h xs old new e long room = rw e (length-front old xs h (long ∙ sym (length-take-le h old room)))
+
+-- a schedule has a byte for each minute
+pub schedule-long : (w : Windows) → length (schedule w) ≡ w .h
+unfolding schedule
+schedule-long w = list-length (w .h) _
+
+-- and so has a shown plan
+pub shown-long : (x : Shown) (whole : ℕ → Bool) (k : ℕ) (w : Windows) → length (shownPlan x whole k w) ≡ w .h
+shown-long Early whole k w = schedule-long _
+shown-long Late whole k w = list-length (w .h) _
+
+-- a plan depends on the kind of its own entry alone
+pub plan-kind : (x : Shown) (whole : ℕ → Bool) (b : Bool) (w : Windows) (k : ℕ) → b ≡ whole k
+    → shownPlan x (λ _. b) k w ≡ shownPlan x whole k w
+plan-kind Early whole b w k e = ap (earlyPlan w k) (bound-kind Early whole b w k e)
+plan-kind Late whole b w k e = ap (latePlan w k) (bound-kind Late whole b w k e)
 
 -- a plan buffer that is long enough holds the schedule
 pub filled-with : (w : Windows) (old : List ℕ) (v : Verdict) (new : List ℕ) → FillsWindows w old v new → w .h ≤ length old
     → new ≡ schedule w ++ drop (w .h) old
 filled-with w old v new fills room = rw (le-ltb (length old) (w .h) room) at (fills .buffer)
 
--- of the windows with k's d set to its least end
+-- the early plan: the schedule of the windows u with k's d set to its least end
 pub stored-early : (whole : ℕ → Bool) (w u : Windows) (k e : ℕ) (old : List ℕ) (v : Verdict) (new : List ℕ) → u ≡ withD w k e
-    → FillsWindows u old v new → w .h ≤ length old → e ≡ leastEnd overloadOf whole w k → StoresEarly whole w k old e new
+    → FillsWindows u old v new → w .h ≤ length old → e ≡ leastEnd overloadOf whole w k → Stores Early whole w k old e new
 stored-early whole w u k e old v new same fills room bound =
     record { bound = bound; buffer = rw (← bound) (filled-with (withD w k e) old v new (rw same at fills) room) }
 
 -- the mirror looks at the plan's own bytes alone
-pub mirror-front : (h : ℕ) (xs ys : List ℕ) → length xs ≡ h → mirrorBytes h (xs ++ ys) ≡ mirrorBytes h xs
+mirror-front : (h : ℕ) (xs ys : List ℕ) → length xs ≡ h → mirrorBytes h (xs ++ ys) ≡ mirrorBytes h xs
 mirror-front h xs ys long = list-same h _ _ (λ t below. List·getD-append xs ys idle (h - suc t) (rw long (omega arith)))
 
--- a schedule has a byte for each minute
-pub schedule-long : (w : Windows) → length (schedule w) ≡ w .h
-unfolding schedule
-schedule-long w = list-length (w .h) _
+-- arrays with the mirrored windows can be searched too
+pub searchable-mirror : {s t : WindowSet} {k : ℕ} → Searchable s k → MirrorOf s t → Searchable t k
+searchable-mirror {s} can turned =
+    record {
+      formed = rw (turned .windows) (formed-mirror (windowsIn s) (can .formed));
+      place = omega (arith, turned .n, can .place);
+    }
+
+-- the late plan: the mirror of the early plan one in the mirrored windows u, whose end is e
+module _ {whole : ℕ → Bool} {w u : Windows} (formed : Formed w) {k : ℕ} (place : k < w .n) (turned : u ≡ mirror w)
+    {old : List ℕ} {e : ℕ} {one : List ℕ} (stores : Stores Early whole u k old e one) where
+  end-is : e ≡ leastEnd overloadOf whole (mirror w) k
+  end-is = rw turned at (stores .bound)
+
+  pub end-in-day : e ≤ w .h
+  end-in-day =
+      let there = formed-mirror w formed in
+      omega (arith, end-is, least-end-range overloadOf whole (mirror w) there k place .1, there .in-day k place)
+
+  pub stored-late : (new : List ℕ) → new ≡ mirrorBytes (w .h) one ++ drop (w .h) one → Stores Late whole w k old (w .h - e) new
+  stored-late new q =
+      record { bound = start-is; buffer = q ∙ rw (one-is, front, rest) (ap (λ (xs : List ℕ). xs ++ drop (w .h) old) plan-is) }
+    where
+      start-is : w .h - e ≡ greatestStart overloadOf whole w k
+      start-is = rw end-is (sym (start-by-mirror overload-planner w formed k place whole))
+
+      plan-is : mirrorBytes (w .h) (earlyPlan (mirror w) k e) ≡ lateOf whole k w
+      plan-is = sym (late-by-mirror w k place e end-in-day) ∙ ap (latePlan w k) start-is
+
+      one-is : one ≡ earlyPlan (mirror w) k e ++ drop (w .h) old
+      one-is =
+          let bound = sym (stores .bound) in
+          stores .buffer ∙ (λ i. earlyPlan (turned i) k (bound i) ++ drop (turned i .h) old)
+
+      front : mirrorBytes (w .h) (earlyPlan (mirror w) k e ++ drop (w .h) old) ≡ mirrorBytes (w .h) (earlyPlan (mirror w) k e)
+      front = mirror-front (w .h) (earlyPlan (mirror w) k e) (drop (w .h) old) (schedule-long _)
+
+      rest : drop (w .h) (earlyPlan (mirror w) k e ++ drop (w .h) old) ≡ drop (w .h) old
+      rest = drop-at (earlyPlan (mirror w) k e) (drop (w .h) old) (w .h) (schedule-long _)
 
 -- one value stored
 list-set : (n : ℕ) (f : ℕ → ℕ) (i x : ℕ) → i < n → set (listOf n f) i x ≡ listOf n (λ t. cond (eqb t i) x (f t))

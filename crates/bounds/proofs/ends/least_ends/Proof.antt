@@ -7,7 +7,8 @@ use Rattle.jackson.specs.Windows.{windowsIn}
 use Rattle.jackson.specs.Intervals.{overloadOf}
 use Rattle.narrow.specs.Calls.{wholeIn}
 use Rattle.bounds.specs.Ends.{leastEnd}
-use Rattle.bounds.proofs.EndCases.{least-end-kind, Placed, placed-none, placed-next, placed-all, formed-few, searchable-at}
+use Rattle.bounds.specs.declared.shown.Shown.the-variants.{Early}
+use Rattle.bounds.proofs.EndCases.{bound-kind, Placed, placed-none, placed-next, placed-all, formed-few, searchable-at}
 use Rattle.bounds.proofs.ends.least_ends.Statement.{statement}
 use Rattle.bounds.proofs.ends.least_ends.Tie as tie
 
@@ -45,7 +46,7 @@ loop-less : tie.Need-loop-less Inv-loop μ-loop
 loop-less c = search needs
 
 loop-again : tie.Need-loop-again Inv-loop μ-loop
-loop-again c = placed-next _ _ _ _ _ (c .before .before .before .loop .inv) (c .before .before .loop-test .taken) (c .least-end .ensures ∙ least-end-kind _ _ _ _ (c .before .whole-at .ensures))
+loop-again c = placed-next _ _ _ _ _ (c .before .before .before .loop .inv) (c .before .before .loop-test .taken) (c .least-end .ensures ∙ bound-kind Early _ _ _ _ (c .before .whole-at .ensures))
 
 returns : tie.Need-returns Inv-loop μ-loop
 returns c = placed-all _ _ _ _ (c .before .loop .inv) (c .loop-test .left)
