@@ -203,7 +203,7 @@ module _ {l : DayList} {k : ℕ} {old : List ℕ} {a : NarrowAnswer} {s : Window
         ready-place ready (plan-formed l (length old) (passed .1)) long k (passed .0)
 
     pub shown-searchable : length (l .entries) ≡ 64 → Searchable s k
-    shown-searchable long = searchable-at (a .list) s (ready-formed ready) k (shown-place long)
+    shown-searchable long = searchable-at (ready-formed ready) k (shown-place long)
 
     pub shown-done : {x : Shown} {b : Bool} → b ≡ wholeIn (a .list) k → {e : ℕ} {new : List ℕ}
         → Stores x (λ _. b) (windowsIn s) k old e new → Shows x l k old (record { narrowed = a; bound = e }) new
