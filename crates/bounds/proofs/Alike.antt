@@ -61,7 +61,8 @@ module _ {a b : DayList} (s : SameTimes a b) where
   times-bound x k room = λ j. settledOr 0 (boundOf x (times-whole s j) k) (times-shown k room j)
 
   pub times-shown-plan : (x : Shown) (k : ℕ) (old : List ℕ)
-      → planned (shownPlan x (wholeIn a) k) old (shownOf a k (length old)) ≡ planned (shownPlan x (wholeIn b) k) old (shownOf b k (length old))
+      → planned (shownPlan x (wholeIn a) k) old (shownOf a k (length old))
+      ≡ planned (shownPlan x (wholeIn b) k) old (shownOf b k (length old))
   times-shown-plan x k old = λ j. planned (shownPlan x (times-whole s j) k) old (times-shown k (length old) j)
 
 -- lists that are equal get equal answers: beside those above, which hold of them by `same-times`, the list answered
