@@ -14,9 +14,9 @@ use Rattle.jackson.proofs.Alike.{alike-windows, alike-checked}
 use Rattle.narrow.specs.Rounds.{narrowing}
 use Rattle.narrow.specs.Calls.{wholeIn, SameTimes, listed}
 use Rattle.narrow.proofs.Alike.{same-times, times-windows, times-whole, same-listed}
-use Rattle.bounds.specs.Ends.{leastEnd, greatestStart}
 use Rattle.bounds.specs.Calls.{planChecks, shownChecks, narrowAfter, settledOr, planned}
-use Rattle.bounds.specs.Calls.{planOf, leastEnds, greatestStarts, brokenOf, shownOf, earlyOf, lateOf}
+use Rattle.bounds.specs.Calls.{planOf, leastEnds, greatestStarts, brokenOf, shownOf, boundOf, shownPlan}
+use Rattle.bounds.specs.declared.shown.Shown.{Shown}
 
 -- windows, moves, refusals, bounds, broken entries and plans do not depend on serials and seals, nor on what stands from n on
 module _ {a b : DayList} (s : SameTimes a b) where
@@ -55,24 +55,15 @@ module _ {a b : DayList} (s : SameTimes a b) where
   pub times-plan : (old : List ℕ) → planned schedule old (planOf a (length old)) ≡ planned schedule old (planOf b (length old))
   times-plan old = λ j. planned schedule old (times-planned (length old) j)
 
-  -- what showing the early and the late plan of place k answers beside them, and leaves in a plan buffer
-  pub times-least-end : (k room : ℕ)
-      → settledOr 0 (λ w. leastEnd overloadOf (wholeIn a) w k) (shownOf a k room)
-      ≡ settledOr 0 (λ w. leastEnd overloadOf (wholeIn b) w k) (shownOf b k room)
-  times-least-end k room = λ j. settledOr 0 (λ w. leastEnd overloadOf (times-whole s j) w k) (times-shown k room j)
+  -- what showing the plan x of place k answers beside them, and leaves in a plan buffer
+  pub times-bound : (x : Shown) (k room : ℕ)
+      → settledOr 0 (boundOf x (wholeIn a) k) (shownOf a k room) ≡ settledOr 0 (boundOf x (wholeIn b) k) (shownOf b k room)
+  times-bound x k room = λ j. settledOr 0 (boundOf x (times-whole s j) k) (times-shown k room j)
 
-  pub times-greatest-start : (k room : ℕ)
-      → settledOr 0 (λ w. greatestStart overloadOf (wholeIn a) w k) (shownOf a k room)
-      ≡ settledOr 0 (λ w. greatestStart overloadOf (wholeIn b) w k) (shownOf b k room)
-  times-greatest-start k room = λ j. settledOr 0 (λ w. greatestStart overloadOf (times-whole s j) w k) (times-shown k room j)
-
-  pub times-early : (k : ℕ) (old : List ℕ)
-      → planned (earlyOf (wholeIn a) k) old (shownOf a k (length old)) ≡ planned (earlyOf (wholeIn b) k) old (shownOf b k (length old))
-  times-early k old = λ j. planned (earlyOf (times-whole s j) k) old (times-shown k (length old) j)
-
-  pub times-late : (k : ℕ) (old : List ℕ)
-      → planned (lateOf (wholeIn a) k) old (shownOf a k (length old)) ≡ planned (lateOf (wholeIn b) k) old (shownOf b k (length old))
-  times-late k old = λ j. planned (lateOf (times-whole s j) k) old (times-shown k (length old) j)
+  pub times-shown-plan : (x : Shown) (k : ℕ) (old : List ℕ)
+      → planned (shownPlan x (wholeIn a) k) old (shownOf a k (length old))
+      ≡ planned (shownPlan x (wholeIn b) k) old (shownOf b k (length old))
+  times-shown-plan x k old = λ j. planned (shownPlan x (times-whole s j) k) old (times-shown k (length old) j)
 
 -- lists that are equal get equal answers: beside those above, which hold of them by `same-times`, the list answered
 module _ {a b : DayList} (s : SameList a b) where

@@ -92,13 +92,14 @@ module _ (h : ℕ) (bytes : List ℕ) (k : ℕ) where
       last-here : getD bytes (t - 1) 0 ≡ placesIn (take h bytes) (t - 1)
       last-here = place-at h bytes (t - 1) (omega (arith, so .within)) (so .room)
 
-      last-one : endOf t (placesIn (take h bytes)) k ≡ cond (eqb (placesIn (take h bytes) (t - 1)) k) t (endOf (t - 1) (placesIn (take h bytes)) k)
+      last-one : endOf t (placesIn (take h bytes)) k
+          ≡ cond (eqb (placesIn (take h bytes) (t - 1)) k) t (endOf (t - 1) (placesIn (take h bytes)) k)
       unfolding lastBelow
-      last-one = go t below
+      last-one = go t below (placesIn (take h bytes))
         where
-          go : (t : ℕ) → 0 < t → endOf t (placesIn (take h bytes)) k ≡ cond (eqb (placesIn (take h bytes) (t - 1)) k) t (endOf (t - 1) (placesIn (take h bytes)) k)
-          go zero h = absurd (omega arith)
-          go (suc t) h = let z : suc t - 1 ≡ t = omega arith in rw z refl
+          go : (t : ℕ) → 0 < t → (m : ℕ → ℕ) → endOf t m k ≡ cond (eqb (m (t - 1)) k) t (endOf (t - 1) m k)
+          go zero h m = absurd (omega arith)
+          go (suc t) h m = let z : suc t - 1 ≡ t = omega arith in rw z refl
 
       pub back-found : getD bytes (t - 1) 0 ≡ k → t ≡ endOf h (placesIn (take h bytes)) k
       back-found e = sym (so .is ∙ last-one ∙ rw (eq-eqb _ _ (sym last-here ∙ e)))
@@ -111,69 +112,73 @@ module _ (h : ℕ) (bytes : List ℕ) (k : ℕ) where
             is = so .is ∙ last-one ∙ rw (ne-eqb _ _ (λ e. other (last-here ∙ e)));
           }
 
+-- 1 for entry k if the first h bytes break it, else 0
+abbrev oneBroken : DayList → ℕ → List ℕ → ℕ → ℕ
+oneBroken l h bytes k = cond (isBroken (wholeIn l) h (placesIn (take h bytes)) k) 1 0
+
 -- one entry
-module _ (l : DayList) (h : ℕ) (bytes : List ℕ) (has : HoldsPlan l h bytes) (long : length (l .entries) ≡ 64) (k : ℕ) (place : k < l .n) where
-  count-is : windowsOf l .n ≡ l .n
-  count-is = rw (length-take (l .n) (l .entries)) (omega (arith, has .few, long))
+module _ {l : DayList} {h : ℕ} {bytes : List ℕ} (has : HoldsPlan l h bytes) (long : length (l .entries) ≡ 64) {k : ℕ} (place : k < l .n)
+  where
+    abbrev m : ℕ → ℕ
+    m = placesIn (take h bytes)
 
-  minutes-are : minutesOf h (placesIn (take h bytes)) k ≡ getD (l .entries) k blank .p
-  minutes-are =
-      ap (λ (x : ℕ). minutesOf x (placesIn (take h bytes)) k) (has .day)
-      ∙ has .plan .exact k (omega (arith, count-is, place))
-      ∙ ap (λ (e : Entry). e .p) (getD-take (l .n) (l .entries) k blank place)
+    count-is : windowsOf l .n ≡ l .n
+    count-is = rw (length-take (l .n) (l .entries)) (omega (arith, has .few, long))
 
-  pub minutes-in-day : getD (l .entries) k blank .p ≤ h
-  minutes-in-day =
-      omega (arith, minutes-are, minutes-within h (placesIn (take h bytes)) k 0 h (λ t below _. (omega arith, below)))
+    minutes-are : minutesOf h m k ≡ getD (l .entries) k blank .p
+    minutes-are =
+        ap (λ (x : ℕ). minutesOf x m k) (has .day)
+        ∙ has .plan .exact k (omega (arith, count-is, place))
+        ∙ ap (λ (e : Entry). e .p) (getD-take (l .n) (l .entries) k blank place)
 
-  pub start-in-day : startOf h (placesIn (take h bytes)) k ≤ h
-  start-in-day = first-below h _ .within
+    pub minutes-in-day : getD (l .entries) k blank .p ≤ h
+    minutes-in-day = omega (arith, minutes-are, minutes-within h m k 0 h (λ t below _. (omega arith, below)))
 
-  pub not-whole : (x : Bool) → x ≡ wholeIn l k → not x ≡ true → _≡_ {A = ℕ} 0 (cond (isBroken (wholeIn l) h (placesIn (take h bytes)) k) 1 0)
-  not-whole x e f = let z : wholeIn l k ≡ false = sym e ∙ not-true x f in rw z refl
+    pub start-in-day : startOf h m k ≤ h
+    start-in-day = first-below h _ .within
 
-  module _ (x : Bool) (e : x ≡ wholeIn l k) (t : not x ≡ false) (s end : ℕ) (start : s ≡ startOf h (placesIn (take h bytes)) k)
-      (ends : end ≡ endOf h (placesIn (take h bytes)) k) where
-    whole : wholeIn l k ≡ true
-    whole = sym e ∙ not-false x t
+    pub not-whole : {x : Bool} → x ≡ wholeIn l k → not x ≡ true → 0 ≡ oneBroken l h bytes k
+    not-whole {x} e f = let z : wholeIn l k ≡ false = sym e ∙ not-true x f in rw z refl
 
-    pub in-one-piece : s + getD (l .entries) k blank .p ≡ end → _≡_ {A = ℕ} 0 (cond (isBroken (wholeIn l) h (placesIn (take h bytes)) k) 1 0)
-    in-one-piece same =
-        let z : startOf h (placesIn (take h bytes)) k + minutesOf h (placesIn (take h bytes)) k ≡ endOf h (placesIn (take h bytes)) k =
-        omega (arith, same, start, ends, minutes-are) in
-        rw (whole, eq-eqb _ _ z) refl
+    module _ {x : Bool} (e : x ≡ wholeIn l k) (t : not x ≡ false) {s end : ℕ} (start : s ≡ startOf h m k) (ends : end ≡ endOf h m k) where
+      whole : wholeIn l k ≡ true
+      whole = sym e ∙ not-false x t
 
-    pub in-pieces : (s + getD (l .entries) k blank .p ≡ end → ⊥) → _≡_ {A = ℕ} 1 (cond (isBroken (wholeIn l) h (placesIn (take h bytes)) k) 1 0)
-    in-pieces other =
-        let z : startOf h (placesIn (take h bytes)) k + minutesOf h (placesIn (take h bytes)) k ≡ endOf h (placesIn (take h bytes)) k → ⊥ =
-        λ q. other (omega (arith, q, start, ends, minutes-are)) in
-        rw (whole, ne-eqb _ _ z) refl
+      pub in-one-piece : s + getD (l .entries) k blank .p ≡ end → 0 ≡ oneBroken l h bytes k
+      in-one-piece same =
+          let z : startOf h m k + minutesOf h m k ≡ endOf h m k = omega (arith, same, start, ends, minutes-are) in
+          rw (whole, eq-eqb _ _ z) refl
+
+      pub in-pieces : (s + getD (l .entries) k blank .p ≡ end → ⊥) → 1 ≡ oneBroken l h bytes k
+      in-pieces other =
+          let z : startOf h m k + minutesOf h m k ≡ endOf h m k → ⊥ = λ q. other (omega (arith, q, start, ends, minutes-are)) in
+          rw (whole, ne-eqb _ _ z) refl
 
 -- the broken entries among the first i
 pub record Counted (l : DayList) (h : ℕ) (bytes : List ℕ) (x i : ℕ) : Type 0 where
   pub few : l .n ≤ 64
   pub passed : i ≤ l .n
   pub small : x ≤ i
-  pub is : x ≡ sum i (λ j. cond (isBroken (wholeIn l) h (placesIn (take h bytes)) j) 1 0)
+  pub is : x ≡ sum i (oneBroken l h bytes)
 
-module _ (l : DayList) (h : ℕ) (bytes : List ℕ) (has : HoldsPlan l h bytes) where
+module _ {l : DayList} {h : ℕ} {bytes : List ℕ} (has : HoldsPlan l h bytes) where
   pub counted-none : Counted l h bytes 0 0
   unfolding sum
   counted-none = record { few = has .few; passed = omega arith; small = omega arith; is = refl }
 
-  module _ (x i : ℕ) (so : Counted l h bytes x i) where
-    pub counted-next : i < l .n → (b : ℕ) → b ≡ cond (isBroken (wholeIn l) h (placesIn (take h bytes)) i) 1 0 → Counted l h bytes (x + b) (i + 1)
+  module _ {x i : ℕ} (so : Counted l h bytes x i) where
+    pub counted-next : i < l .n → {b : ℕ} → b ≡ oneBroken l h bytes i → Counted l h bytes (x + b) (i + 1)
     unfolding sum
-    counted-next below b e =
+    counted-next below {b} e =
         record {
           few = so .few;
           passed = omega (arith, below);
           small = omega (arith, so .small, at-most-one (isBroken (wholeIn l) h (placesIn (take h bytes)) i) b e);
-          is = rw (add-one, e) (ap (λ (y : ℕ). y + cond (isBroken (wholeIn l) h (placesIn (take h bytes)) i) 1 0) (so .is));
+          is = rw (add-one, e) (ap (λ (y : ℕ). y + oneBroken l h bytes i) (so .is));
         }
 
     pub counted-all : length (l .entries) ≡ 64 → l .n ≤ i → x ≡ brokenIn (wholeIn l) (windowsOf l) (placesIn (take h bytes))
     unfolding brokenIn
     counted-all long end =
         let z : i ≡ windowsOf l .n = rw (length-take (l .n) (l .entries)) (omega (arith, so .passed, has .few, long)) in
-        rw (← has .day) (so .is ∙ ap (λ (n : ℕ). sum n (λ j. cond (isBroken (wholeIn l) h (placesIn (take h bytes)) j) 1 0)) z)
+        rw (← has .day) (so .is ∙ ap (λ (n : ℕ). sum n (oneBroken l h bytes)) z)

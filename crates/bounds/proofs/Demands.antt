@@ -26,13 +26,16 @@ use Rattle.bounds.proofs.EndBounds.{end-bound, early-is}
 use Rattle.bounds.proofs.StartBounds.{start-bound, late-is}
 use Rattle.bounds.proofs.BrokenFacts.{broken-exactly}
 
--- bounds and plans told of each entry are those of the windows answered
-pub record ByRules (whole : ℕ → Bool) (told : Told) : Type 0 where
-  pub end : (v : Narrowed) → told .outcome ≡ answered v → (k : ℕ) → k < v .windows .n → told .end k ≡ leastEnd overloadOf whole (v .windows) k
-  pub start : (v : Narrowed) → told .outcome ≡ answered v → (k : ℕ) → k < v .windows .n
-      → told .start k ≡ greatestStart overloadOf whole (v .windows) k
-  pub early : (v : Narrowed) → told .outcome ≡ answered v → (k : ℕ) → k < v .windows .n → told .early k ≡ earlyOf whole k (v .windows)
-  pub late : (v : Narrowed) → told .outcome ≡ answered v → (k : ℕ) → k < v .windows .n → told .late k ≡ lateOf whole k (v .windows)
+-- what is told of entry k is what is defined for the windows w
+pub record AtPlace (whole : ℕ → Bool) (w : Windows) (told : Told) (k : ℕ) : Type 0 where
+  pub end : told .end k ≡ leastEnd overloadOf whole w k
+  pub start : told .start k ≡ greatestStart overloadOf whole w k
+  pub early : told .early k ≡ earlyOf whole k w
+  pub late : told .late k ≡ lateOf whole k w
+
+-- of each entry, in the windows answered
+abbrev pub ByRules : (ℕ → Bool) → Told → Type 0
+ByRules whole told = (v : Narrowed) → told .outcome ≡ answered v → (k : ℕ) → k < v .windows .n → AtPlace whole (v .windows) told k
 
 -- the widest settled windows leave each entry room
 pub widest-formed : (whole : ℕ → Bool) (w v : Windows) → Formed w → Widest whole w v → Formed v
@@ -45,19 +48,19 @@ demand3 whole w formed told is rules =
       narrowing = law;
       end-bound =
           λ v e k place m keeping x end.
-          rw (rules .end v e k (in-n v e k place))
+          rw (here v e k place .end)
           (end-bound overload-planner whole (v .windows) (formed-of v e) k (in-n v e k place) m keeping x (rw (same-h v e) end));
       start-bound =
           λ v e k place m keeping x start.
-          rw (rules .start v e k (in-n v e k place))
+          rw (here v e k place .start)
           (start-bound overload-planner whole (v .windows) (formed-of v e) k (in-n v e k place) m keeping x (rw (same-h v e) start));
       early-is =
           λ v e k place.
-          rw (rules .end v e k (in-n v e k place), rules .early v e k (in-n v e k place))
+          rw (here v e k place .end, here v e k place .early)
           (early-is overload-planner whole (v .windows) (formed-of v e) k (in-n v e k place) (law .widest v e .settled));
       late-is =
           λ v e k place.
-          rw (rules .start v e k (in-n v e k place), rules .late v e k (in-n v e k place))
+          rw (here v e k place .start, here v e k place .late)
           (late-is overload-planner whole (v .windows) (formed-of v e) k (in-n v e k place) (law .widest v e .settled));
     }
   where
@@ -72,6 +75,9 @@ demand3 whole w formed told is rules =
 
     in-n : (v : Narrowed) → told .outcome ≡ answered v → (k : ℕ) → k < w .n → k < v .windows .n
     in-n v e k place = rw (ap (λ (u : Windows). u .n) (law .widest v e .entries)) place
+
+    here : (v : Narrowed) → told .outcome ≡ answered v → (k : ℕ) → k < w .n → AtPlace whole (v .windows) told k
+    here v e k place = rules v e k (in-n v e k place)
 
 -- where a plan exists, the schedule is one, and the entries counted are those that it breaks
 pub plans-windows : (whole : ℕ → Bool) (w : Windows) → Formed w → Plannable w

@@ -18,7 +18,8 @@ use Rattle.narrow.proofs.OverloadPlanner.{formed-roomy}
 use Rattle.narrow.proofs.Puts.{place-cases, put-same, with-d, consecutive-fixed, fixed-consecutive}
 use Rattle.bounds.specs.Ends.{leastEnd, Keeping}
 use Rattle.bounds.specs.ShownPlans.{earlyPlan, IsEarly}
-use Rattle.bounds.proofs.EndSearches.{own-deadline, deadline-widen, deadline-formed, deadline-exact, least-end-whole, least-end-first, least-end-range}
+use Rattle.bounds.proofs.EndSearches.{own-deadline, deadline-widen, deadline-formed, deadline-exact}
+use Rattle.bounds.proofs.EndSearches.{least-end-whole, least-end-first, least-end-range}
 
 -- Plans.
 
@@ -62,7 +63,8 @@ module _ {test : Test} (planner : Planner test) (whole : ℕ → Bool) (w : Wind
       go false is =
           le-or-lt least e (λ l. l)
           (λ l.
-          let found = deadline-exact w formed k place planner e room (end-deadline w m plan k place e end) .1 (m, ends-plan w m plan k place e end) in
+          let exact = deadline-exact w formed k place planner e room (end-deadline w m plan k place e end) in
+          let found = exact .1 (m, ends-plan w m plan k place e end) in
           absurd (true≢false (sym found ∙ least-end-first test whole w formed k place is .none-before e room l)))
 
   -- in particular none that keeps k in one piece
@@ -104,10 +106,11 @@ module _ {test : Test} (planner : Planner test) (whole : ℕ → Bool) (w : Wind
 
         bytes : PlanBytes w (earlyPlan w k least)
         bytes =
+            let due = least-end-range test whole w formed k place .1 in
             record {
               long = deadline-bytes .long;
               places = deadline-bytes .places;
-              plan = rw (own-deadline w k) at (deadline-widen w k least (w .d k) (least-end-range test whole w formed k place .1) m (deadline-bytes .plan));
+              plan = rw (own-deadline w k) at (deadline-widen w k least (w .d k) due m (deadline-bytes .plan));
             }
 
         unbroken : whole k ≡ true → (s : ℕ) × Consecutive (w .h) m k s (s + w .p k)

@@ -20,12 +20,14 @@ use Rattle.jackson.proofs.Listed.{list-is, list-same, list-at, list-length}
 use Rattle.narrow.specs.Searching.{accepts, withD}
 use Rattle.narrow.specs.Laws.{Formed}
 use Rattle.narrow.specs.Calls.{isWhole, wholeIn}
+use Rattle.narrow.specs.Parts.{Searchable}
 use Rattle.narrow.proofs.OverloadPlanner.{overload-planner}
 use Rattle.narrow.proofs.MirrorSearches.{formed-mirror}
 use Rattle.bounds.specs.Ends.{leastEnd, greatestStart}
-use Rattle.bounds.specs.Calls.{byPlace}
-use Rattle.narrow.specs.Parts.{Searchable}
+use Rattle.bounds.specs.Calls.{byPlace, boundOf}
 use Rattle.bounds.specs.Parts.{HoldsFormed}
+use Rattle.bounds.specs.declared.shown.Shown.{Shown}
+use Rattle.bounds.specs.declared.shown.Shown.the-variants.{Early, Late}
 use Rattle.bounds.proofs.EndSearches.{deadline-mono, least-end-whole, least-end-found, least-end-range}
 use Rattle.bounds.proofs.MirrorEnds.{start-by-mirror}
 
@@ -42,10 +44,13 @@ pub record Halved (w : Windows) (k low high : ℕ) : Type 0 where
   pub passes : high < w .d k → accepts (overloadOf (withD w k high)) ≡ true
 
 -- the middle lies between
-pub middle-in : (low high : ℕ) → low < high → (low ≤ low + (high - low) / 2) × (low + (high - low) / 2 < high)
+abbrev middle : ℕ → ℕ → ℕ
+middle low high = low + (high - low) / 2
+
+pub middle-in : (low high : ℕ) → low < high → (low ≤ middle low high) × (middle low high < high)
 middle-in low high h = (omega arith, omega arith)
 
-module _ (w : Windows) (formed : Formed w) (k : ℕ) (place : k < w .n) where
+module _ {w : Windows} (formed : Formed w) {k : ℕ} (place : k < w .n) where
   pub halve-start : Halved w k (w .r k + w .p k) (w .d k)
   halve-start =
       record {
@@ -56,11 +61,8 @@ module _ (w : Windows) (formed : Formed w) (k : ℕ) (place : k < w .n) where
         passes = λ h. absurd (omega (arith, h));
       }
 
-  module _ (low high : ℕ) (so : Halved w k low high) (below : low < high) where
-    abbrev pub middle : ℕ
-    middle = low + (high - low) / 2
-
-    pub halve-passed : accepts (overloadOf (withD w k middle)) ≡ true → Halved w k low middle
+  module _ {low high : ℕ} (so : Halved w k low high) (below : low < high) where
+    pub halve-passed : accepts (overloadOf (withD w k (middle low high))) ≡ true → Halved w k low (middle low high)
     halve-passed yes-plan =
         let m = middle-in low high below in
         record {
@@ -71,7 +73,7 @@ module _ (w : Windows) (formed : Formed w) (k : ℕ) (place : k < w .n) where
           passes = λ _. yes-plan;
         }
 
-    pub halve-failed : accepts (overloadOf (withD w k middle)) ≡ false → Halved w k (middle + 1) high
+    pub halve-failed : accepts (overloadOf (withD w k (middle low high))) ≡ false → Halved w k (middle low high + 1) high
     halve-failed no-plan =
         let m = middle-in low high below in
         record {
@@ -83,15 +85,17 @@ module _ (w : Windows) (formed : Formed w) (k : ℕ) (place : k < w .n) where
         }
       where
         -- a narrower window has no plan either
-        deadline-fails : (e : ℕ) → w .r k + w .p k ≤ e → e ≤ middle → middle ≤ w .d k → accepts (overloadOf (withD w k e)) ≡ false
+        deadline-fails : (e : ℕ) → w .r k + w .p k ≤ e → e ≤ middle low high → middle low high ≤ w .d k
+            → accepts (overloadOf (withD w k e)) ≡ false
         deadline-fails e room less due = go (accepts (overloadOf (withD w k e))) refl
           where
             go : (t : Bool) → accepts (overloadOf (withD w k e)) ≡ t → t ≡ false
             go false q = refl
-            go true q = sym (deadline-mono w formed k place overload-planner e middle room less due q) ∙ no-plan
+            go true q = sym (deadline-mono w formed k place overload-planner e (middle low high) room less due q) ∙ no-plan
 
-  pub halve-done : (whole : Bool) → whole ≡ false → (low high : ℕ) → Halved w k low high → high ≤ low → low ≡ leastEnd overloadOf (λ _. whole) w k
-  halve-done whole is low high so end =
+  pub halve-done : {whole : Bool} → whole ≡ false → {low high : ℕ} → Halved w k low high → high ≤ low
+      → low ≡ leastEnd overloadOf (λ _. whole) w k
+  halve-done {whole} is {low} {high} so end =
       let z : high ≡ low = omega (arith, so .order) in
       sym
       (least-end-found overloadOf (λ _. whole) w formed k place is low
@@ -105,10 +109,12 @@ module _ (w : Windows) (formed : Formed w) (k : ℕ) (place : k < w .n) where
 pub whole-end : (whole : Bool) (w : Windows) (k : ℕ) → whole ≡ true → w .r k + w .p k ≡ leastEnd overloadOf (λ _. whole) w k
 whole-end whole w k is = sym (least-end-whole overloadOf (λ _. whole) w k is)
 
--- the least end depends on the kind of its own entry alone
-pub least-end-kind : (whole : ℕ → Bool) (b : Bool) (w : Windows) (k : ℕ) → b ≡ whole k → leastEnd overloadOf (λ _. b) w k ≡ leastEnd overloadOf whole w k
-unfolding leastEnd
-least-end-kind whole b w k e = rw e
+-- a bound depends on the kind of its own entry alone
+pub bound-kind : (x : Shown) (whole : ℕ → Bool) (b : Bool) (w : Windows) (k : ℕ) → b ≡ whole k
+    → boundOf x (λ _. b) k w ≡ boundOf x whole k w
+unfolding leastEnd greatestStart
+bound-kind Early whole b w k e = rw e
+bound-kind Late whole b w k e = rw e
 
 -- numbers by place: the first i are stored
 module _ (f : ℕ → ℕ) where
@@ -164,20 +170,23 @@ module _ (f : ℕ → ℕ) (n : ℕ) where
   placed-all xs i so h = let z : i ≡ n = omega (arith, so .passed) in rw (← z) (so .is)
 
 -- the entries of a list and their windows in arrays
-module _ (l : DayList) (s : WindowSet) (has : HoldsFormed l s) where
+module _ {l : DayList} {s : WindowSet} (has : HoldsFormed l s) where
   pub formed-few : l .n ≤ 64
   formed-few = omega (arith, has .count)
 
   pub searchable-at : (i : ℕ) → i < l .n → Searchable s i
   searchable-at i h = record { formed = has .formed; place = omega (arith, has .count, h) }
 
-  module _ (t : WindowSet) (turned : MirrorOf s t) where
+  module _ {t : WindowSet} (turned : MirrorOf s t) where
     pub formed-in-mirror : HoldsFormed l t
     formed-in-mirror =
-        record { formed = rw (turned .windows) (formed-mirror (windowsIn s) (has .formed)); count = ap (λ (x : ℕ). min x 64) (turned .n) ∙ has .count }
+        record {
+          formed = rw (turned .windows) (formed-mirror (windowsIn s) (has .formed));
+          count = ap (λ (x : ℕ). min x 64) (turned .n) ∙ has .count;
+        }
 
     -- the mirrors of the least ends in the mirror
-    module _ (ends : List ℕ) (are : ends ≡ byPlace (l .n) (leastEnd overloadOf (wholeIn l) (windowsIn t))) where
+    module _ {ends : List ℕ} (are : ends ≡ byPlace (l .n) (leastEnd overloadOf (wholeIn l) (windowsIn t))) where
       mirror-end : (i : ℕ) → i < l .n → getD ends i 0 ≡ leastEnd overloadOf (wholeIn l) (mirror (windowsIn s)) i
       mirror-end i h =
           ap (λ (xs : List ℕ). getD xs i 0) are
@@ -188,9 +197,11 @@ module _ (l : DayList) (s : WindowSet) (has : HoldsFormed l s) where
       mirror-end-in-day i h =
           let formed = formed-mirror (windowsIn s) (has .formed) in
           let place = searchable-at i h .place in
-          omega (arith, mirror-end i h, least-end-range overloadOf (wholeIn l) (mirror (windowsIn s)) formed i place .1, formed .in-day i place)
+          let due = least-end-range overloadOf (wholeIn l) (mirror (windowsIn s)) formed i place .1 in
+          omega (arith, mirror-end i h, due, formed .in-day i place)
 
-      pub starts-by-mirror : byPlace (l .n) (λ i. s .h - getD ends i 0) ≡ byPlace (l .n) (greatestStart overloadOf (wholeIn l) (windowsIn s))
+      pub starts-by-mirror : byPlace (l .n) (λ i. s .h - getD ends i 0)
+          ≡ byPlace (l .n) (greatestStart overloadOf (wholeIn l) (windowsIn s))
       starts-by-mirror =
           by-place-same (l .n) _ _
           (λ i h.

@@ -19,10 +19,12 @@ use Rattle.narrow.proofs.OneOutcome.{one-outcome}
 use Rattle.narrow.proofs.Alike.{same-times}
 use Rattle.bounds.specs.ShownPlans.{earlyPlan, latePlan}
 use Rattle.bounds.specs.Demand3.{Told, Demand3}
-use Rattle.bounds.specs.Calls.{shownOf, PlansDay, ShowsEarly, ShowsLate}
+use Rattle.bounds.specs.Calls.{PlansDay, Shows}
 use Rattle.bounds.specs.declared.types.PlanAnswer.{PlanAnswer}
 use Rattle.bounds.specs.declared.types.ShownAnswer.{ShownAnswer}
-use Rattle.bounds.proofs.Alike.{times-ends, times-starts, times-broken, times-plan, times-least-end, times-greatest-start, times-early, times-late, same-planned, same-shown}
+use Rattle.bounds.specs.declared.shown.Shown.{Shown}
+use Rattle.bounds.proofs.Alike.{times-ends, times-starts, times-broken, times-plan, times-bound, times-shown-plan}
+use Rattle.bounds.proofs.Alike.{same-planned, same-shown}
 
 -- Two answers of which demand 3 holds.
 module _ {whole : ℕ → Bool} {w : Windows} (s t : Told) (a : Demand3 whole w s) (b : Demand3 whole w t) where
@@ -85,23 +87,13 @@ module _ {a b : DayList} (s : SameList a b) where
         p .buffer ∙ times-plan times old ∙ sym (q .buffer),
       )
 
-  module _ (k : ℕ) (old : List ℕ) (x y : ShownAnswer) (new other : List ℕ) where
-    one-shown : AnswersAs a (shownOf a k (length old)) (x .narrowed) → AnswersAs b (shownOf b k (length old)) (y .narrowed)
-        → x .bound ≡ y .bound → x ≡ y
-    one-shown p q bound =
-        let narrowed = one-narrowed _ _ (same-shown s k (length old)) (x .narrowed) (y .narrowed) p q in
-        λ i. record { narrowed = narrowed i; bound = bound i }
-
-    pub one-early-shown : ShowsEarly a k old x new → ShowsEarly b k old y other → (x ≡ y) × (new ≡ other)
-    one-early-shown p q =
-        let times = same-times s in (
-          one-shown (p .answers) (q .answers) (p .bound ∙ times-least-end times k (length old) ∙ sym (q .bound)),
-          p .buffer ∙ times-early times k old ∙ sym (q .buffer),
-        )
-
-    pub one-late-shown : ShowsLate a k old x new → ShowsLate b k old y other → (x ≡ y) × (new ≡ other)
-    one-late-shown p q =
-        let times = same-times s in (
-          one-shown (p .answers) (q .answers) (p .bound ∙ times-greatest-start times k (length old) ∙ sym (q .bound)),
-          p .buffer ∙ times-late times k old ∙ sym (q .buffer),
-        )
+  pub one-shown : (shown : Shown) (k : ℕ) (old : List ℕ) (x y : ShownAnswer) (new other : List ℕ)
+      → Shows shown a k old x new → Shows shown b k old y other → (x ≡ y) × (new ≡ other)
+  one-shown shown k old x y new other p q =
+      let room = length old in
+      let times = same-times s in
+      let narrowed = one-narrowed _ _ (same-shown s k room) (x .narrowed) (y .narrowed) (p .answers) (q .answers) in
+      let bound : x .bound ≡ y .bound = p .bound ∙ times-bound times shown k room ∙ sym (q .bound) in (
+        λ i. record { narrowed = narrowed i; bound = bound i },
+        p .buffer ∙ times-shown-plan times shown k old ∙ sym (q .buffer),
+      )

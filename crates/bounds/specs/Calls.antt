@@ -16,16 +16,16 @@ use Rattle.jackson.specs.Plans.{placesIn, PlanBytes}
 use Rattle.jackson.specs.Intervals.{overloadOf}
 use Rattle.jackson.specs.Minutes.{schedule}
 use Rattle.jackson.specs.Planning.{bufferRow}
-use Rattle.narrow.specs.Searching.{put}
 use Rattle.narrow.specs.Rounds.{Narrowed, narrowing}
 use Rattle.narrow.specs.Calls.{wholeIn, narrowedIn, AnswersAs, HoldsAnswer}
-use Rattle.narrow.specs.declared.types.NarrowAnswer.{NarrowAnswer}
 use Rattle.bounds.specs.Ends.{leastEnd, greatestStart}
 use Rattle.bounds.specs.ShownPlans.{earlyPlan, latePlan}
 use Rattle.bounds.specs.BrokenEntries.{isBroken, brokenIn, Broken}
 use Rattle.bounds.specs.Demand3.{Told, Demand3}
 use Rattle.bounds.specs.declared.types.PlanAnswer.{PlanAnswer}
 use Rattle.bounds.specs.declared.types.ShownAnswer.{ShownAnswer}
+use Rattle.bounds.specs.declared.shown.Shown.{Shown}
+use Rattle.bounds.specs.declared.shown.Shown.the-variants.{Early, Late}
 
 -- "The checks before 9 are all that such a call tests before the given windows, in the table below the rows above 9": the value check,
 -- then the rows about what the call lends and asks
@@ -124,39 +124,35 @@ earlyOf whole k w = earlyPlan w k (leastEnd overloadOf whole w k)
 abbrev pub lateOf : (ℕ → Bool) → ℕ → Windows → List ℕ
 lateOf whole k w = latePlan w k (greatestStart overloadOf whole w k)
 
--- bounds and plans of every place in the windows answered, as they are defined
-abbrev pub toldByRules : (ℕ → Bool) → NarrowAnswer → Told
-toldByRules whole a =
-    let w = windowsOf (a .list) in
-    record {
-      outcome = narrowedIn a;
-      end = leastEnd overloadOf whole w;
-      start = greatestStart overloadOf whole w;
-      early = λ k. earlyOf whole k w;
-      late = λ k. lateOf whole k w;
-    }
+-- "For any place k the caller may have either plan shown": its bound, the least end or the greatest start, and the plan
+abbrev pub boundOf : Shown → (ℕ → Bool) → ℕ → Windows → ℕ
+boundOf Early whole k w = leastEnd overloadOf whole w k
+boundOf Late whole k w = greatestStart overloadOf whole w k
 
--- what the calls tell: of place k the bound answered and the plan in the buffer, of the others these
-abbrev pub toldByEarly : (ℕ → Bool) → ℕ → ShownAnswer → List ℕ → Told
-toldByEarly whole k a bytes =
-    let told = toldByRules whole (a .narrowed) in
-    record {
-      outcome = told .outcome;
-      end = put k (a .bound) (told .end);
-      start = told .start;
-      early = λ i. cond (eqb i k) bytes (told .early i);
-      late = told .late;
-    }
+abbrev pub shownPlan : Shown → (ℕ → Bool) → ℕ → Windows → List ℕ
+shownPlan Early = earlyOf
+shownPlan Late = lateOf
 
-abbrev pub toldByLate : (ℕ → Bool) → ℕ → ShownAnswer → List ℕ → Told
-toldByLate whole k a bytes =
-    let told = toldByRules whole (a .narrowed) in
+-- f, but v for the plan x of place k
+abbrev pub putShown : {A : Type 0} → Shown → ℕ → A → (Shown → ℕ → A) → Shown → ℕ → A
+putShown Early k v f Early i = cond (eqb i k) v (f Early i)
+putShown Late k v f Late i = cond (eqb i k) v (f Late i)
+putShown Early k v f Late i = f Late i
+putShown Late k v f Early i = f Early i
+
+-- what the call that shows the plan x of place k tells: of that plan the bound answered and the bytes in the buffer, of the other plan and
+-- of the other places what is defined for the windows answered
+abbrev pub toldByShown : Shown → (ℕ → Bool) → ℕ → ShownAnswer → List ℕ → Told
+toldByShown x whole k a bytes =
+    let w = windowsOf (a .narrowed .list) in
+    let bound = putShown x k (a .bound) (λ y i. boundOf y whole i w) in
+    let plan = putShown x k bytes (λ y i. shownPlan y whole i w) in
     record {
-      outcome = told .outcome;
-      end = told .end;
-      start = put k (a .bound) (told .start);
-      early = told .early;
-      late = λ i. cond (eqb i k) bytes (told .late i);
+      outcome = narrowedIn (a .narrowed);
+      end = bound Early;
+      start = bound Late;
+      early = plan Early;
+      late = plan Late;
     }
 
 -- what showing a plan of place k of the list l answers, and leaves in a plan buffer that held old, where b gives the bound and m the
@@ -170,8 +166,12 @@ pub record ShowsPlan (l : DayList) (k : ℕ) (old : List ℕ) (b : Windows → �
   -- demand 3, for a list, place and buffer that pass the checks before 9
   pub demand3 : shownChecks l k (length old) ≡ answered tt → Demand3 (wholeIn l) (windowsOf l) (told a (take (l .frame .h) new))
 
+-- showing the plan x
+abbrev pub Shows : Shown → DayList → ℕ → List ℕ → ShownAnswer → List ℕ → Type 0
+Shows x l k old = ShowsPlan l k old (boundOf x (wholeIn l) k) (shownPlan x (wholeIn l) k) (toldByShown x (wholeIn l) k)
+
 abbrev pub ShowsEarly : DayList → ℕ → List ℕ → ShownAnswer → List ℕ → Type 0
-ShowsEarly l k old = ShowsPlan l k old (λ w. leastEnd overloadOf (wholeIn l) w k) (earlyOf (wholeIn l) k) (toldByEarly (wholeIn l) k)
+ShowsEarly = Shows Early
 
 abbrev pub ShowsLate : DayList → ℕ → List ℕ → ShownAnswer → List ℕ → Type 0
-ShowsLate l k old = ShowsPlan l k old (λ w. greatestStart overloadOf (wholeIn l) w k) (lateOf (wholeIn l) k) (toldByLate (wholeIn l) k)
+ShowsLate = Shows Late

@@ -34,6 +34,8 @@ pub record Demand3 (whole : ℕ → Bool) (w : Windows) (told : Told) : Type 0 w
   pub start-bound : (v : Narrowed) → told .outcome ≡ answered v → (k : ℕ) → k < w .n
       → (m : ℕ → ℕ) → Keeping whole (v .windows) k m → (s : ℕ) → IsStart (w .h) m k s → s ≤ told .start k
   -- the early plan is document 01's, is such a plan, and has that end
-  pub early-is : (v : Narrowed) → told .outcome ≡ answered v → (k : ℕ) → k < w .n → IsEarly whole (v .windows) k (told .end k) (told .early k)
+  pub early-is : (v : Narrowed) → told .outcome ≡ answered v → (k : ℕ) → k < w .n
+      → IsEarly whole (v .windows) k (told .end k) (told .early k)
   -- the late plan is document 01's, is such a plan, and has that start
-  pub late-is : (v : Narrowed) → told .outcome ≡ answered v → (k : ℕ) → k < w .n → IsLate whole (v .windows) k (told .start k) (told .late k)
+  pub late-is : (v : Narrowed) → told .outcome ≡ answered v → (k : ℕ) → k < w .n
+      → IsLate whole (v .windows) k (told .start k) (told .late k)

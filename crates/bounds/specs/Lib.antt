@@ -3,4 +3,5 @@ pub mod ShownPlans
 pub mod BrokenEntries
 pub mod Demand3
 pub mod Calls
+pub mod Examples
 pub mod Parts

@@ -8,23 +8,22 @@ use Rattle.list.specs.Outcomes.{Outcome}
 use Rattle.list.specs.declared.types.DayList.{DayList}
 use Rattle.jackson.specs.Windows.{Windows, windowsOf, windowsIn}
 use Rattle.jackson.specs.Plans.{Plan, placesIn}
-use Rattle.jackson.specs.Intervals.{overloadOf}
 use Rattle.jackson.specs.declared.types.WindowSet.{WindowSet}
 use Rattle.narrow.specs.Laws.{Formed}
 use Rattle.narrow.specs.Calls.{AnswersAs, HoldsAnswer}
 use Rattle.narrow.specs.declared.types.NarrowAnswer.{NarrowAnswer}
-use Rattle.bounds.specs.Ends.{leastEnd}
-use Rattle.bounds.specs.Calls.{narrowAfter, earlyOf}
+use Rattle.bounds.specs.declared.shown.Shown.{Shown}
+use Rattle.bounds.specs.Calls.{narrowAfter, boundOf, shownPlan}
 
 -- arrays with windows that have room, one for each entry of the list
 pub record HoldsFormed (l : DayList) (s : WindowSet) : Type 0 where
   pub formed : Formed (windowsIn s)
   pub count : windowsIn s .n ≡ l .n
 
--- the least end of entry k is answered, and the early plan stands in a plan buffer that held old
-pub record StoresEarly (whole : ℕ → Bool) (w : Windows) (k : ℕ) (old : List ℕ) (e : ℕ) (new : List ℕ) : Type 0 where
-  pub bound : e ≡ leastEnd overloadOf whole w k
-  pub buffer : new ≡ earlyOf whole k w ++ drop (w .h) old
+-- the bound of entry k is answered, and the plan shown stands in a plan buffer that held old
+pub record Stores (x : Shown) (whole : ℕ → Bool) (w : Windows) (k : ℕ) (old : List ℕ) (b : ℕ) (new : List ℕ) : Type 0 where
+  pub bound : b ≡ boundOf x whole k w
+  pub buffer : new ≡ shownPlan x whole k w ++ drop (w .h) old
 
 -- the first h bytes are a plan of the list
 pub record HoldsPlan (l : DayList) (h : ℕ) (bytes : List ℕ) : Type 0 where

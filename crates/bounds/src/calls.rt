@@ -3,11 +3,10 @@ use crate::broken::broken_in;
 use crate::ends::greatest_starts;
 use crate::ends::least_ends;
 use crate::ends::whole_at;
-use crate::shown::mirror_plan;
-use crate::shown::store_early;
+use crate::shown::Shown;
+use crate::shown::store_shown;
 use crate::types::PlanAnswer;
 use crate::types::ShownAnswer;
-use jackson::mirrored;
 use jackson::untested_schedule;
 use jackson::untested_windows;
 use jackson::zeros;
@@ -20,7 +19,7 @@ ghost use mathlib.Core.Path.{_≡_};
 ghost use Rattle.list.specs.Outcomes.{answered};
 ghost use Rattle.list.specs.Refusals.{verdictOf};
 ghost use Rattle.list.specs.Checks.{WellFormed};
-ghost use Rattle.bounds.specs.Calls.{planChecks, shownChecks, PlansDay, ShowsEarly, ShowsLate};
+ghost use Rattle.bounds.specs.Calls.{planChecks, shownChecks, PlansDay, Shows, ShowsEarly, ShowsLate};
 ghost use Rattle.bounds.specs.Parts.{NarrowsAfter};
 
 // The value check, then row 11.
@@ -88,10 +87,9 @@ pub fn plan_day(list: DayList, plan: &mut [u8]) -> PlanAnswer
     }
 }
 
-// Shows the early plan of place k: the value check, rows 13 and 11, narrowing as for a plan, and Jackson's schedule with k's d set to its
-// least end.
-pub fn show_early(list: DayList, k: usize, plan: &mut [u8]) -> ShownAnswer
-    ensures { λ a. ⌜ ShowsEarly list k (now (plan .entry)) a (now (plan .exit)) ⌝ }
+// Shows a plan of place k: the value check, rows 13 and 11, narrowing as for a day's plan, and the plan in the settled windows.
+fn show_plan(shown: Shown, list: DayList, k: usize, plan: &mut [u8]) -> ShownAnswer
+    ensures { λ a. ⌜ Shows shown list k (now (plan .entry)) a (now (plan .exit)) ⌝ }
 {
     let narrowed = settled_after(shown_checks(list, k, plan.len()), list);
     let verdict = narrowed.verdict;
@@ -104,29 +102,26 @@ pub fn show_early(list: DayList, k: usize, plan: &mut [u8]) -> ShownAnswer
     let settled = narrowed.list;
     ShownAnswer {
         narrowed: narrowed,
-        bound: store_early(untested_windows(settled), k, whole_at(settled, k), plan),
+        bound: store_shown(
+            shown,
+            untested_windows(settled),
+            k,
+            whole_at(settled, k),
+            plan,
+        ),
     }
 }
 
-// Shows the late plan of place k: as the early one, but in the mirror, and the plan is mirrored in turn.
+// Shows the early plan of place k: Jackson's schedule with k's d set to its least end.
+pub fn show_early(list: DayList, k: usize, plan: &mut [u8]) -> ShownAnswer
+    ensures { λ a. ⌜ ShowsEarly list k (now (plan .entry)) a (now (plan .exit)) ⌝ }
+{
+    show_plan(Shown::Early, list, k, plan)
+}
+
+// Shows the late plan of place k: the mirror of Jackson's schedule of the mirrored list, k's r set first to its greatest start.
 pub fn show_late(list: DayList, k: usize, plan: &mut [u8]) -> ShownAnswer
     ensures { λ a. ⌜ ShowsLate list k (now (plan .entry)) a (now (plan .exit)) ⌝ }
 {
-    let narrowed = settled_after(shown_checks(list, k, plan.len()), list);
-    let verdict = narrowed.verdict;
-    let Verdict::Accepted = verdict else {
-        return ShownAnswer {
-            narrowed: narrowed,
-            bound: 0,
-        };
-    };
-    let settled = narrowed.list;
-    let windows = untested_windows(settled);
-    let mirror = mirrored(windows);
-    let end = store_early(mirror, k, whole_at(settled, k), plan);
-    mirror_plan(windows.h as usize, plan);
-    ShownAnswer {
-        narrowed: narrowed,
-        bound: windows.h - end,
-    }
+    show_plan(Shown::Late, list, k, plan)
 }

@@ -1,5 +1,6 @@
 // Plans that are shown for a place.
 use crate::ends::least_end;
+use jackson::mirrored;
 use jackson::types::WindowSet;
 use jackson::untested_schedule;
 ghost use mathlib.Core.Path.{_≡_};
@@ -9,13 +10,20 @@ ghost use lib.ListN.{length, drop};
 ghost use Rattle.jackson.specs.Windows.{windowsIn};
 ghost use Rattle.jackson.specs.Mirrors.{mirrorBytes};
 ghost use Rattle.narrow.specs.Parts.{Searchable};
-ghost use Rattle.bounds.specs.Parts.{StoresEarly};
+ghost use Rattle.bounds.specs.declared.shown.Shown.the-variants.{Early, Late};
+ghost use Rattle.bounds.specs.Parts.{Stores};
+
+// Which of a place's two plans is shown.
+pub(crate) enum Shown {
+    Early,
+    Late,
+}
 
 // Stores Jackson's schedule with entry k's d set to its least end, and answers that end.
-pub(crate) fn store_early(windows: WindowSet, k: usize, whole: bool, plan: &mut [u8]) -> u16
+fn store_early(windows: WindowSet, k: usize, whole: bool, plan: &mut [u8]) -> u16
     requires { ⌜ Searchable windows k ⌝ }
     requires { ⌜ windows .h ≤ length (now plan) ⌝ }
-    ensures { λ e. ⌜ StoresEarly (λ _. whole) (windowsIn windows) k (now (plan .entry)) e (now (plan .exit)) ⌝ }
+    ensures { λ e. ⌜ Stores Early (λ _. whole) (windowsIn windows) k (now (plan .entry)) e (now (plan .exit)) ⌝ }
 {
     let end = least_end(windows, k, whole);
     let mut shown = windows;
@@ -25,7 +33,7 @@ pub(crate) fn store_early(windows: WindowSet, k: usize, whole: bool, plan: &mut 
 }
 
 // Mirrors the plan of h minutes in its buffer: "minute t becomes H-1-t".
-pub(crate) fn mirror_plan(h: usize, plan: &mut [u8])
+fn mirror_plan(h: usize, plan: &mut [u8])
     requires { ⌜ h ≤ length (now plan) ⌝ }
     ensures { λ _. ⌜ now (plan .exit) ≡ mirrorBytes h (now (plan .entry)) ++ drop h (now (plan .entry)) ⌝ }
 {
@@ -37,5 +45,34 @@ pub(crate) fn mirror_plan(h: usize, plan: &mut [u8])
         plan[first] = plan[end];
         plan[end] = place;
         first += 1;
+    }
+}
+
+// Stores the mirror of the mirrored windows' early plan of entry k, and answers the mirror of its end.
+fn store_late(windows: WindowSet, k: usize, whole: bool, plan: &mut [u8]) -> u16
+    requires { ⌜ Searchable windows k ⌝ }
+    requires { ⌜ windows .h ≤ length (now plan) ⌝ }
+    ensures { λ s. ⌜ Stores Late (λ _. whole) (windowsIn windows) k (now (plan .entry)) s (now (plan .exit)) ⌝ }
+{
+    let end = store_early(mirrored(windows), k, whole, plan);
+    mirror_plan(windows.h as usize, plan);
+    windows.h - end
+}
+
+// Stores the plan of entry k that is to be shown, and answers its bound.
+pub(crate) fn store_shown(
+    shown: Shown,
+    windows: WindowSet,
+    k: usize,
+    whole: bool,
+    plan: &mut [u8],
+) -> u16
+    requires { ⌜ Searchable windows k ⌝ }
+    requires { ⌜ windows .h ≤ length (now plan) ⌝ }
+    ensures { λ b. ⌜ Stores shown (λ _. whole) (windowsIn windows) k (now (plan .entry)) b (now (plan .exit)) ⌝ }
+{
+    match shown {
+        Shown::Early => store_early(windows, k, whole, plan),
+        Shown::Late => store_late(windows, k, whole, plan),
     }
 }

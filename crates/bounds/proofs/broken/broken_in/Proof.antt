@@ -19,13 +19,16 @@ cast-count : tie.Need-cast-count Inv-loop μ-loop
 cast-count c = search needs
 
 loop-holds : tie.Need-loop-holds Inv-loop μ-loop
-loop-holds c = counted-none _ _ _ (c .before .before .pre)
+loop-holds c = counted-none (c .before .before .pre)
 
 one-broken-requires : tie.Need-one-broken-requires Inv-loop μ-loop
 one-broken-requires c κs = (c .before .before .before .before .pre, c .loop-test .taken)
 
 add-sum : tie.Need-add-sum Inv-loop μ-loop
-add-sum c = search (needs, c .before .before .loop .inv .small, c .before .before .loop .inv .few, counted-next _ _ _ (c .before .before .before .before .before .pre) _ _ (c .before .before .loop .inv) (c .before .loop-test .taken) _ (c .one-broken .ensures) .small)
+add-sum c =
+    let so = c .before .before .loop .inv in
+    let next = counted-next (c .before .before .before .before .before .pre) so (c .before .loop-test .taken) (c .one-broken .ensures) in
+    search (needs, so .small, so .few, next .small)
 
 add-i : tie.Need-add-i Inv-loop μ-loop
 add-i c = search (needs, c .before .before .loop .inv .few)
@@ -34,10 +37,14 @@ loop-less : tie.Need-loop-less Inv-loop μ-loop
 loop-less c = search needs
 
 loop-again : tie.Need-loop-again Inv-loop μ-loop
-loop-again c = counted-next _ _ _ (c .before .before .before .before .before .pre) _ _ (c .before .before .loop .inv) (c .before .loop-test .taken) _ (c .one-broken .ensures)
+loop-again c =
+    counted-next (c .before .before .before .before .before .pre) (c .before .before .loop .inv) (c .before .loop-test .taken) (c .one-broken .ensures)
 
 returns : tie.Need-returns Inv-loop μ-loop
-returns c = let len : length (c .before .before .before .before .args .list .entries) ≡ 64 = search (needs, length-mapped) in counted-all _ _ _ (c .before .before .before .before .pre) _ _ (c .before .loop .inv) len (c .loop-test .left)
+returns c =
+    let start = c .before .before .before .before in
+    let long : length (start .args .list .entries) ≡ 64 = search (needs, length-mapped) in
+    counted-all (start .pre) (c .before .loop .inv) long (c .loop-test .left)
 
 pub broken-in-spec : {M : Type 1} → statement M
 broken-in-spec =

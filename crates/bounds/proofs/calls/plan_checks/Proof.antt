@@ -15,16 +15,22 @@ enum-told-2 : tie.Need-enum-told-2
 enum-told-2 c = search needs
 
 returns : tie.Need-returns
-returns c = plan-failed (c .before .before .before .args .list) _ (c .before .before .check .ensures) _ (c .enum-told2 .given .1) (c .before .before .before .args .room)
+returns c =
+    let args = c .before .before .before .args in
+    plan-failed (args .list) _ (c .before .before .check .ensures) _ (c .enum-told2 .given .1) (args .room)
 
 cast-h : tie.Need-cast-h
 cast-h c = search needs
 
 returns-2 : tie.Need-returns-2
-returns-2 c = buffer-short (c .before .before .before .before .before .args .list) _ (c .before .before .before .before .check .ensures) (c .before .before .before .before .before .args .room) (c .before .before .enum-told .given .1) (c .if1 .taken)
+returns-2 c =
+    let args = c .before .before .before .before .before .args in
+    buffer-short (args .list) _ (c .before .before .before .before .check .ensures) (args .room) (c .before .before .enum-told .given .1) (c .if1 .taken)
 
 returns-3 : tie.Need-returns-3
-returns-3 c = buffer-fine (c .before .before .before .before .before .args .list) _ (c .before .before .before .before .check .ensures) (c .before .before .before .before .before .args .room) (c .before .before .enum-told .given .1) (c .if1 .left)
+returns-3 c =
+    let args = c .before .before .before .before .before .args in
+    buffer-fine (args .list) _ (c .before .before .before .before .check .ensures) (args .room) (c .before .before .enum-told .given .1) (c .if1 .left)
 
 pub plan-checks-spec : {M : Type 1} → statement M
 plan-checks-spec =

@@ -3,16 +3,33 @@
 use borrow.Author.Needs.{needs}
 use mathlib.Core.Path.{sym, _∙_}
 use lib.ListN.{length}
-use Rattle.bounds.proofs.CallCases.{plan-formed}
-use Rattle.bounds.proofs.AnswerCases.{plan-refused, plan-formed-in, plan-holds, plan-same-length, plan-done}
+use Rattle.bounds.specs.Calls.{planChecks}
+use Rattle.bounds.specs.Parts.{NarrowsAfter}
+use Rattle.bounds.proofs.CallCases.{plan-formed, Ready, plan-ready, ready-formed, plan-held, plan-long}
+use Rattle.bounds.proofs.AnswerCases.{plan-refused, plan-done}
 use Rattle.bounds.proofs.calls.plan_day.Statement.{statement}
 use Rattle.bounds.proofs.calls.plan_day.Tie as tie
+
+-- narrowing after the checks
+narrowed : (c : tie.After-settled-after)
+    → let args = c .before .before .before .args in
+    NarrowsAfter (planChecks (args .list) (length (args .plan .now))) (args .list) (c .settled-after .result)
+narrowed c = rw (c .before .plan-checks .ensures) at (c .settled-after .ensures)
+
+-- where nothing was refused
+ready : (c : tie.After-untested-windows)
+    → let args = c .before .before .before .before .before .before .before .args in
+    Ready (planChecks (args .list) (length (args .plan .now))) (args .list) (args .plan .now)
+    (c .before .before .before .before .settled-after .result) (c .untested-windows .result)
+ready c = plan-ready (narrowed (c .before .before .before .before)) (c .before .before .enum-told .given .1) (c .untested-windows .ensures)
 
 plan-checks-requires : tie.Need-plan-checks-requires
 plan-checks-requires c κs = search needs
 
 settled-after-requires : tie.Need-settled-after-requires
-settled-after-requires c κs = λ e. plan-formed (c .before .before .args .list) (length (c .before .before .args .plan .now)) (sym (c .plan-checks .ensures) ∙ e)
+settled-after-requires c κs =
+    let args = c .before .before .args in
+    λ e. plan-formed (args .list) (length (args .plan .now)) (sym (c .plan-checks .ensures) ∙ e)
 
 enum-told : tie.Need-enum-told
 enum-told c = search needs
@@ -27,7 +44,8 @@ zeros-requires-2 : tie.Need-zeros-requires-2
 zeros-requires-2 c κs = search needs
 
 returns : tie.Need-returns
-returns c = plan-refused (c .before .before .before .before .before .before .before .args .list) (c .before .before .before .before .before .before .before .args .plan .now) (c .before .before .before .before .before .plan-checks .result) (c .before .before .before .before .before .plan-checks .ensures) (c .before .before .before .before .settled-after .result) (c .before .before .before .before .settled-after .ensures) _ (c .before .before .enum-told2 .given .1) _ _ (c .before .zeros .ensures) (c .zeros2 .ensures)
+returns c =
+    plan-refused (narrowed (c .before .before .before .before)) (c .before .before .enum-told2 .given .1) (c .before .zeros .ensures) (c .zeros2 .ensures)
 
 untested-windows-requires : tie.Need-untested-windows-requires
 untested-windows-requires c κs = search needs
@@ -39,19 +57,23 @@ cast-broken-in : tie.Need-cast-broken-in
 cast-broken-in c = search needs
 
 broken-in-requires : tie.Need-broken-in-requires
-broken-in-requires c κs = plan-holds (c .before .before .before .before .before .before .before .before .before .before .before .before .before .args .list) (c .before .before .before .before .before .before .before .before .before .before .before .before .before .args .plan .now) (c .before .before .before .before .before .before .before .before .before .before .before .plan-checks .result) (c .before .before .before .before .before .before .before .before .before .before .before .plan-checks .ensures) (c .before .before .before .before .before .before .before .before .before .before .settled-after .result) (c .before .before .before .before .before .before .before .before .before .before .settled-after .ensures) (c .before .before .before .before .before .before .before .before .enum-told .given .1) (c .before .before .before .before .before .before .untested-windows .result) (c .before .before .before .before .before .before .untested-windows .ensures) (c .before .before .before .before .untested-schedule .result) _ (c .before .before .before .before .untested-schedule .ensures)
+broken-in-requires c κs = plan-held (ready (c .before .before .before .before .before .before)) (c .before .before .before .before .untested-schedule .ensures)
 
 least-ends-requires : tie.Need-least-ends-requires
-least-ends-requires c κs = plan-formed-in (c .before .before .before .before .before .before .before .before .before .before .before .before .before .before .args .list) (c .before .before .before .before .before .before .before .before .before .before .before .before .before .before .args .plan .now) (c .before .before .before .before .before .before .before .before .before .before .before .before .plan-checks .result) (c .before .before .before .before .before .before .before .before .before .before .before .before .plan-checks .ensures) (c .before .before .before .before .before .before .before .before .before .before .before .settled-after .result) (c .before .before .before .before .before .before .before .before .before .before .before .settled-after .ensures) (c .before .before .before .before .before .before .before .before .before .enum-told .given .1) (c .before .before .before .before .before .before .before .untested-windows .result) (c .before .before .before .before .before .before .before .untested-windows .ensures)
+least-ends-requires c κs = ready-formed (ready (c .before .before .before .before .before .before .before))
 
 greatest-starts-requires : tie.Need-greatest-starts-requires
-greatest-starts-requires c κs = plan-formed-in (c .before .before .before .before .before .before .before .before .before .before .before .before .before .before .before .args .list) (c .before .before .before .before .before .before .before .before .before .before .before .before .before .before .before .args .plan .now) (c .before .before .before .before .before .before .before .before .before .before .before .before .before .plan-checks .result) (c .before .before .before .before .before .before .before .before .before .before .before .before .before .plan-checks .ensures) (c .before .before .before .before .before .before .before .before .before .before .before .before .settled-after .result) (c .before .before .before .before .before .before .before .before .before .before .before .before .settled-after .ensures) (c .before .before .before .before .before .before .before .before .before .before .enum-told .given .1) (c .before .before .before .before .before .before .before .before .untested-windows .result) (c .before .before .before .before .before .before .before .before .untested-windows .ensures)
+greatest-starts-requires c κs = ready-formed (ready (c .before .before .before .before .before .before .before .before))
 
 same-length : tie.Need-same-length
-same-length c = plan-same-length (c .before .before .before .before .before .before .before .before .before .before .before .before .before .before .before .before .args .list) (c .before .before .before .before .before .before .before .before .before .before .before .before .before .before .before .before .args .plan .now) (c .before .before .before .before .before .before .before .before .before .before .before .before .before .before .plan-checks .result) (c .before .before .before .before .before .before .before .before .before .before .before .before .before .before .plan-checks .ensures) (c .before .before .before .before .before .before .before .before .before .before .before .before .before .settled-after .result) (c .before .before .before .before .before .before .before .before .before .before .before .before .before .settled-after .ensures) (c .before .before .before .before .before .before .before .before .before .before .before .enum-told .given .1) (c .before .before .before .before .before .before .before .before .before .untested-windows .result) (c .before .before .before .before .before .before .before .before .before .untested-windows .ensures) (c .before .before .before .before .before .before .before .untested-schedule .result) _ (c .before .before .before .before .before .before .before .untested-schedule .ensures)
+same-length c =
+    plan-long (ready (c .before .before .before .before .before .before .before .before .before)) (c .before .before .before .before .before .before .before .untested-schedule .ensures)
 
 returns-2 : tie.Need-returns-2
-returns-2 c = plan-done (c .before .before .before .before .before .before .before .before .before .before .before .before .before .before .before .before .args .list) (c .before .before .before .before .before .before .before .before .before .before .before .before .before .before .before .before .args .plan .now) (c .before .before .before .before .before .before .before .before .before .before .before .before .before .before .plan-checks .result) (c .before .before .before .before .before .before .before .before .before .before .before .before .before .before .plan-checks .ensures) (c .before .before .before .before .before .before .before .before .before .before .before .before .before .settled-after .result) (c .before .before .before .before .before .before .before .before .before .before .before .before .before .settled-after .ensures) (c .before .before .before .before .before .before .before .before .before .before .before .enum-told .given .1) (c .before .before .before .before .before .before .before .before .before .untested-windows .result) (c .before .before .before .before .before .before .before .before .before .untested-windows .ensures) (c .before .before .before .before .before .before .before .untested-schedule .result) _ (c .before .before .before .before .before .before .before .untested-schedule .ensures) _ _ _ (c .before .before .broken-in .ensures) (c .before .least-ends .ensures) (c .greatest-starts .ensures)
+returns-2 c =
+    let all = ready (c .before .before .before .before .before .before .before .before .before) in
+    let filled = c .before .before .before .before .before .before .before .untested-schedule .ensures in
+    plan-done all filled (c .before .before .broken-in .ensures) (c .before .least-ends .ensures) (c .greatest-starts .ensures)
 
 pub plan-day-spec : {M : Type 1} → statement M
 plan-day-spec =

@@ -17,13 +17,18 @@ refused-with-requires : tie.Need-refused-with-requires
 refused-with-requires c κs = search needs
 
 returns : tie.Need-returns
-returns c = narrows-not (c .before .before .before .args .list) (c .before .before .before .args .checks) _ _ (c .before .enum-told2 .given .1) (c .refused-with .ensures)
+returns c =
+    let args = c .before .before .before .args in
+    narrows-not (args .list) (args .checks) _ _ (c .before .enum-told2 .given .1) (c .refused-with .ensures)
 
 settle-requires : tie.Need-settle-requires
 settle-requires c κs = search needs
 
 returns-2 : tie.Need-returns-2
-returns-2 c = narrows-settled (c .before .before .before .args .list) (c .before .before .before .args .checks) _ (c .before .enum-told .given .1) (c .before .before .before .pre (ap verdictOf (c .before .enum-told .given .1))) (c .settle .ensures)
+returns-2 c =
+    let start = c .before .before .before in
+    let passed = c .before .enum-told .given .1 in
+    narrows-settled (start .args .list) (start .args .checks) _ passed (start .pre (ap verdictOf passed)) (c .settle .ensures)
 
 pub settled-after-spec : {M : Type 1} → statement M
 settled-after-spec =

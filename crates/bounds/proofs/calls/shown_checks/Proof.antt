@@ -15,19 +15,27 @@ enum-told-2 : tie.Need-enum-told-2
 enum-told-2 c = search needs
 
 returns : tie.Need-returns
-returns c = shown-failed (c .before .before .before .args .list) _ (c .before .before .check .ensures) _ (c .enum-told2 .given .1) (c .before .before .before .args .k) (c .before .before .before .args .room)
+returns c =
+    let args = c .before .before .before .args in
+    shown-failed (args .list) _ (c .before .before .check .ensures) _ (c .enum-told2 .given .1) (args .k) (args .room)
 
 cast-if1 : tie.Need-cast-if1
 cast-if1 c = search needs
 
 returns-2 : tie.Need-returns-2
-returns-2 c = place-unknown (c .before .before .before .before .before .args .list) _ (c .before .before .before .before .check .ensures) (c .before .before .before .before .before .args .room) (c .before .before .enum-told .given .1) (c .before .before .before .before .before .args .k) (c .if1 .taken)
+returns-2 c =
+    let args = c .before .before .before .before .before .args in
+    place-unknown (args .list) _ (c .before .before .before .before .check .ensures) (args .room) (c .before .before .enum-told .given .1) (args .k)
+    (c .if1 .taken)
 
 plan-checks-requires : tie.Need-plan-checks-requires
 plan-checks-requires c κs = search needs
 
 returns-3 : tie.Need-returns-3
-returns-3 c = place-known (c .before .before .before .before .before .before .args .list) _ (c .before .before .before .before .before .check .ensures) (c .before .before .before .before .before .before .args .room) (c .before .before .before .enum-told .given .1) (c .before .before .before .before .before .before .args .k) (c .before .if1 .left) (c .plan-checks .result) (c .plan-checks .ensures)
+returns-3 c =
+    let args = c .before .before .before .before .before .before .args in
+    place-known (args .list) _ (c .before .before .before .before .before .check .ensures) (args .room) (c .before .before .before .enum-told .given .1) (args .k)
+    (c .before .if1 .left) (c .plan-checks .result) (c .plan-checks .ensures)
 
 pub shown-checks-spec : {M : Type 1} → statement M
 shown-checks-spec =

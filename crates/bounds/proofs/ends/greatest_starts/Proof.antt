@@ -4,7 +4,8 @@ use borrow.Author.Needs.{needs}
 use mathlib.Core.Path.{refl, _∙_}
 use Prim.Native.Nat.{_-_}
 use lib.ListN.{getD}
-use Rattle.bounds.proofs.EndCases.{Placed, placed-none, placed-next, placed-all, formed-few, formed-in-mirror, mirror-end-in-day, starts-by-mirror}
+use Rattle.bounds.proofs.EndCases.{Placed, placed-none, placed-next, placed-all, formed-few}
+use Rattle.bounds.proofs.EndCases.{formed-in-mirror, mirror-end-in-day, starts-by-mirror}
 use Rattle.bounds.proofs.ends.greatest_starts.Statement.{statement}
 use Rattle.bounds.proofs.ends.greatest_starts.Tie as tie
 
@@ -18,7 +19,7 @@ mirrored-requires : tie.Need-mirrored-requires Inv-loop μ-loop
 mirrored-requires c κs = search needs
 
 least-ends-requires : tie.Need-least-ends-requires Inv-loop μ-loop
-least-ends-requires c κs = formed-in-mirror (c .before .args .list) (c .before .args .windows) (c .before .pre) _ (c .mirrored .ensures)
+least-ends-requires c κs = formed-in-mirror (c .before .pre) (c .mirrored .ensures)
 
 zeros-requires : tie.Need-zeros-requires Inv-loop μ-loop
 zeros-requires c κs = search needs
@@ -27,25 +28,27 @@ cast-count : tie.Need-cast-count Inv-loop μ-loop
 cast-count c = search needs
 
 loop-holds : tie.Need-loop-holds Inv-loop μ-loop
-loop-holds c = placed-none _ _ _ (formed-few (c .before .before .before .before .args .list) (c .before .before .before .before .args .windows) (c .before .before .before .before .pre)) (c .before .zeros .ensures)
+loop-holds c = placed-none _ _ _ (formed-few (c .before .before .before .before .pre)) (c .before .zeros .ensures)
 
 mul-starts : tie.Need-mul-starts Inv-loop μ-loop
-mul-starts c = search (needs, formed-few (c .before .before .before .before .before .before .args .list) (c .before .before .before .before .before .before .args .windows) (c .before .before .before .before .before .before .pre))
+mul-starts c = search (needs, formed-few (c .before .before .before .before .before .before .pre))
 
 array-read-starts : tie.Need-array-read-starts Inv-loop μ-loop
-array-read-starts c = search (needs, formed-few (c .before .before .before .before .before .before .args .list) (c .before .before .before .before .before .before .args .windows) (c .before .before .before .before .before .before .pre))
+array-read-starts c = search (needs, formed-few (c .before .before .before .before .before .before .pre))
 
 sub-starts : tie.Need-sub-starts Inv-loop μ-loop
-sub-starts c = mirror-end-in-day (c .before .before .before .before .before .before .args .list) (c .before .before .before .before .before .before .args .windows) (c .before .before .before .before .before .before .pre) (c .before .before .before .before .before .mirrored .result) (c .before .before .before .before .before .mirrored .ensures) (c .before .before .before .before .least-ends .result) (c .before .before .before .before .least-ends .ensures) _ (c .loop-test .taken)
+sub-starts c =
+    mirror-end-in-day (c .before .before .before .before .before .before .pre) (c .before .before .before .before .before .mirrored .ensures) (c .before .before .before .before .least-ends .ensures) _
+    (c .loop-test .taken)
 
 mul-starts-2 : tie.Need-mul-starts-2 Inv-loop μ-loop
-mul-starts-2 c = search (needs, formed-few (c .before .before .before .before .before .before .args .list) (c .before .before .before .before .before .before .args .windows) (c .before .before .before .before .before .before .pre))
+mul-starts-2 c = search (needs, formed-few (c .before .before .before .before .before .before .pre))
 
 array-write-starts : tie.Need-array-write-starts Inv-loop μ-loop
-array-write-starts c = search (needs, formed-few (c .before .before .before .before .before .before .args .list) (c .before .before .before .before .before .before .args .windows) (c .before .before .before .before .before .before .pre))
+array-write-starts c = search (needs, formed-few (c .before .before .before .before .before .before .pre))
 
 add-i : tie.Need-add-i Inv-loop μ-loop
-add-i c = search (needs, formed-few (c .before .before .before .before .before .before .args .list) (c .before .before .before .before .before .before .args .windows) (c .before .before .before .before .before .before .pre))
+add-i c = search (needs, formed-few (c .before .before .before .before .before .before .pre))
 
 loop-less : tie.Need-loop-less Inv-loop μ-loop
 loop-less c = search needs
@@ -54,7 +57,9 @@ loop-again : tie.Need-loop-again Inv-loop μ-loop
 loop-again c = placed-next _ _ _ _ _ (c .before .loop .inv) (c .loop-test .taken) refl
 
 returns : tie.Need-returns Inv-loop μ-loop
-returns c = placed-all _ _ _ _ (c .before .loop .inv) (c .loop-test .left) ∙ starts-by-mirror (c .before .before .before .before .before .before .args .list) (c .before .before .before .before .before .before .args .windows) (c .before .before .before .before .before .before .pre) (c .before .before .before .before .before .mirrored .result) (c .before .before .before .before .before .mirrored .ensures) (c .before .before .before .before .least-ends .result) (c .before .before .before .before .least-ends .ensures)
+returns c =
+    placed-all _ _ _ _ (c .before .loop .inv) (c .loop-test .left)
+    ∙ starts-by-mirror (c .before .before .before .before .before .before .pre) (c .before .before .before .before .before .mirrored .ensures) (c .before .before .before .before .least-ends .ensures)
 
 pub greatest-starts-spec : {M : Type 1} → statement M
 greatest-starts-spec =

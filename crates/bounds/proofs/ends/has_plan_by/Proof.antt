@@ -25,7 +25,13 @@ is-accepted-requires : tie.Need-is-accepted-requires
 is-accepted-requires c κs = search needs
 
 returns : tie.Need-returns
-returns c = let a : length (c .before .before .args .windows .d) ≡ 64 = search needs in c .is-accepted .ensures ∙ ap (λ (o : Outcome (Unit {0})). accepts o) (c .before .untested-overload .ensures) ∙ ap (λ (w : Windows). accepts (overloadOf w)) (held-d (c .before .before .args .windows) (c .before .before .args .k) (c .before .before .args .e) (omega (arith, a, c .before .before .pre)))
+returns c =
+    let args = c .before .before .args in
+    let long : length (args .windows .d) ≡ 64 = search needs in
+    let tried = held-d (args .windows) (args .k) (args .e) (omega (arith, long, c .before .before .pre)) in
+    c .is-accepted .ensures
+    ∙ ap (λ (o : Outcome (Unit {0})). accepts o) (c .before .untested-overload .ensures)
+    ∙ ap (λ (w : Windows). accepts (overloadOf w)) tried
 
 pub has-plan-by-spec : {M : Type 1} → statement M
 has-plan-by-spec =

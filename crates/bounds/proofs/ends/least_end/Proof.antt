@@ -33,19 +33,26 @@ element-copy-out-p : tie.Need-element-copy-out-p Inv-loop μ-loop
 element-copy-out-p c = search needs
 
 add-low : tie.Need-add-low Inv-loop μ-loop
-add-low c = search (needs, c .before .before .before .pre .formed .in-day _ (c .before .before .before .pre .place), c .before .before .before .pre .formed .room _ (c .before .before .before .pre .place))
+add-low c =
+    let pre = c .before .before .before .pre in
+    search (needs, pre .formed .in-day _ (pre .place), pre .formed .room _ (pre .place))
 
 returns : tie.Need-returns Inv-loop μ-loop
-returns c = whole-end (c .before .before .before .before .args .whole) (windowsIn (c .before .before .before .before .args .t1)) (c .before .before .before .before .args .k) (c .if1 .taken)
+returns c =
+    let args = c .before .before .before .before .args in
+    whole-end (args .whole) (windowsIn (args .t1)) (args .k) (c .if1 .taken)
 
 loop-holds : tie.Need-loop-holds Inv-loop μ-loop
-loop-holds c = halve-start (windowsIn (c .before .before .before .before .args .t1)) (c .before .before .before .before .pre .formed) _ (c .before .before .before .before .pre .place)
+loop-holds c = let pre = c .before .before .before .before .pre in halve-start (pre .formed) (pre .place)
 
 sub-middle : tie.Need-sub-middle Inv-loop μ-loop
 sub-middle c = search needs
 
 add-middle : tie.Need-add-middle Inv-loop μ-loop
-add-middle c = let m = middle-in _ _ (c .loop-test .taken) in search (needs, m .1, c .before .loop .inv .due, c .before .before .before .before .before .before .pre .formed .in-day _ (c .before .before .before .before .before .before .pre .place))
+add-middle c =
+    let m = middle-in _ _ (c .loop-test .taken) in
+    let pre = c .before .before .before .before .before .before .pre in
+    search (needs, m .1, c .before .loop .inv .due, pre .formed .in-day _ (pre .place))
 
 has-plan-by-requires : tie.Need-has-plan-by-requires Inv-loop μ-loop
 has-plan-by-requires c κs = search needs
@@ -54,19 +61,30 @@ loop-less : tie.Need-loop-less Inv-loop μ-loop
 loop-less c = let m = middle-in _ _ (c .before .before .loop-test .taken) in search (needs, m .0, m .1)
 
 loop-again : tie.Need-loop-again Inv-loop μ-loop
-loop-again c = halve-passed (windowsIn (c .before .before .before .before .before .before .before .before .args .t1)) (c .before .before .before .before .before .before .before .before .pre .formed) _ (c .before .before .before .before .before .before .before .before .pre .place) _ _ (c .before .before .before .loop .inv) (c .before .before .loop-test .taken) (sym (c .before .has-plan-by .ensures) ∙ c .if2 .taken)
+loop-again c =
+    let pre = c .before .before .before .before .before .before .before .before .pre in
+    halve-passed (pre .formed) (pre .place) (c .before .before .before .loop .inv) (c .before .before .loop-test .taken)
+    (sym (c .before .has-plan-by .ensures) ∙ c .if2 .taken)
 
 add-low-2 : tie.Need-add-low-2 Inv-loop μ-loop
-add-low-2 c = let m = middle-in _ _ (c .before .before .loop-test .taken) in search (needs, m .1, c .before .before .before .loop .inv .due, c .before .before .before .before .before .before .before .before .pre .formed .in-day _ (c .before .before .before .before .before .before .before .before .pre .place))
+add-low-2 c =
+    let m = middle-in _ _ (c .before .before .loop-test .taken) in
+    let pre = c .before .before .before .before .before .before .before .before .pre in
+    search (needs, m .1, c .before .before .before .loop .inv .due, pre .formed .in-day _ (pre .place))
 
 loop-less-2 : tie.Need-loop-less-2 Inv-loop μ-loop
 loop-less-2 c = let m = middle-in _ _ (c .before .before .loop-test .taken) in search (needs, m .0, m .1)
 
 loop-again-2 : tie.Need-loop-again-2 Inv-loop μ-loop
-loop-again-2 c = halve-failed (windowsIn (c .before .before .before .before .before .before .before .before .args .t1)) (c .before .before .before .before .before .before .before .before .pre .formed) _ (c .before .before .before .before .before .before .before .before .pre .place) _ _ (c .before .before .before .loop .inv) (c .before .before .loop-test .taken) (sym (c .before .has-plan-by .ensures) ∙ c .if2 .left)
+loop-again-2 c =
+    let pre = c .before .before .before .before .before .before .before .before .pre in
+    halve-failed (pre .formed) (pre .place) (c .before .before .before .loop .inv) (c .before .before .loop-test .taken)
+    (sym (c .before .has-plan-by .ensures) ∙ c .if2 .left)
 
 returns-2 : tie.Need-returns-2 Inv-loop μ-loop
-returns-2 c = halve-done (windowsIn (c .before .before .before .before .before .before .args .t1)) (c .before .before .before .before .before .before .pre .formed) _ (c .before .before .before .before .before .before .pre .place) _ (c .before .before .if1 .left) _ _ (c .before .loop .inv) (c .loop-test .left)
+returns-2 c =
+    let pre = c .before .before .before .before .before .before .pre in
+    halve-done (pre .formed) (pre .place) (c .before .before .if1 .left) (c .before .loop .inv) (c .loop-test .left)
 
 pub least-end-spec : {M : Type 1} → statement M
 least-end-spec =

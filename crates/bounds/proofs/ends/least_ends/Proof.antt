@@ -7,7 +7,8 @@ use Rattle.jackson.specs.Windows.{windowsIn}
 use Rattle.jackson.specs.Intervals.{overloadOf}
 use Rattle.narrow.specs.Calls.{wholeIn}
 use Rattle.bounds.specs.Ends.{leastEnd}
-use Rattle.bounds.proofs.EndCases.{least-end-kind, Placed, placed-none, placed-next, placed-all, formed-few, searchable-at}
+use Rattle.bounds.specs.declared.shown.Shown.the-variants.{Early}
+use Rattle.bounds.proofs.EndCases.{bound-kind, Placed, placed-none, placed-next, placed-all, formed-few, searchable-at}
 use Rattle.bounds.proofs.ends.least_ends.Statement.{statement}
 use Rattle.bounds.proofs.ends.least_ends.Tie as tie
 
@@ -24,28 +25,30 @@ cast-count : tie.Need-cast-count Inv-loop μ-loop
 cast-count c = search needs
 
 loop-holds : tie.Need-loop-holds Inv-loop μ-loop
-loop-holds c = placed-none _ _ _ (formed-few _ _ (c .before .before .pre)) (c .before .zeros .ensures)
+loop-holds c = placed-none _ _ _ (formed-few (c .before .before .pre)) (c .before .zeros .ensures)
 
 whole-at-requires : tie.Need-whole-at-requires Inv-loop μ-loop
-whole-at-requires c κs = (c .loop-test .taken, formed-few _ _ (c .before .before .before .before .pre))
+whole-at-requires c κs = (c .loop-test .taken, formed-few (c .before .before .before .before .pre))
 
 least-end-requires : tie.Need-least-end-requires Inv-loop μ-loop
-least-end-requires c κs = searchable-at _ _ (c .before .before .before .before .before .pre) _ (c .before .loop-test .taken)
+least-end-requires c κs = searchable-at (c .before .before .before .before .before .pre) _ (c .before .loop-test .taken)
 
 mul-ends : tie.Need-mul-ends Inv-loop μ-loop
-mul-ends c = search (needs, formed-few _ _ (c .before .before .before .before .before .before .pre))
+mul-ends c = search (needs, formed-few (c .before .before .before .before .before .before .pre))
 
 array-write-ends : tie.Need-array-write-ends Inv-loop μ-loop
-array-write-ends c = search (needs, formed-few _ _ (c .before .before .before .before .before .before .pre))
+array-write-ends c = search (needs, formed-few (c .before .before .before .before .before .before .pre))
 
 add-i : tie.Need-add-i Inv-loop μ-loop
-add-i c = search (needs, formed-few _ _ (c .before .before .before .before .before .before .pre))
+add-i c = search (needs, formed-few (c .before .before .before .before .before .before .pre))
 
 loop-less : tie.Need-loop-less Inv-loop μ-loop
 loop-less c = search needs
 
 loop-again : tie.Need-loop-again Inv-loop μ-loop
-loop-again c = placed-next _ _ _ _ _ (c .before .before .before .loop .inv) (c .before .before .loop-test .taken) (c .least-end .ensures ∙ least-end-kind _ _ _ _ (c .before .whole-at .ensures))
+loop-again c =
+    let end = c .least-end .ensures ∙ bound-kind Early _ _ _ _ (c .before .whole-at .ensures) in
+    placed-next _ _ _ _ _ (c .before .before .before .loop .inv) (c .before .before .loop-test .taken) end
 
 returns : tie.Need-returns Inv-loop μ-loop
 returns c = placed-all _ _ _ _ (c .before .loop .inv) (c .loop-test .left)

@@ -26,7 +26,15 @@ same-length : tie.Need-same-length
 same-length c = search needs
 
 returns : tie.Need-returns
-returns c = let a : length (c .before .before .before .before .before .before .args .windows .d) ≡ 64 = search needs in stored-early (λ _. c .before .before .before .before .before .before .args .whole) (windowsIn (c .before .before .before .before .before .before .args .windows)) _ (c .before .before .before .before .before .before .args .k) (c .before .before .before .before .least-end .result) (c .before .before .before .before .before .before .args .plan .now) (c .before .before .untested-schedule .result) _ (held-d (c .before .before .before .before .before .before .args .windows) (c .before .before .before .before .before .before .args .k) (c .before .before .before .before .least-end .result) (omega (arith, a, c .before .before .before .before .before .before .pre .0 .place))) (c .before .before .untested-schedule .ensures) (c .before .before .before .before .before .before .pre .1) (c .before .before .before .before .least-end .ensures)
+returns c =
+    let start = c .before .before .before .before .before .before in
+    let args = start .args in
+    let found = c .before .before .before .before .least-end in
+    let filled = c .before .before .untested-schedule in
+    let long : length (args .windows .d) ≡ 64 = search needs in
+    let same = held-d (args .windows) (args .k) (found .result) (omega (arith, long, start .pre .0 .place)) in
+    stored-early (λ _. args .whole) (windowsIn (args .windows)) _ (args .k) (found .result) (args .plan .now) (filled .result) _ same
+    (filled .ensures) (start .pre .1) (found .ensures)
 
 pub store-early-spec : {M : Type 1} → statement M
 store-early-spec =
