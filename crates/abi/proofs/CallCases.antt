@@ -24,10 +24,10 @@ use Rattle.bounds.specs.Calls.{settledOr, shownOf, PlansDay, ShowsPlan, ShowsEa
 use Rattle.bounds.specs.Demand3.{Told}
 use Rattle.bounds.specs.declared.types.PlanAnswer.{PlanAnswer}
 use Rattle.bounds.specs.declared.types.ShownAnswer.{ShownAnswer}
-use Rattle.report.specs.Calls.{Reports}
+use Rattle.report.specs.Calls.{StoresText}
 use Rattle.codes.specs.Numbers.{three}
 use Rattle.abi.specs.Flat.{flatOf, valueOf}
-use Rattle.abi.specs.Calls.{answerWith, ReadCall, WriteCall, OverloadCall, ScheduleCall, NarrowCall, PlanCall, ShownCall, EarlyCall, LateCall, ReportCall}
+use Rattle.abi.specs.Calls.{answerWith, ReadCall, WriteCall, OverloadCall, ScheduleCall, NarrowCall, PlanCall, ShownCall, EarlyCall, LateCall, TextCall}
 use Rattle.abi.specs.declared.Answer.{Answer}
 
 -- an answer made of a refusal
@@ -52,8 +52,8 @@ module _ (a : WriteAnswer) (b : Answer) (q : b ≡ answerWith (λ n. n ∷ []) (
       let of-value = subst (λ (k : DayList). Writes k old a new) p w in
       record { answer = q ∙ ap (answerWith (λ n. n ∷ [])) (of-value .outcome); buffer = of-value .buffer }
 
-  pub report-said : (bs : List ℕ) → Reports bs old a new → ReportCall bs old b new
-  report-said bs w = record { answer = q ∙ ap (answerWith (λ n. n ∷ [])) (w .outcome); buffer = w .buffer }
+  pub text-said : (o : Outcome (List ℕ)) → StoresText o old a new → TextCall o old b new
+  text-said o w = record { answer = q ∙ ap (answerWith (λ n. n ∷ [])) (w .outcome); buffer = w .buffer }
 
 module _ (xs : List ℕ) (l : DayList) (p : l ≡ valueOf xs) (v : Verdict) (b : Answer) (q : b ≡ answerWith (λ _. []) (verdictOf v)) where
   pub overload-said : Tests l v → OverloadCall xs b

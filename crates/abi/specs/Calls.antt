@@ -3,9 +3,9 @@ use Prim.Native.Nat.{ℕ}
 use mathlib.Core.Path.{_≡_}
 use mathlib.Core.List.{List, [], _∷_, _++_}
 use lib.ListN.{length}
-use Rattle.list.specs.Outcomes.{Outcome, answered, refused}
+use Rattle.list.specs.Outcomes.{code, Outcome, answered, refused}
 use Rattle.list.specs.Reading.{readOf}
-use Rattle.list.specs.Writing.{storing, stored, writeOf, bufferAfter}
+use Rattle.list.specs.Writing.{writeOf, bufferAfter}
 use Rattle.list.specs.declared.types.DayList.{DayList}
 use Rattle.jackson.specs.Windows.{Windows, windowsOf}
 use Rattle.jackson.specs.Testing.{testOf}
@@ -13,10 +13,11 @@ use Rattle.jackson.specs.Intervals.{overloadOf}
 use Rattle.jackson.specs.Minutes.{schedule}
 use Rattle.jackson.specs.Planning.{fillOf, planAfter}
 use Rattle.narrow.specs.Rounds.{Narrowed}
-use Rattle.narrow.specs.Calls.{wholeIn, settleOf, roundOf, listed}
+use Rattle.narrow.specs.Calls.{wholeIn, settleOf, listed}
 use Rattle.bounds.specs.Ends.{leastEnd, greatestStart}
 use Rattle.bounds.specs.Calls.{settledOr, planned, planOf, leastEnds, greatestStarts, brokenOf, shownOf, earlyOf, lateOf}
-use Rattle.report.specs.Reports.{reportOf}
+use Rattle.report.specs.Reports.{refusalLine, reportOf}
+use Rattle.report.specs.Calls.{storeOf, textAfter}
 use Rattle.codes.specs.Numbers.{three}
 use Rattle.abi.specs.Flat.{flatOf, valueOf}
 use Rattle.abi.specs.declared.Answer.{Answer}
@@ -60,12 +61,9 @@ pub record NarrowCall (o : Outcome (DayList × ℕ)) (second : ℕ) (old : List 
   pub answer : a ≡ answerWith (λ x. x .1 ∷ second ∷ []) o
   pub buffer : fields ≡ narrowedAfter o old
 
--- what `dock_settle` and `dock_round` answer of the list value that xs say, and leave in fields that held old: the moves alone
+-- what `dock_settle` answers of the list value that xs say, and leaves in fields that held old: the moves alone
 abbrev pub SettleCall : List ℕ → List ℕ → Answer → List ℕ → Type 0
 SettleCall xs = NarrowCall (listed (valueOf xs) (settleOf (valueOf xs))) 0
-
-abbrev pub RoundCall : List ℕ → List ℕ → Answer → List ℕ → Type 0
-RoundCall xs = NarrowCall (listed (valueOf xs) (roundOf (valueOf xs))) 0
 
 -- an answer where planning the list l has the outcome o, with the moves and the number of broken entries, and what it leaves in a plan
 -- buffer, fields and bounds that held the old ones: the bounds are the least ends, then the greatest starts
@@ -97,7 +95,15 @@ LateCall xs k oldPlan =
     let l = valueOf xs in
     ShownCall l (λ w. greatestStart overloadOf (wholeIn l) w k) (lateOf (wholeIn l) k) (shownOf l k (length oldPlan)) oldPlan
 
+-- what a call answers of a text, or of a refusal, and leaves in a buffer that held old: the number of bytes stored
+pub record TextCall (o : Outcome (List ℕ)) (old : List ℕ) (a : Answer) (out : List ℕ) : Type 0 where
+  pub answer : a ≡ answerWith (λ n. n ∷ []) (storeOf o (length old))
+  pub buffer : out ≡ textAfter o old
+
 -- what `dock_report` answers of the bytes bs, and leaves in a buffer that held old
-pub record ReportCall (bs old : List ℕ) (a : Answer) (out : List ℕ) : Type 0 where
-  pub answer : a ≡ answerWith (λ n. n ∷ []) (storing (reportOf bs) (length old))
-  pub buffer : out ≡ stored (storing (reportOf bs) (length old)) (reportOf bs) old
+abbrev pub ReportCall : List ℕ → List ℕ → Answer → List ℕ → Type 0
+ReportCall bs = TextCall (reportOf bs)
+
+-- what `dock_refusal_line` answers of a refusal's number and values, and leaves in a buffer that held old
+abbrev pub LineCall : ℕ → List ℕ → List ℕ → Answer → List ℕ → Type 0
+LineCall number values = TextCall (answered (refusalLine (code number values)))

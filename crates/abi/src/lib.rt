@@ -1,8 +1,8 @@
 // The planner's calls for programs in other languages: byte slices and numbers only.
 // Promises: each call answers 0 or a refusal's number of document 01, with its values, and leaves in its buffers what
 // specs/Calls.antt says, whatever the bytes and numbers are. What it cannot check are the pointers themselves: a caller lends
-// `bytes`, `out` and `plan` with their lengths, `fields` and `narrowed` with 450 numbers each and `bounds` with 128, and no two of them
-// overlap. Uses the crates list, jackson, narrow, bounds, report and codes.
+// `bytes`, `out` and `plan` with their lengths, `fields` and `narrowed` with 450 numbers each, `bounds` with 128 and `values` with 3, and no
+// two of them overlap. Uses the crates list, jackson, narrow, bounds, report and codes.
 mod flat;
 mod flat_bounds;
 
@@ -10,6 +10,7 @@ use bounds::plan_day;
 use bounds::show_early;
 use bounds::show_late;
 use bounds::types::PlanAnswer;
+use codes::RefusalCode;
 use flat::flat_of;
 use flat::list_in;
 use flat_bounds::joined;
@@ -23,7 +24,7 @@ ghost use Rattle.list.specs.Refusals.{codeOf, verdictOf, writeAnswerOf};
 ghost use Rattle.narrow.specs.Calls.{narrowAnswerOf, narrowedIn};
 ghost use Rattle.bounds.specs.Calls.{settledOr};
 ghost use Rattle.codes.specs.Numbers.{three};
-ghost use Rattle.abi.specs.Calls.{answerWith, ReadCall, WriteCall, OverloadCall, ScheduleCall, NarrowCall, SettleCall, RoundCall, PlanCall, EarlyCall, LateCall, ReportCall};
+ghost use Rattle.abi.specs.Calls.{answerWith, ReadCall, WriteCall, OverloadCall, ScheduleCall, NarrowCall, SettleCall, PlanCall, EarlyCall, LateCall, ReportCall, LineCall};
 
 // What a call answers: 0 or a refusal's number, and three values, 0 where there are fewer.
 #[repr(C)]
@@ -38,7 +39,7 @@ fn refused_as(x: Refusal) -> Answer
     let code = codes::numbers_of(x);
     let values = code.values;
     Answer {
-        number: code.number as u64,
+        number: code.number,
         values: values,
     }
 }
@@ -140,14 +141,6 @@ pub extern "C" fn dock_settle(fields: &[u32; 450], narrowed: &mut [u32; 450]) ->
     give_narrowed(narrow::settle(list_in(fields)), 0, narrowed)
 }
 
-// Makes one round of the list value that `fields` says, from its windows as given.
-#[no_mangle]
-pub extern "C" fn dock_round(fields: &[u32; 450], narrowed: &mut [u32; 450]) -> Answer
-    ensures { λ a. ⌜ RoundCall (now (fields .entry)) (now (narrowed .entry)) a (now (narrowed .exit)) ⌝ }
-{
-    give_narrowed(narrow::round(list_in(fields)), 0, narrowed)
-}
-
 // The bounds that planning answered; refused, `bounds` keeps its values.
 fn give_bounds(answer: PlanAnswer, bounds: &mut [u32; 128])
     ensures { λ _. ⌜ now (bounds .exit) ≡ settledOr (now (bounds .entry)) (λ _. answer .ends ++ answer .starts) (narrowedIn (answer .narrowed)) ⌝ }
@@ -208,12 +201,26 @@ pub extern "C" fn dock_late(
     give_narrowed(answer.narrowed, answer.bound as u64, narrowed)
 }
 
-// Reports on the bytes of a list. The first value is the number of bytes of the report's text, with which `out` begins; 12: `out` keeps its
-// bytes. REPORT_BYTES of the crate report are enough for every input.
+// Stores the text of the day that `bytes` say at the start of `out`. Accepted: the first value is its number of bytes; else, a list that is
+// turned back or 12, `out` keeps its bytes. REPORT_BYTES of the crate report are enough for every text.
 #[no_mangle]
 pub extern "C" fn dock_report(bytes: &[u8], out: &mut [u8]) -> Answer
     ensures { λ a. ⌜ ReportCall (now (bytes .entry)) (now (out .entry)) a (now (out .exit)) ⌝ }
 {
     let answer = report::report(bytes, out);
+    count_as(answer)
+}
+
+// Stores the line that the program prints for a refusal, whatever its number and values, likewise. REFUSAL_BYTES of the crate report are
+// enough for every line.
+#[no_mangle]
+pub extern "C" fn dock_refusal_line(number: u64, values: &[u64; 3], out: &mut [u8]) -> Answer
+    ensures { λ a. ⌜ LineCall number (now (values .entry)) (now (out .entry)) a (now (out .exit)) ⌝ }
+{
+    let code = RefusalCode {
+        number: number,
+        values: *values,
+    };
+    let answer = report::refusal_line(code, out);
     count_as(answer)
 }

@@ -1,7 +1,7 @@
 -- A refusal as numbers.
 use Prim.Native.Nat.{ℕ}
 use mathlib.Core.List.{List, [], _∷_}
-use lib.ListN.{length, getD}
+use lib.ListN.{getD}
 use Rattle.list.specs.Outcomes.{Code}
 use Rattle.codes.specs.declared.RefusalCode.{RefusalCode}
 
@@ -9,6 +9,6 @@ use Rattle.codes.specs.declared.RefusalCode.{RefusalCode}
 abbrev pub three : List ℕ → List ℕ
 three xs = getD xs 0 0 ∷ getD xs 1 0 ∷ getD xs 2 0 ∷ []
 
--- its number, how many values it carries, and those values
+-- its number, and the values that it carries
 abbrev pub numbersOf : Code → RefusalCode
-numbersOf k = record { number = k .number; count = length (k .carries); values = three (k .carries) }
+numbersOf k = record { number = k .number; values = three (k .carries) }

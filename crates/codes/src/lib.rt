@@ -8,20 +8,18 @@ ghost use Rattle.list.specs.Outcomes.{code};
 ghost use Rattle.list.specs.Refusals.{codeOf};
 ghost use Rattle.codes.specs.Numbers.{numbersOf};
 
-// A refusal as numbers: its number, and the values that it carries, the first `count` of three; the others are 0.
+// A refusal as numbers: its number, and three values: those that it carries, 0 where there are fewer.
 pub struct RefusalCode {
-    pub number: u8,
-    pub count: usize,
+    pub number: u64,
     pub values: [u64; 3],
 }
 
 // A refusal that carries one value.
-fn with_one(number: u8, value: usize) -> RefusalCode
+fn with_one(number: u64, value: usize) -> RefusalCode
     ensures { λ c. ⌜ c ≡ numbersOf (code number (value ∷ [])) ⌝ }
 {
     RefusalCode {
         number: number,
-        count: 1,
         values: [value as u64, 0, 0],
     }
 }
@@ -41,7 +39,6 @@ pub fn numbers_of(x: Refusal) -> RefusalCode
         Refusal::BytesLeftOver(at) => with_one(8, at),
         Refusal::Overloaded(a, b, work) => RefusalCode {
             number: 9,
-            count: 3,
             values: [a as u64, b as u64, work as u64],
         },
         Refusal::NoPlace(place) => with_one(10, place),

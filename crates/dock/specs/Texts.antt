@@ -1,13 +1,26 @@
 -- What the program prints.
-use Prim.Native.Nat.{ℕ}
+use Prim.Native.Nat.{ℕ, _≤_, _<_}
 use mathlib.Core.Path.{_≡_}
 use mathlib.Core.List.{List}
 use lib.ListN.{length, take}
-use Rattle.report.specs.Reports.{reportOf}
+use Rattle.list.specs.Checks.{WellFormed}
+use Rattle.list.specs.Writing.{bytesOf}
+use Rattle.list.specs.declared.types.DayList.{DayList}
+use Rattle.report.specs.Reports.{printedOf}
 
--- the first bytes of the text are the whole report of the bytes bs
-pub record HoldsReport (bs text : List ℕ) (size : ℕ) : Type 0 where
-  pub whole : size ≡ length (reportOf bs)
-  pub bytes : take size text ≡ reportOf bs
-  -- and of every input of which these are the first 964 bytes: "it takes 964 bytes at most; a longest list has 963"
-  pub all : (input : List ℕ) → take 964 input ≡ bs → take size text ≡ reportOf input
+-- "it takes 964 bytes at most; a longest list has 963": so many bytes of an input are read at most, and they are more than any list has, so
+-- that bytes left over are seen
+pub record InputLimit (limit : ℕ) : Type 0 where
+  pub most : limit ≤ 964
+  pub more : (l : DayList) → WellFormed l → length (bytesOf l) < limit
+
+-- the first size bytes of a buffer are a whole text
+pub record Holds (buffer : List ℕ) (size : ℕ) (text : List ℕ) : Type 0 where
+  pub whole : size ≡ length text
+  pub bytes : take size buffer ≡ text
+
+-- what is printed, the first size bytes of text, when the first count bytes of buffer were read
+pub record Prints (buffer : List ℕ) (count : ℕ) (text : List ℕ) (size : ℕ) : Type 0 where
+  pub read : Holds text size (printedOf (take count buffer))
+  -- and so for every input, however long: these bytes are all of it, or as many of its first bytes as the buffer has
+  pub all : (input : List ℕ) → take (length buffer) input ≡ take count buffer → Holds text size (printedOf input)

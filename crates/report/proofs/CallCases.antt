@@ -7,50 +7,50 @@ use Prim.Native.Nat.{ℕ, _<_}
 use lib.Dec.{eqb}
 use lib.ListN.{length, getD}
 use lib.Seq.{getD-take}
-use Rattle.list.specs.Outcomes.{Code}
+use Rattle.list.specs.Outcomes.{code}
 use Rattle.list.specs.DayLists.{blank}
 use Rattle.list.specs.declared.types.Entry.{Entry}
 use Rattle.list.specs.declared.types.DayList.{DayList}
 use Rattle.jackson.specs.Plans.{placesIn}
 use Rattle.jackson.proofs.PlanFacts.{place-read}
-use Rattle.codes.specs.Numbers.{three, numbersOf}
 use Rattle.codes.specs.declared.RefusalCode.{RefusalCode}
 use Rattle.report.specs.Text.{ascii, decimal, line}
 use Rattle.report.specs.Runs.{beginsRun, runEnd}
 use Rattle.report.specs.Reports.{entryLine, entryLineAt, runLine, runLineAt, refusalLine}
+use Rattle.report.specs.Calls.{lineOf}
 use Rattle.report.specs.Parts.{Puts, timesText, carriedText}
 use Rattle.report.proofs.Steps.{puts-nothing, puts-then}
 
 -- A refusal's line: its number, what it carries, and the newline.
-refusal-text : (k : Code)
-    → (ascii "refused " ++ decimal (k .number)) ++ (carriedText (k .number) (three (k .carries)) ++ ascii "\n") ≡ refusalLine k
+refusal-text : (number : ℕ) (values : List ℕ)
+    → (ascii "refused " ++ decimal number) ++ (carriedText number values ++ ascii "\n") ≡ refusalLine (code number values)
 unfolding refusalLine line ascii
-refusal-text k = go (eqb (k .number) 9) (eqb (k .number) 10)
+refusal-text number values = go (eqb number 9) (eqb number 10)
   where
     value : ℕ → List ℕ
-    value i = decimal (getD (k .carries) i 0)
+    value i = decimal (getD values i 0)
 
     go : (nine ten : Bool)
-        → (ascii "refused " ++ decimal (k .number))
+        → (ascii "refused " ++ decimal number)
         ++ (cond nine ((ascii " from " ++ value 0) ++ ((ascii " to " ++ value 1) ++ (ascii " work " ++ value 2)))
         (cond ten (ascii " entry " ++ value 0) (ascii " at " ++ value 0))
         ++ ascii "\n")
         ≡ line
         (ascii "refused"
-        ∷ decimal (k .number)
+        ∷ decimal number
         ∷ cond nine (ascii "from" ∷ value 0 ∷ ascii "to" ∷ value 1 ∷ ascii "work" ∷ value 2 ∷ [])
         (cond ten (ascii "entry" ∷ value 0 ∷ []) (ascii "at" ∷ value 0 ∷ [])))
     go true ten =
-        ap (λ (t : List ℕ). ascii "refused " ++ (decimal (k .number) ++ (ascii " from " ++ t)))
+        ap (λ (t : List ℕ). ascii "refused " ++ (decimal number ++ (ascii " from " ++ t)))
         (append-assoc (value 0) (ascii " to " ++ (value 1 ++ (ascii " work " ++ value 2))) (ascii "\n")
         ∙ ap (λ (t : List ℕ). value 0 ++ (ascii " to " ++ t)) (append-assoc (value 1) (ascii " work " ++ value 2) (ascii "\n")))
     go false true = refl
     go false false = refl
 
-pub refusal-put : {old new : List ℕ} {at next : ℕ} (k : Code) (c : RefusalCode) → c ≡ numbersOf k
-    → Puts old at ((ascii "refused " ++ decimal (c .number)) ++ (carriedText (c .number) (c .values) ++ ascii "\n")) new next
-    → Puts old at (refusalLine k) new next
-refusal-put {old} {new} {at} {next} k c e p = subst (λ (t : List ℕ). Puts old at t new next) (refusal-text k) (rw e at p)
+pub refusal-put : {old new : List ℕ} {next : ℕ} (c : RefusalCode)
+    → Puts old 0 ((ascii "refused " ++ decimal (c .number)) ++ (carriedText (c .number) (c .values) ++ ascii "\n")) new next
+    → Puts old 0 (lineOf c) new next
+refusal-put {old} {new} {next} c p = subst (λ (t : List ℕ). Puts old 0 t new next) (refusal-text (c .number) (c .values)) p
 
 -- The line of the run that begins at a minute, if one does.
 module _ {old : List ℕ} {at : ℕ} (plan : List ℕ) (t : ℕ) where

@@ -1,13 +1,13 @@
--- The report of a list that was read, from what planning it answers.
+-- The text of a list that was read, from what planning it answers.
 -- Assumes nothing.
-use mathlib.Core.Path.{_≡_, sym, ap, subst, _∙_}
+use mathlib.Core.Path.{_≡_, refl, sym, ap, subst, _∙_}
 use mathlib.Core.List.{List, _++_}
 use Prim.Native.Nat.{ℕ, _<_, _≤_}
 use native.Mathlib.Omega.{arith}
 use borrow.Author.Tests.{le-ltb}
 use lib.ListN.{length, getD, take, length-take}
 use lib.Seq.{take-append-seam}
-use Rattle.list.specs.Outcomes.{Outcome, answered}
+use Rattle.list.specs.Outcomes.{Outcome, answered, refused}
 use Rattle.list.specs.Refusals.{codeOf, outcomeOf}
 use Rattle.list.specs.DayLists.{entriesOf}
 use Rattle.list.specs.Checks.{WellFormed}
@@ -19,6 +19,8 @@ use Rattle.list.specs.declared.types.Refusal.{Refusal}
 use Rattle.list.specs.declared.types.Verdict.{Verdict}
 use Rattle.list.specs.declared.types.Verdict.the-variants.{Accepted, Refused}
 use Rattle.list.specs.declared.types.ReadAnswer.{ReadAnswer}
+use Rattle.list.specs.declared.types.WriteAnswer.{WriteAnswer}
+use Rattle.list.specs.declared.types.WriteAnswer.the-variants.{Written}
 use Rattle.list.proofs.Sound.{sound-list}
 use Rattle.list.proofs.RoundTrip.{read-well-formed}
 use Rattle.jackson.specs.Windows.{Windows, windowsOf}
@@ -32,8 +34,8 @@ use Rattle.bounds.specs.BrokenEntries.{brokenIn}
 use Rattle.bounds.specs.Calls.{planChecks, planOf, leastEnds, greatestStarts, brokenOf, PlansDay}
 use Rattle.bounds.specs.declared.types.PlanAnswer.{PlanAnswer}
 use Rattle.bounds.proofs.EndCases.{by-place}
-use Rattle.report.specs.Reports.{headLine, entryLines, runLines, refusalLine, dayText, plannedText, printed, reportOf}
-use Rattle.report.specs.Parts.{Puts, answerText}
+use Rattle.report.specs.Reports.{headLine, entryLines, runLines, dayText, plannedText, reportOf}
+use Rattle.report.specs.Parts.{Puts, PutsOr, answerText}
 use Rattle.report.proofs.Texts.{texts-same}
 
 -- entries' lines look at the bounds of the list's own places alone
@@ -61,9 +63,8 @@ module _ (l : DayList) (well : WellFormed l) (old : List ℕ) (long : length old
   narrowed-is u v = sym outcome-is ∙ sym (plans .holds .narrowed) ∙ ap (λ (u : Verdict). outcomeOf u settled) v
 
   -- Rows 9 and 10.
-  pub refused-put : {out text : List ℕ} {next : ℕ} (x : Refusal) → a .narrowed .verdict ≡ Refused x
-      → Puts out 0 (refusalLine (codeOf x)) text next → Puts out 0 (printed (plannedText l)) text next
-  refused-put x v p = rw (narrowed-is (Refused x) v) p
+  pub refused-is : (x : Refusal) → a .narrowed .verdict ≡ Refused x → plannedText l ≡ refused (codeOf x)
+  refused-is x v = rw (narrowed-is (Refused x) v) refl
 
   -- The list answered, its windows and bounds, and the plan's bytes.
   module _ (v : a .narrowed .verdict ≡ Accepted) where
@@ -128,9 +129,9 @@ module _ (l : DayList) (well : WellFormed l) (old : List ℕ) (long : length old
         ++ (entries-are j ++ runLines (day-is j) (placesIn (bytes-are j)))
 
     pub answered-put : {out text : List ℕ} {next : ℕ} → Puts out 0 (answerText a bytes) text next
-        → Puts out 0 (printed (plannedText l)) text next
+        → PutsOr (plannedText l) out (Written next) text
     answered-put {out} {text} {next} p =
-        rw (narrowed-is Accepted v) (subst (λ (t : List ℕ). Puts out 0 t text next) answer-text p)
+        (dayText l settled, rw (narrowed-is Accepted v) refl, subst (λ (t : List ℕ). Puts out 0 t text next) answer-text p)
 
 -- Reading an input.
 module _ (bs : List ℕ) (a : ReadAnswer) (reads : Reads bs a) where
@@ -140,13 +141,12 @@ module _ (bs : List ℕ) (a : ReadAnswer) (reads : Reads bs a) where
   pub read-formed : a .verdict ≡ Accepted → WellFormed (a .list)
   read-formed v = read-well-formed bs (a .list) (read-is Accepted v)
 
-  pub read-put : {out text : List ℕ} {next : ℕ} → a .verdict ≡ Accepted → Puts out 0 (printed (plannedText (a .list))) text next
-      → Puts out 0 (reportOf bs) text next
+  pub read-put : (out text : List ℕ) (b : WriteAnswer) → a .verdict ≡ Accepted → PutsOr (plannedText (a .list)) out b text
+      → PutsOr (reportOf bs) out b text
   unfolding reportOf
-  read-put v p = rw (read-is Accepted v) p
+  read-put out text b v p = rw (read-is Accepted v) p
 
   -- Rows 1 to 8.
-  pub unread-put : {out text : List ℕ} {next : ℕ} (x : Refusal) → a .verdict ≡ Refused x → Puts out 0 (refusalLine (codeOf x)) text next
-      → Puts out 0 (reportOf bs) text next
+  pub unread-is : (x : Refusal) → a .verdict ≡ Refused x → reportOf bs ≡ refused (codeOf x)
   unfolding reportOf
-  unread-put x v p = rw (read-is (Refused x) v) p
+  unread-is x v = rw (read-is (Refused x) v) refl

@@ -1,4 +1,4 @@
--- No report has more than 22,352 bytes.
+-- No text of a day has more than 22,352 bytes.
 -- Assumes nothing.
 use mathlib.Core.Path.{_≡_, refl, sym, ap, _∙_}
 use mathlib.Core.Logic.{_⊎_, inl, inr}
@@ -6,26 +6,26 @@ use mathlib.Core.Bool.{Bool}
 use mathlib.Core.List.{List, []}
 use Prim.Native.Nat.{ℕ, _+_, _*_, _-_, _<_, _≤_}
 use native.Mathlib.Omega.{arith}
-use lib.ListN.{length, getD, take, length-append, length-take}
+use lib.ListN.{length, getD, length-append, length-take}
 use lib.Seq.{getD-take}
-use Rattle.list.specs.Outcomes.{Code, Outcome, answered, refused, andThen}
+use Rattle.list.specs.Outcomes.{Outcome, answered, refused, andThen}
 use Rattle.list.specs.Machine.{Bytes, Typed}
 use Rattle.list.specs.DayLists.{entriesOf, blank}
 use Rattle.list.specs.Checks.{WellFormed}
-use Rattle.list.specs.Reading.{readOf, PlaceIn}
+use Rattle.list.specs.Reading.{readOf}
 use Rattle.list.specs.declared.types.DayList.{DayList}
+use Rattle.list.proofs.Inversion.{Says, Anything}
 use Rattle.list.proofs.Sound.{sound-list}
-use Rattle.list.proofs.RoundTrip.{read-places, read-well-formed, read-typed}
-use Rattle.list.proofs.FirstBytes.{first-bytes}
+use Rattle.list.proofs.RoundTrip.{read-well-formed, read-typed}
 use Rattle.jackson.specs.Windows.{Windows, windowsOf}
 use Rattle.jackson.specs.Plans.{idle, placesIn, PlanBytes}
-use Rattle.jackson.specs.Intervals.{work, overloadOf}
+use Rattle.jackson.specs.Intervals.{overloadOf}
 use Rattle.jackson.specs.Minutes.{schedule}
-use Rattle.jackson.proofs.Sums.{same-cases, between-le, sum-most}
+use Rattle.jackson.proofs.Sums.{sum-most}
 use Rattle.jackson.proofs.ListLaws.{list-few}
 use Rattle.narrow.specs.Settling.{Settled, Widest, minutesCut}
 use Rattle.narrow.specs.Rounds.{Narrowed, narrowing}
-use Rattle.narrow.specs.Laws.{Formed, NarrowLaw, Reason}
+use Rattle.narrow.specs.Laws.{Formed, NarrowLaw}
 use Rattle.narrow.specs.Calls.{wholeIn, entryWith, listWith}
 use Rattle.narrow.proofs.OverloadPlanner.{overload-planner}
 use Rattle.narrow.proofs.NarrowLaws.{narrow-law}
@@ -38,10 +38,10 @@ use Rattle.bounds.proofs.EndBounds.{early-is}
 use Rattle.bounds.proofs.StartBounds.{late-is}
 use Rattle.bounds.proofs.Demands.{widest-formed, plans-windows}
 use Rattle.report.specs.Runs.{beginsRun, runEnd}
-use Rattle.report.specs.Reports.{entryLineAt, entryLines, runLine, runLines, refusalLine, dayText, plannedText, printed, reportOf}
+use Rattle.report.specs.Reports.{entryLineAt, entryLines, runLine, runLines, dayText, plannedText, reportOf}
 use Rattle.report.specs.Calls.{enough}
 use Rattle.report.proofs.Texts.{texts-short}
-use Rattle.report.proofs.LineLengths.{head-short, entry-short, run-short, overload-short, no-place-short, at-short}
+use Rattle.report.proofs.LineLengths.{head-short, entry-short, run-short}
 use Rattle.report.proofs.RunFacts.{begins-entry, run-in-day}
 
 broken-few : (whole : ℕ → Bool) (w : Windows) (m : ℕ → ℕ) → brokenIn whole w m ≤ w .n
@@ -51,32 +51,6 @@ broken-few whole w m =
 
 -- A day of at most 1,440 minutes with at most 64 entries.
 module _ (w : Windows) (formed : Formed w) (day : w .h ≤ 1440) (few : w .n ≤ 64) where
-  -- no window ends later
-  deadline-small : (i : ℕ) → i < w .n → w .d i ≤ 1440
-  deadline-small i place = omega (arith, formed .in-day i place)
-
-  work-small : (a b : ℕ) → work w a b ≤ 92160
-  unfolding work
-  work-small a b =
-      omega (
-        arith,
-        sum-most (w .n) 1440 _
-            (λ i place.
-            between-le a b (w .r i) (w .d i) (w .p i) 1440 (λ _ _. omega (arith, formed .room i place, deadline-small i place))),
-      )
-
-  -- a refusal of row 9 or 10
-  reason-short : (whole : ℕ → Bool) (k : Code) → Reason whole w k → length (refusalLine k) ≤ 43
-  reason-short whole k (inl (shows, _)) =
-      let over = shows .shown .overloaded in
-      let i = over .latest in
-      rw (shows .carries)
-      (overload-short (shows .a) (shows .b) _
-      (omega (arith, over .interval, i .2, deadline-small (i .0) (i .1)))
-      (omega (arith, i .2, deadline-small (i .0) (i .1)))
-      (work-small _ _))
-  reason-short whole k (inr ((i, place, _, ten), _)) = rw ten (no-place-short i (omega arith))
-
   -- the runs of the schedule
   module _ (whole : ℕ → Bool) (settled : Settled whole w) where
     abbrev m : ℕ → ℕ
@@ -118,9 +92,6 @@ module _ (l : DayList) (formed : WellFormed l) where
 
   given-day : given .h ≤ 1440
   given-day = sound-list l formed .header .one-day
-
-  narrowing-short : (k : Code) → narrowing overloadOf whole given ≡ refused k → length (refusalLine k) ≤ 43
-  narrowing-short k e = reason-short given (list-formed l formed) given-day (list-few l formed) whole k (law .reason k e)
 
   module _ (typed : Typed l) (v : Narrowed) (e : narrowing overloadOf whole given ≡ answered v) where
     abbrev w : Windows
@@ -200,26 +171,19 @@ module _ (l : DayList) (formed : WellFormed l) where
           runs-short w there day few whole (best .settled),
         ))
 
--- the place that a refusal of reading carries
-carried-small : (len : ℕ) (k : Code) (p : PlaceIn len k) → p .place ≤ len
-carried-small len k p =
-    same-cases (k .number) 1
-    (λ e _. omega (arith, p .missing e))
-    (λ ne _. omega (arith, p .inside ne))
-
--- every report
-pub report-short : (bs : List ℕ) → Bytes bs → length (reportOf bs) ≤ enough
+-- every text
+pub report-short : (bs : List ℕ) → Bytes bs → (text : List ℕ) → reportOf bs ≡ answered text → length text ≤ enough
 unfolding reportOf
-report-short bs b = read (readOf bs) refl
+report-short bs b text e = rw e at (read (readOf bs) refl)
   where
-    read : (o : Outcome DayList) → readOf bs ≡ o
-        → length (printed (andThen o plannedText)) ≤ enough
-    read (refused k) e =
-        let z = read-places (take 964 bs) k (first-bytes bs ∙ e) in
-        omega (arith, at-short k (z .place) (z .reading) (z .carried) (omega (arith, carried-small _ k z, length-take 964 bs)))
+    Short : Outcome (List ℕ) → Type 0
+    Short = Says (λ (text : List ℕ). length text ≤ enough) Anything
+
+    read : (o : Outcome DayList) → readOf bs ≡ o → Short (andThen o plannedText)
+    read (refused k) e = tt
     read (answered l) e = narrowed (narrowing overloadOf (wholeIn l) (windowsOf l)) refl
       where
         narrowed : (o : Outcome Narrowed) → narrowing overloadOf (wholeIn l) (windowsOf l) ≡ o
-            → length (printed (andThen o (λ v. answered (dayText l v)))) ≤ enough
-        narrowed (refused k) q = omega (arith, narrowing-short l (read-well-formed bs l e) k q)
+            → Short (andThen o (λ v. answered (dayText l v)))
+        narrowed (refused k) q = tt
         narrowed (answered v) q = day-short l (read-well-formed bs l e) (read-typed bs l e b) v q

@@ -4,12 +4,14 @@ pub mod Texts
 pub mod DecimalFacts
 -- The runs found are the maximal runs.
 pub mod RunFacts
--- How long a report is at most.
+-- How long a line and a text are at most.
 mod LineLengths
 pub mod Lengths
+-- How many bytes of an input decide its report.
+pub mod FirstBytes
 -- Document 01's examples.
 pub mod Example
--- The contract leaves one answer and one buffer.
+-- The contracts leave one answer and one buffer.
 pub mod OneReport
 -- What the code's proofs cite, case by case.
 mod Steps

@@ -1,20 +1,21 @@
 -- How long the report's lines are at most, if the numbers in them are small enough.
 -- Assumes nothing.
-use mathlib.Core.Path.{_≡_}
-use mathlib.Core.List.{[], _∷_}
+use mathlib.Core.List.{List}
 use Prim.Native.Nat.{ℕ, _^_, _<_, _≤_}
 use native.Mathlib.Omega.{arith}
 use borrow.Author.Tests.{ne-eqb}
-use lib.ListN.{length}
-use Rattle.list.specs.Outcomes.{Code, code}
+use lib.ListN.{length, getD}
+use Rattle.list.specs.Outcomes.{code}
 use Rattle.list.specs.Machine.{SealFits}
 use Rattle.list.specs.declared.types.Seal.{Seal}
 use Rattle.list.specs.declared.types.Seal.the-variants.{Missing, Number}
 use Rattle.list.specs.declared.types.Kind.{Kind}
 use Rattle.list.specs.declared.types.Kind.the-variants.{Pause, Whole}
 use Rattle.list.specs.declared.types.Entry.{Entry}
+use Rattle.jackson.proofs.Sums.{same-cases}
 use Rattle.report.specs.Text.{ascii, decimal}
 use Rattle.report.specs.Reports.{headLine, sealText, kindText, entryLine, runLine, refusalLine}
+use Rattle.report.specs.Calls.{lineEnough}
 use Rattle.report.proofs.Texts.{decimal-short, line-last, line-more}
 
 -- Numbers.
@@ -79,31 +80,25 @@ run-short s e k a b c =
       place-short k (omega arith),
     ))
 
--- Refusals: 9, 10, and those of reading.
+-- Refusals: numbers of 64 bits.
 
-pub overload-short : (a b work : ℕ) → a ≤ 1440 → b ≤ 1440 → work ≤ 92160 → length (refusalLine (code 9 (a ∷ b ∷ work ∷ []))) ≤ 43
-unfolding refusalLine ascii
-overload-short a b work p q r =
-    simp (line-more, line-last)
-    (omega (
-      arith,
-      decimal-short 1 9 (omega arith) (omega arith),
-      minute-short a (omega arith),
-      minute-short b (omega arith),
-      decimal-short 5 work (omega arith) (omega arith),
-    ))
+wide-short : (x : ℕ) → x < 2 ^ 64 → length (decimal x) ≤ 20
+wide-short x h = decimal-short 20 x (omega arith) (omega arith)
 
-pub no-place-short : (i : ℕ) → i < 64 → length (refusalLine (code 10 (i ∷ []))) ≤ 43
-unfolding refusalLine ascii
-no-place-short i h =
-    simp (line-more, line-last)
-    (omega (arith, place-short 10 (omega arith), place-short i (omega arith)))
+module _ (number : ℕ) (values : List ℕ) (small : number < 2 ^ 64) (each : (i : ℕ) → getD values i 0 < 2 ^ 64) where
+  value-short : (i : ℕ) → length (decimal (getD values i 0)) ≤ 20
+  value-short i = wide-short _ (each i)
 
-pub at-short : (k : Code) (x : ℕ) → k .number ≤ 8 → k .carries ≡ x ∷ [] → x ≤ 964 → length (refusalLine k) ≤ 43
-unfolding refusalLine ascii
-at-short k x number carried small =
-    let nine : k .number ≡ 9 → ⊥ = omega arith in
-    let ten : k .number ≡ 10 → ⊥ = omega arith in
-    rw (carried, ne-eqb _ _ nine, ne-eqb _ _ ten)
-    (simp (line-more, line-last)
-    (omega (arith, decimal-short 1 (k .number) (omega arith) (omega arith), decimal-short 3 x (omega arith) (omega arith))))
+  pub refusal-short : length (refusalLine (code number values)) ≤ lineEnough
+  unfolding refusalLine ascii
+  refusal-short =
+      same-cases number 9
+      (λ nine _.
+      rw nine
+      (simp (line-more, line-last)
+      (omega (arith, decimal-short 1 9 (omega arith) (omega arith), value-short 0, value-short 1, value-short 2))))
+      (λ ne _.
+      same-cases number 10
+      (λ ten _. rw ten (simp (line-more, line-last) (omega (arith, decimal-short 2 10 (omega arith) (omega arith), value-short 0))))
+      (λ other _.
+      rw (ne-eqb _ _ ne, ne-eqb _ _ other) (simp (line-more, line-last) (omega (arith, wide-short number small, value-short 0)))))

@@ -1,68 +1,92 @@
--- The promise of `report`, from the cases that code knows.
+-- The promises of `report` and `refusal_line`, from the cases that code knows.
 -- Assumes nothing.
 use mathlib.Core.Path.{_≡_, refl, ap, _∙_}
 use mathlib.Core.List.{List}
-use Prim.Native.Nat.{ℕ, _≤_, _<_}
+use Prim.Native.Nat.{ℕ, _^_, _≤_, _<_}
 use native.Mathlib.Nat.{zero-add}
 use native.Mathlib.Omega.{arith}
 use borrow.Author.Tests.{lt-ltb, le-ltb}
-use lib.ListN.{length, take}
+use lib.ListN.{length, getD, take}
 use lib.Seq.{sets-eq, take-append-seam, length-sets}
 use Rattle.list.specs.Outcomes.{answered}
-use Rattle.list.specs.Refusals.{writeAnswerOf}
 use Rattle.list.specs.Machine.{Bytes}
 use Rattle.list.specs.Parts.{Wrote}
-use Rattle.list.specs.Writing.{storing, stored}
+use Rattle.list.specs.Writing.{stored}
+use Rattle.list.specs.declared.types.Refusal.{Refusal}
 use Rattle.list.specs.declared.types.Refusal.the-variants.{ListBufferShort}
 use Rattle.list.specs.declared.types.WriteAnswer.{WriteAnswer}
 use Rattle.list.specs.declared.types.WriteAnswer.the-variants.{Written, NotWritten}
-use Rattle.list.proofs.FirstBytes.{first-bytes}
+use Rattle.codes.specs.declared.RefusalCode.{RefusalCode}
 use Rattle.report.specs.Reports.{reportOf}
-use Rattle.report.specs.Calls.{enough, Reports}
-use Rattle.report.specs.Parts.{Puts}
+use Rattle.report.specs.Calls.{StoresText, enough, Reports, lineOf, lineEnough, StoresLine}
+use Rattle.report.specs.Parts.{Puts, PutsOr}
+use Rattle.report.proofs.LineLengths.{refusal-short}
 use Rattle.report.proofs.Lengths.{report-short}
-
--- the report of an input's first 964 bytes is the report of the whole input
-same-report : (input bs : List ℕ) → take 964 input ≡ bs → reportOf input ≡ reportOf bs
-unfolding reportOf
-same-report input bs e = rw (← e, first-bytes input)
 
 -- a text stored at the start of a buffer that has room for it
 stored-whole : {old text new : List ℕ} {next : ℕ} → length text ≤ length old → Wrote old 0 text new next → new ≡ stored (answered (length text)) text old
 stored-whole {old} {text} room w = w .stored ∙ sets-eq text old 0 (omega arith) ∙ rw zero-add refl
 
--- The report was put to the start of a buffer of its own, which has room for every report.
-module _ (bs : List ℕ) (is : Bytes bs) (own text : List ℕ) (long : length own ≡ enough) (size : ℕ) (puts : Puts own 0 (reportOf bs) text size) where
-  wrote : Wrote own 0 (reportOf bs) text size
-  wrote = puts .wrote (omega (arith, report-short bs is, long))
+-- A text at the start of a buffer, or row 12.
+module _ (text old : List ℕ) where
+  pub store-short : length old < length text → StoresText (answered text) old (NotWritten (ListBufferShort (length text))) old
+  store-short h =
+      let less = lt-ltb (length old) (length text) h in
+      record { outcome = rw less refl; buffer = rw less refl }
 
-  pub size-is : size ≡ length (reportOf bs)
-  size-is = omega (arith, wrote .place)
+  pub store-whole : (new : List ℕ) (next : ℕ) → length text ≤ length old → Puts old 0 text new next
+      → StoresText (answered text) old (Written (length text)) new
+  store-whole new next h p =
+      let least = le-ltb (length old) (length text) h in
+      record { outcome = rw least refl; buffer = rw least (stored-whole h (p .wrote (omega arith))) }
 
-  pub size-fits : size ≤ length text
-  size-fits = omega (arith, size-is, report-short bs is, long, ap (λ (l : List ℕ). length l) (wrote .stored), length-sets own 0 (reportOf bs))
+-- A text was put to the start of a buffer of the call's own, which has room for it.
+module _ (own text buffer : List ℕ) (size : ℕ) (room : length text ≤ length own) (puts : Puts own 0 text buffer size) where
+  wrote : Wrote own 0 text buffer size
+  wrote = puts .wrote (omega arith)
 
-  pub text-is : take size text ≡ reportOf bs
-  text-is = rw (size-is, stored-whole (omega (arith, report-short bs is, long)) wrote) (take-append-seam (reportOf bs) _)
+  own-fits : size ≤ length buffer
+  own-fits = omega (arith, wrote .place, room, ap (λ (l : List ℕ). length l) (wrote .stored), length-sets own 0 text)
 
-  module _ (old : List ℕ) where
-    promised : (a : WriteAnswer) (new : List ℕ) → writeAnswerOf a ≡ storing (reportOf bs) (length old)
-        → new ≡ stored (storing (reportOf bs) (length old)) (reportOf bs) old → Reports bs old a new
-    promised a new outcome buffer =
+  own-is : take size buffer ≡ text
+  own-is =
+      let z : size ≡ length text = omega (arith, wrote .place) in
+      rw (z, stored-whole room wrote) (take-append-seam text _)
+
+-- `report`: the text of the day was put to a buffer that has room for every one, or its list was refused.
+module _ (bs : List ℕ) (is : Bytes bs) (own buffer : List ℕ) (long : length own ≡ enough) (a : WriteAnswer)
+    (puts : PutsOr (reportOf bs) own a buffer) where
+  module _ (size : ℕ) (e : a ≡ Written size) where
+    found : PutsOr (reportOf bs) own (Written size) buffer
+    found = rw e at puts
+
+    has-room : length (found .0) ≤ length own
+    has-room = omega (arith, report-short bs is (found .0) (found .1), long)
+
+    pub text-fits : size ≤ length buffer
+    text-fits = own-fits own (found .0) buffer size has-room (found .2)
+
+    pub report-stored : (old new : List ℕ) (b : WriteAnswer) → StoresText (answered (take size buffer)) old b new → Reports bs old b new
+    report-stored old new b s =
         record {
-          outcome = outcome;
-          buffer = buffer;
+          stores = rw (found .1) (rw (own-is own (found .0) buffer size has-room (found .2)) at s);
           room = report-short bs is;
-          first-bytes = λ input. same-report input bs;
         }
 
-    pub short-promised : length old < size → Reports bs old (NotWritten (ListBufferShort size)) old
-    short-promised h =
-        let less = lt-ltb (length old) (length (reportOf bs)) (omega (arith, size-is)) in
-        promised _ _ (rw (less, size-is) refl) (rw less refl)
+  pub report-refused : (x : Refusal) → a ≡ NotWritten x → (old : List ℕ) → Reports bs old (NotWritten x) old
+  report-refused x e old =
+      let none : PutsOr (reportOf bs) own (NotWritten x) buffer = rw e at puts in
+      record { stores = record { outcome = rw none refl; buffer = rw none refl }; room = report-short bs is }
 
-    pub whole-promised : (new : List ℕ) (next : ℕ) → size ≤ length old → Puts old 0 (take size text) new next → Reports bs old (Written size) new
-    whole-promised new next h p =
-        let room : length (reportOf bs) ≤ length old = omega (arith, size-is) in
-        let least = le-ltb (length old) (length (reportOf bs)) room in
-        promised _ _ (rw (least, size-is) refl) (rw least (stored-whole room ((rw text-is at p) .wrote (omega arith))))
+-- `refusal_line`: the line was put to a buffer that has room for every one.
+module _ (c : RefusalCode) (number : c .number < 2 ^ 64) (values : (i : ℕ) → getD (c .values) i 0 < 2 ^ 64) (own buffer : List ℕ)
+    (long : length own ≡ lineEnough) (size : ℕ) (puts : Puts own 0 (lineOf c) buffer size) where
+  short : length (lineOf c) ≤ lineEnough
+  short = refusal-short (c .number) (c .values) number values
+
+  pub line-fits : size ≤ length buffer
+  line-fits = own-fits own (lineOf c) buffer size (omega (arith, short, long)) puts
+
+  pub line-stored : (old new : List ℕ) (b : WriteAnswer) → StoresText (answered (take size buffer)) old b new → StoresLine c old b new
+  line-stored old new b s =
+      record { stores = rw (own-is own (lineOf c) buffer size (omega (arith, short, long)) puts) at s; room = short }

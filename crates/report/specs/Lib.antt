@@ -2,4 +2,5 @@ pub mod Text
 pub mod Runs
 pub mod Reports
 pub mod Calls
+pub mod Examples
 pub mod Parts

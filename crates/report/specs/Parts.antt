@@ -1,11 +1,16 @@
 -- What private functions promise each other. No public promise cites these.
 use Prim.Native.Nat.{ℕ, _+_, _≤_}
+use mathlib.Core.Path.{_≡_}
 use mathlib.Core.Bool.{cond}
 use mathlib.Core.List.{List, [], _∷_, _++_}
 use lib.ListN.{length, getD}
 use lib.Dec.{eqb}
+use Rattle.list.specs.Outcomes.{Outcome, answered, refused}
+use Rattle.list.specs.Refusals.{codeOf}
 use Rattle.list.specs.Parts.{Wrote}
 use Rattle.list.specs.declared.types.Entry.{Entry}
+use Rattle.list.specs.declared.types.WriteAnswer.{WriteAnswer}
+use Rattle.list.specs.declared.types.WriteAnswer.the-variants.{Written, NotWritten}
 use Rattle.jackson.specs.Plans.{placesIn}
 use Rattle.bounds.specs.declared.types.PlanAnswer.{PlanAnswer}
 use Rattle.report.specs.Text.{ascii, decimal, line}
@@ -14,6 +19,11 @@ use Rattle.report.specs.Reports.{headLine, entryLines, runLines}
 -- A step of the report's writer: if there is room for a text, it stores it from place at on and answers the place after it.
 pub record Puts (old : List ℕ) (at : ℕ) (text new : List ℕ) (next : ℕ) : Type 0 where
   pub wrote : at + length text ≤ length old → Wrote old at text new next
+
+-- A text is put to the start of a buffer, or there is none: the refusal.
+abbrev pub PutsOr : Outcome (List ℕ) → List ℕ → WriteAnswer → List ℕ → Type 0
+PutsOr o old (Written next) new = (text : List ℕ) × (o ≡ answered text) × Puts old 0 text new next
+PutsOr o old (NotWritten x) new = o ≡ refused (codeOf x)
 
 -- the end of an entry's line, from the space before r on
 abbrev pub timesText : Entry → ℕ → ℕ → List ℕ

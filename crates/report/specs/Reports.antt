@@ -1,5 +1,5 @@
 -- The report of a day's bytes. That its numbers are in base ten is `decimal-is` of proofs/DecimalFacts.antt, that its runs are the maximal
--- ones `runs-are` of proofs/RunFacts.antt; document 01's examples are `examples` of proofs/Example.antt.
+-- ones `runs-are` of proofs/RunFacts.antt; document 01's examples stand in specs/Examples.antt.
 use Prim.Native.Nat.{ℕ}
 use mathlib.Core.Bool.{cond}
 use mathlib.Core.List.{List, [], _∷_, _++_}
@@ -109,11 +109,15 @@ dayText l v =
 abbrev pub plannedText : DayList → Outcome (List ℕ)
 plannedText l = andThen (narrowing overloadOf (wholeIn l) (windowsOf l)) (λ v. answered (dayText l v))
 
+-- the text of the day that bytes say, or the refusal of its list: rows 1 to 8 as it is read, 9 and 10 as it is planned
+unfoldable pub reportOf : List ℕ → Outcome (List ℕ)
+reportOf bs = andThen (readOf bs) plannedText
+
 -- a text, or a refusal's line
 abbrev pub printed : Outcome (List ℕ) → List ℕ
 printed (answered text) = text
 printed (refused k) = refusalLine k
 
--- the report of an input's bytes: they are read, rows 1 to 8, then the list is planned
-unfoldable pub reportOf : List ℕ → List ℕ
-reportOf bs = printed (andThen (readOf bs) plannedText)
+-- what the program prints for an input
+abbrev pub printedOf : List ℕ → List ℕ
+printedOf bs = printed (reportOf bs)

@@ -1,17 +1,17 @@
-// The report of a day: head, entries, runs, or a refusal.
+// The text of a day: head, entries, runs; or the refusal of its list.
 use crate::lines::put_entry;
 use crate::lines::put_head;
-use crate::lines::put_refusal;
 use crate::runs::put_runs;
 use bounds::plan_day;
 use bounds::types::PlanAnswer;
 use list::types::DayList;
 use list::types::Verdict;
+use list::types::WriteAnswer;
 ghost use Prim.Native.Nat.{_≤_};
 ghost use lib.ListN.{getD};
 ghost use Rattle.list.specs.Checks.{WellFormed};
-ghost use Rattle.report.specs.Reports.{entryLines, plannedText, printed, reportOf};
-ghost use Rattle.report.specs.Parts.{Puts, answerText};
+ghost use Rattle.report.specs.Reports.{entryLines, plannedText, reportOf};
+ghost use Rattle.report.specs.Parts.{Puts, PutsOr, answerText};
 
 // The entries' lines, with a least end and a greatest start for each place.
 fn put_entries(
@@ -34,7 +34,7 @@ fn put_entries(
     next
 }
 
-// The report of a planned day, whose plan's bytes are `plan`.
+// The text of a planned day, whose plan's bytes are `plan`.
 fn put_day(out: &mut [u8], answer: PlanAnswer, plan: &[u8]) -> usize
     requires { ⌜ answer .narrowed .list .n ≤ 64 ⌝ }
     ensures { λ next. ⌜ Puts (now (out .entry)) 0 (answerText answer (now (plan .entry))) (now (out .exit)) next ⌝ }
@@ -48,10 +48,10 @@ fn put_day(out: &mut [u8], answer: PlanAnswer, plan: &[u8]) -> usize
     put_runs(out, b, plan)
 }
 
-// The report of a list that was read: rows 9 and 10, or the day.
-fn put_planned(out: &mut [u8], list: DayList) -> usize
+// The text of a list that was read, or row 9 or 10.
+fn put_planned(out: &mut [u8], list: DayList) -> WriteAnswer
     requires { ⌜ WellFormed list ⌝ }
-    ensures { λ next. ⌜ Puts (now (out .entry)) 0 (printed (plannedText list)) (now (out .exit)) next ⌝ }
+    ensures { λ a. ⌜ PutsOr (plannedText list) (now (out .entry)) a (now (out .exit)) ⌝ }
 {
     let mut plan = [0u8; 1440];
     let answer = plan_day(list, &mut plan);
@@ -60,15 +60,16 @@ fn put_planned(out: &mut [u8], list: DayList) -> usize
     match verdict {
         Verdict::Accepted => {
             let h = list.frame.h as usize;
-            put_day(out, answer, &plan[..h])
+            let size = put_day(out, answer, &plan[..h]);
+            WriteAnswer::Written(size)
         }
-        Verdict::Refused(x) => put_refusal(out, 0, x),
+        Verdict::Refused(x) => WriteAnswer::NotWritten(x),
     }
 }
 
-// The report of an input's bytes.
-pub(crate) fn put_report(input: &[u8], out: &mut [u8]) -> usize
-    ensures { λ next. ⌜ Puts (now (out .entry)) 0 (reportOf (now (input .entry))) (now (out .exit)) next ⌝ }
+// The text of an input's day, or the refusal of its list.
+pub(crate) fn put_report(input: &[u8], out: &mut [u8]) -> WriteAnswer
+    ensures { λ a. ⌜ PutsOr (reportOf (now (input .entry))) (now (out .entry)) a (now (out .exit)) ⌝ }
 {
     let answer = list::read(input);
     let verdict = answer.verdict;
@@ -77,6 +78,6 @@ pub(crate) fn put_report(input: &[u8], out: &mut [u8]) -> usize
             let list = answer.list;
             put_planned(out, list)
         }
-        Verdict::Refused(x) => put_refusal(out, 0, x),
+        Verdict::Refused(x) => WriteAnswer::NotWritten(x),
     }
 }

@@ -1,30 +1,58 @@
-// The report: from a day's bytes to the text that the program prints.
-// Promises: `report` stores the text that specs/Reports.antt defines, for every input, at the start of a buffer that has room for it; a
-// shorter one keeps its bytes and is refused as 12 with the bytes needed. REPORT_BYTES are enough for every input.
-// Uses `read` and the types of the crate list, `plan_day` of bounds and `numbers_of` of codes.
+// The report: from a day's bytes to its text, and from a refusal to its line.
+// Promises: `report` stores the text of the day, as specs/Reports.antt defines it, at the start of a buffer that has room for it; a list
+// that is turned back is refused by number and values, and a shorter buffer as 12 with the bytes needed. `refusal_line` stores the line that
+// the program prints for a refusal, whatever its number and values, or refuses a shorter buffer likewise. A refusal leaves the buffer as it
+// was. REPORT_BYTES are enough for every text, and REFUSAL_BYTES for every line.
+// Uses `read` and the types of the crate list, `plan_day` of bounds and the type `RefusalCode` of codes.
 mod day;
 mod lines;
 mod runs;
 mod text;
 
+use codes::RefusalCode;
 use day::put_report;
+use lines::put_refusal;
 use list::types::Refusal;
 use list::types::WriteAnswer;
 use text::put_bytes;
-ghost use Rattle.report.specs.Calls.{Reports};
+ghost use Rattle.list.specs.Outcomes.{answered};
+ghost use Rattle.report.specs.Calls.{StoresText, Reports, StoresLine};
 
-// Room for every report.
+// Room for the text of every day.
 pub const REPORT_BYTES: usize = 22352;
 
-// The report of an input's bytes. Its text is made in a buffer of this call's own first, so that a short one keeps its bytes.
+// Room for every refusal's line.
+pub const REFUSAL_BYTES: usize = 86;
+
+// A text at the start of a buffer, or row 12.
+fn store(text: &[u8], out: &mut [u8]) -> WriteAnswer
+    ensures { λ a. ⌜ StoresText (answered (now (text .entry))) (now (out .entry)) a (now (out .exit)) ⌝ }
+{
+    let size = text.len();
+    if out.len() < size {
+        return WriteAnswer::NotWritten(Refusal::ListBufferShort(size));
+    }
+    put_bytes(out, 0, text);
+    WriteAnswer::Written(size)
+}
+
+// The text of an input's day. It is made in a buffer of this call's own first, so that a refusal leaves the lent one as it was.
 pub fn report(input: &[u8], out: &mut [u8]) -> WriteAnswer
     ensures { λ a. ⌜ Reports (now (input .entry)) (now (out .entry)) a (now (out .exit)) ⌝ }
 {
     let mut text = [0u8; REPORT_BYTES];
-    let size = put_report(input, &mut text);
-    if out.len() < size {
-        return WriteAnswer::NotWritten(Refusal::ListBufferShort(size));
+    let answer = put_report(input, &mut text);
+    match answer {
+        WriteAnswer::Written(size) => store(&text[..size], out),
+        WriteAnswer::NotWritten(x) => WriteAnswer::NotWritten(x),
     }
-    put_bytes(out, 0, &text[..size]);
-    WriteAnswer::Written(size)
+}
+
+// The line of a refusal, made in a buffer of this call's own first.
+pub fn refusal_line(code: RefusalCode, out: &mut [u8]) -> WriteAnswer
+    ensures { λ a. ⌜ StoresLine code (now (out .entry)) a (now (out .exit)) ⌝ }
+{
+    let mut line = [0u8; REFUSAL_BYTES];
+    let size = put_refusal(&mut line, code);
+    store(&line[..size], out)
 }

@@ -2,14 +2,14 @@
 use crate::text::put_after;
 use crate::text::put_bytes;
 use crate::text::put_decimal;
+use codes::RefusalCode;
 use list::types::Entry;
 use list::types::Kind;
-use list::types::Refusal;
 use list::types::Seal;
 ghost use mathlib.Core.List.{_++_};
-ghost use Rattle.list.specs.Refusals.{codeOf};
 ghost use Rattle.report.specs.Text.{ascii};
-ghost use Rattle.report.specs.Reports.{headLine, sealText, kindText, entryLine, runLine, refusalLine};
+ghost use Rattle.report.specs.Reports.{headLine, sealText, kindText, entryLine, runLine};
+ghost use Rattle.report.specs.Calls.{lineOf};
 ghost use Rattle.report.specs.Parts.{Puts, timesText, carriedText};
 
 // `day 12 entries 3 moves 1 broken 0`
@@ -86,7 +86,7 @@ pub(crate) fn put_run(out: &mut [u8], at: usize, start: usize, end: usize, place
 }
 
 // What a refusal carries: ` from 2 to 5 work 4`, ` entry 0`, ` at 3`.
-fn put_carried(out: &mut [u8], at: usize, number: u8, values: [u64; 3]) -> usize
+fn put_carried(out: &mut [u8], at: usize, number: u64, values: [u64; 3]) -> usize
     ensures { λ next. ⌜ Puts (now (out .entry)) at (carriedText number values) (now (out .exit)) next ⌝ }
 {
     if number == 9 {
@@ -101,12 +101,11 @@ fn put_carried(out: &mut [u8], at: usize, number: u8, values: [u64; 3]) -> usize
 }
 
 // `refused 7 at 3`
-pub(crate) fn put_refusal(out: &mut [u8], at: usize, x: Refusal) -> usize
-    ensures { λ next. ⌜ Puts (now (out .entry)) at (refusalLine (codeOf x)) (now (out .exit)) next ⌝ }
+pub(crate) fn put_refusal(out: &mut [u8], code: RefusalCode) -> usize
+    ensures { λ next. ⌜ Puts (now (out .entry)) 0 (lineOf code) (now (out .exit)) next ⌝ }
 {
-    let code = codes::numbers_of(x);
     let values = code.values;
-    let a = put_after(out, at, b"refused ", code.number as u64);
+    let a = put_after(out, 0, b"refused ", code.number);
     let b = put_carried(out, a, code.number, values);
     put_bytes(out, b, b"\n")
 }

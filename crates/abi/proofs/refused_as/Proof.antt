@@ -7,11 +7,8 @@ use Rattle.abi.proofs.refused_as.Tie as tie
 numbers-of-requires : tie.Need-numbers-of-requires
 numbers-of-requires c κs = search needs
 
-cast-t4 : tie.Need-cast-t4
-cast-t4 c = search needs
-
 returns : tie.Need-returns
-returns c = rw (c .before .before .numbers-of .ensures)
+returns c = rw (c .before .numbers-of .ensures)
 
 pub refused-as-spec : {M : Type 1} → statement M
-refused-as-spec = tie.close (tie.spec numbers-of-requires cast-t4 returns)
+refused-as-spec = tie.close (tie.spec numbers-of-requires returns)

@@ -14,7 +14,7 @@ use Rattle.codes.proofs.numbers_of.Statement.{statement}
 use Rattle.codes.proofs.numbers_of.Tie as tie
 
 -- the refusal that carries three values
-three-values : {x : Refusal} {a b work : ℕ} → x ≡ Overloaded a b work → record { number = 9; count = 3; values = a ∷ b ∷ work ∷ [] } ≡ numbersOf (codeOf x)
+three-values : {x : Refusal} {a b work : ℕ} → x ≡ Overloaded a b work → record { number = 9; values = a ∷ b ∷ work ∷ [] } ≡ numbersOf (codeOf x)
 three-values q = rw q
 
 -- a refusal that carries one value

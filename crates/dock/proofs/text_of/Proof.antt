@@ -1,9 +1,14 @@
 -- `text_of` meets its contract.
 -- Assumes nothing.
 use borrow.Author.Needs.{needs}
-use Rattle.dock.proofs.Cases.{written-whole, never-short}
+use mathlib.Core.Path.{sym}
+use lib.Seq.{length-take-le}
+use Rattle.dock.proofs.Cases.{prints, report-held, report-refused}
 use Rattle.dock.proofs.text_of.Statement.{statement}
 use Rattle.dock.proofs.text_of.Tie as tie
+
+slice-aggregate-report : tie.Need-slice-aggregate-report
+slice-aggregate-report c = sym (length-take-le _ _ (c .before .before .before .pre .1 .0))
 
 report-requires : tie.Need-report-requires
 report-requires c κs = search needs
@@ -11,28 +16,42 @@ report-requires c κs = search needs
 enum-known-answer : tie.Need-enum-known-answer
 enum-known-answer c = search needs
 
-enum-told : tie.Need-enum-told
-enum-told c = search needs
+enum-known-answer-2 : tie.Need-enum-known-answer-2
+enum-known-answer-2 c = search needs
+
+line-of-requires : tie.Need-line-of-requires
+line-of-requires c κs = search needs
 
 same-length : tie.Need-same-length
 same-length c = search needs
 
 returns : tie.Need-returns
-returns c = written-whole (c .before .before .before .before .before .before .before .before .before .args .input .now) (c .before .before .before .before .before .before .before .before .before .args .text .now) (c .before .before .before .before .before .report .result) _ (c .before .before .before .before .before .report .ensures) (c .before .before .before .before .before .before .before .before .before .pre) _ (c .before .answer .given .1)
+returns c =
+    let start = c .before .before .before .before .before .before .before .before .before .before in
+    let report = c .before .before .before .before .before .report in
+    prints (start .args .input .now) (start .args .count) (start .pre .0) _ _
+    (report-held _ (start .args .text .now) (report .result) _ (report .ensures) (start .pre .1 .1) _ (c .before .answer .given .1))
 
 same-length-2 : tie.Need-same-length-2
 same-length-2 c = search needs
 
 returns-2 : tie.Need-returns-2
-returns-2 c = absurd (never-short (c .before .before .before .before .before .before .before .before .args .input .now) (c .before .before .before .before .before .before .before .before .args .text .now) (c .before .before .before .before .report .result) _ (c .before .before .before .before .report .ensures) (c .before .before .before .before .before .before .before .before .pre) _ (c .enum-told .given .1))
+returns-2 c =
+    let start = c .before .before .before .before .before .before .before .before .before .before .before .before .before .before in
+    let report = c .before .before .before .before .before .before .before .before .before .report in
+    prints (start .args .input .now) (start .args .count) (start .pre .0) _ _
+    (rw (report-refused _ (start .args .text .now) (report .result) _ (report .ensures) (start .pre .1 .1) _ (c .before .before .before .before .before .answer2 .given .1))
+    (c .before .before .line-of .ensures))
 
 pub text-of-spec : {M : Type 1} → statement M
 text-of-spec =
     tie.close
     (tie.spec
+    slice-aggregate-report
     report-requires
     enum-known-answer
-    enum-told
+    enum-known-answer-2
+    line-of-requires
     same-length
     returns
     same-length-2

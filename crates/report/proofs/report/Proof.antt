@@ -3,7 +3,7 @@
 use borrow.Author.Needs.{needs}
 use mathlib.Core.Path.{refl, sym}
 use lib.Seq.{length-take-le}
-use Rattle.report.proofs.Promised.{size-fits, short-promised, whole-promised}
+use Rattle.report.proofs.Promised.{text-fits, report-stored, report-refused}
 use Rattle.report.proofs.report.Statement.{statement}
 use Rattle.report.proofs.report.Tie as tie
 
@@ -13,23 +13,49 @@ slice-aggregate-put-report c = search needs
 put-report-requires : tie.Need-put-report-requires
 put-report-requires c κs = search needs
 
-returns : tie.Need-returns
-returns c = short-promised (c .before .before .before .before .before .before .args .input .now) (λ i. c .before .before .before .before .before .shared-slice-known .given i .fits) _ _ refl (c .before .before .put-report .result) (c .before .before .put-report .ensures) (c .before .before .before .before .before .before .args .out .now) (c .if1 .taken)
+enum-known-answer : tie.Need-enum-known-answer
+enum-known-answer c = search needs
 
 array-share-prefix-text : tie.Need-array-share-prefix-text
-array-share-prefix-text c = size-fits (c .before .before .before .before .before .before .before .args .input .now) (λ i. c .before .before .before .before .before .before .shared-slice-known .given i .fits) _ _ refl (c .before .before .before .put-report .result) (c .before .before .before .put-report .ensures)
+array-share-prefix-text c =
+    let bytes = c .before .before .before .before .before .before .before .shared-slice-known in
+    let put-report = c .before .before .before .before .put-report in
+    text-fits (c .before .before .before .before .before .before .before .before .args .input .now) (λ i. bytes .given i .fits) _ _ refl (put-report .result) (put-report .ensures) _
+    (c .before .answer .given .1)
 
-slice-aggregate-put-bytes : tie.Need-slice-aggregate-put-bytes
-slice-aggregate-put-bytes c = sym (length-take-le _ _ (size-fits (c .before .before .before .before .before .before .before .before .args .input .now) (λ i. c .before .before .before .before .before .before .before .shared-slice-known .given i .fits) _ _ refl (c .before .before .before .before .put-report .result) (c .before .before .before .before .put-report .ensures)))
+slice-aggregate-store : tie.Need-slice-aggregate-store
+slice-aggregate-store c =
+    let bytes = c .before .before .before .before .before .before .before .before .shared-slice-known in
+    let put-report = c .before .before .before .before .before .put-report in
+    sym
+    (length-take-le _ _
+    (text-fits (c .before .before .before .before .before .before .before .before .before .args .input .now) (λ i. bytes .given i .fits) _ _ refl (put-report .result) (put-report .ensures) _
+    (c .before .before .answer .given .1)))
 
-put-bytes-requires : tie.Need-put-bytes-requires
-put-bytes-requires c κs = search needs
+store-requires : tie.Need-store-requires
+store-requires c κs = search needs
+
+enum-known-answer-2 : tie.Need-enum-known-answer-2
+enum-known-answer-2 c = search needs
 
 same-length : tie.Need-same-length
 same-length c = search needs
 
+returns : tie.Need-returns
+returns c =
+    let args = c .before .before .before .before .before .before .before .before .before .before .before .before .before .args in
+    let bytes = c .before .before .before .before .before .before .before .before .before .before .before .before .shared-slice-known in
+    let put-report = c .before .before .before .before .before .before .before .before .before .put-report in
+    report-stored (args .input .now) (λ i. bytes .given i .fits) _ _ refl (put-report .result) (put-report .ensures) _
+    (c .before .before .before .before .before .before .answer .given .1) (args .out .now) _ (c .before .before .store .result) (c .before .before .store .ensures)
+
 returns-2 : tie.Need-returns-2
-returns-2 c = whole-promised (c .before .before .before .before .before .before .before .before .before .before .before .args .input .now) (λ i. c .before .before .before .before .before .before .before .before .before .before .shared-slice-known .given i .fits) _ _ refl (c .before .before .before .before .before .before .before .put-report .result) (c .before .before .before .before .before .before .before .put-report .ensures) (c .before .before .before .before .before .before .before .before .before .before .before .args .out .now) _ _ (c .before .before .before .before .before .if1 .left) (c .before .before .put-bytes .ensures)
+returns-2 c =
+    let args = c .before .before .before .before .before .before .before .before .args in
+    let bytes = c .before .before .before .before .before .before .before .shared-slice-known in
+    let put-report = c .before .before .before .before .put-report in
+    report-refused (args .input .now) (λ i. bytes .given i .fits) _ _ refl (put-report .result) (put-report .ensures) _
+    (c .before .answer2 .given .1) (args .out .now)
 
 pub report-spec : {M : Type 1} → statement M
 report-spec =
@@ -37,9 +63,11 @@ report-spec =
     (tie.spec
     slice-aggregate-put-report
     put-report-requires
-    returns
+    enum-known-answer
     array-share-prefix-text
-    slice-aggregate-put-bytes
-    put-bytes-requires
+    slice-aggregate-store
+    store-requires
+    enum-known-answer-2
     same-length
+    returns
     returns-2)

@@ -2,7 +2,7 @@
 -- Assumes nothing.
 use borrow.Author.Needs.{needs}
 use mathlib.Core.Path.{refl}
-use Rattle.report.proofs.DayCases.{list-few, bytes-long, bytes-room, answered-put, refused-put}
+use Rattle.report.proofs.DayCases.{list-few, bytes-long, bytes-room, answered-put, refused-is}
 use Rattle.report.proofs.day.put_planned.Statement.{statement}
 use Rattle.report.proofs.day.put_planned.Tie as tie
 
@@ -19,31 +19,41 @@ cast-h : tie.Need-cast-h
 cast-h c = search needs
 
 array-share-prefix-plan : tie.Need-array-share-prefix-plan
-array-share-prefix-plan c = bytes-room (c .before .before .before .before .before .before .before .before .before .args .list) (c .before .before .before .before .before .before .before .before .before .pre) _ refl (c .before .before .before .before .before .before .plan-day .result) _ (c .before .before .before .before .before .before .plan-day .ensures) (c .before .before .enum-told .given .1)
+array-share-prefix-plan c =
+    let start = c .before .before .before .before .before .before .before .before .before in
+    let plan-day = c .before .before .before .before .before .before .plan-day in
+    bytes-room (start .args .list) (start .pre) _ refl (plan-day .result) _ (plan-day .ensures) (c .before .before .enum-told .given .1)
 
 slice-aggregate-put-day : tie.Need-slice-aggregate-put-day
-slice-aggregate-put-day c = bytes-long (c .before .before .before .before .before .before .before .before .before .before .args .list) (c .before .before .before .before .before .before .before .before .before .before .pre) _ refl (c .before .before .before .before .before .before .before .plan-day .result) _ (c .before .before .before .before .before .before .before .plan-day .ensures) (c .before .before .before .enum-told .given .1)
+slice-aggregate-put-day c =
+    let start = c .before .before .before .before .before .before .before .before .before .before in
+    let plan-day = c .before .before .before .before .before .before .before .plan-day in
+    bytes-long (start .args .list) (start .pre) _ refl (plan-day .result) _ (plan-day .ensures) (c .before .before .before .enum-told .given .1)
 
 put-day-requires : tie.Need-put-day-requires
-put-day-requires c κs = list-few (c .before .before .before .before .before .before .before .before .before .before .args .list) (c .before .before .before .before .before .before .before .before .before .before .pre) _ refl (c .before .before .before .before .before .before .before .plan-day .result) _ (c .before .before .before .before .before .before .before .plan-day .ensures) (c .before .before .before .enum-told .given .1)
+put-day-requires c κs =
+    let start = c .before .before .before .before .before .before .before .before .before .before in
+    let plan-day = c .before .before .before .before .before .before .before .plan-day in
+    list-few (start .args .list) (start .pre) _ refl (plan-day .result) _ (plan-day .ensures) (c .before .before .before .enum-told .given .1)
 
 enum-known-verdict : tie.Need-enum-known-verdict
 enum-known-verdict c = search needs
-
-put-refusal-requires : tie.Need-put-refusal-requires
-put-refusal-requires c κs = search needs
 
 same-length : tie.Need-same-length
 same-length c = search needs
 
 returns : tie.Need-returns
-returns c = answered-put (c .before .before .before .before .before .before .before .before .before .before .before .before .before .args .list) (c .before .before .before .before .before .before .before .before .before .before .before .before .before .pre) _ refl (c .before .before .before .before .before .before .before .before .before .before .plan-day .result) _ (c .before .before .before .before .before .before .before .before .before .before .plan-day .ensures) (c .before .before .before .before .before .before .enum-told .given .1) (c .before .before .put-day .ensures)
-
-same-length-2 : tie.Need-same-length-2
-same-length-2 c = search needs
+returns c =
+    let start = c .before .before .before .before .before .before .before .before .before .before .before .before .before in
+    let plan-day = c .before .before .before .before .before .before .before .before .before .before .plan-day in
+    answered-put (start .args .list) (start .pre) _ refl (plan-day .result) _ (plan-day .ensures) (c .before .before .before .before .before .before .enum-told .given .1)
+    (c .before .before .put-day .ensures)
 
 returns-2 : tie.Need-returns-2
-returns-2 c = refused-put (c .before .before .before .before .before .before .before .before .before .before .before .before .args .list) (c .before .before .before .before .before .before .before .before .before .before .before .before .pre) _ refl (c .before .before .before .before .before .before .before .before .before .plan-day .result) _ (c .before .before .before .before .before .before .before .before .before .plan-day .ensures) _ (c .before .before .before .before .before .verdict .given .1) (c .before .before .put-refusal .ensures)
+returns-2 c =
+    let start = c .before .before .before .before .before .before .before .before in
+    let plan-day = c .before .before .before .before .before .plan-day in
+    refused-is (start .args .list) (start .pre) _ refl (plan-day .result) _ (plan-day .ensures) _ (c .before .verdict .given .1)
 
 pub put-planned-spec : {M : Type 1} → statement M
 put-planned-spec =
@@ -57,8 +67,6 @@ put-planned-spec =
     slice-aggregate-put-day
     put-day-requires
     enum-known-verdict
-    put-refusal-requires
     same-length
     returns
-    same-length-2
     returns-2)

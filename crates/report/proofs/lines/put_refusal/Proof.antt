@@ -7,14 +7,8 @@ use Rattle.report.proofs.CallCases.{refusal-put}
 use Rattle.report.proofs.lines.put_refusal.Statement.{statement}
 use Rattle.report.proofs.lines.put_refusal.Tie as tie
 
-numbers-of-requires : tie.Need-numbers-of-requires
-numbers-of-requires c κs = search needs
-
 slice-aggregate-put-after : tie.Need-slice-aggregate-put-after
 slice-aggregate-put-after c = search needs
-
-cast-put-after : tie.Need-cast-put-after
-cast-put-after c = search needs
 
 put-after-requires : tie.Need-put-after-requires
 put-after-requires c κs = search needs
@@ -33,15 +27,16 @@ same-length c = search needs
 
 returns : tie.Need-returns
 unfolding ascii
-returns c = refusal-put _ (c .before .before .before .before .before .before .before .before .before .before .before .before .before .before .before .before .numbers-of .result) (c .before .before .before .before .before .before .before .before .before .before .before .before .before .before .before .before .numbers-of .ensures) (puts-then (c .before .before .before .before .before .before .before .before .before .before .before .put-after .ensures) (puts-then (c .before .before .before .before .before .before .before .put-carried .ensures) (c .before .before .put-bytes .ensures)))
+returns c =
+    let put-after = c .before .before .before .before .before .before .before .before .before .before .before .put-after in
+    let put-carried = c .before .before .before .before .before .before .before .put-carried in
+    refusal-put (c .before .before .before .before .before .before .before .before .before .before .before .before .before .before .before .before .args .code) (puts-then (put-after .ensures) (puts-then (put-carried .ensures) (c .before .before .put-bytes .ensures)))
 
 pub put-refusal-spec : {M : Type 1} → statement M
 put-refusal-spec =
     tie.close
     (tie.spec
-    numbers-of-requires
     slice-aggregate-put-after
-    cast-put-after
     put-after-requires
     put-carried-requires
     slice-aggregate-put-bytes
