@@ -6,8 +6,8 @@ use Prim.Native.Nat.{ℕ}
 use lib.ListN.{length}
 use Rattle.list.specs.Outcomes.{Outcome, answered, refused}
 use Rattle.list.specs.Refusals.{codeOf, verdictOf, outcomeOf, writeAnswerOf}
-use Rattle.list.specs.Reading.{readOf}
-use Rattle.list.specs.Promises.{Reads, Writes}
+use Rattle.format.specs.Reading.{readOf}
+use Rattle.format.specs.Promises.{Reads, Writes}
 use Rattle.list.specs.declared.types.DayList.{DayList}
 use Rattle.list.specs.declared.types.Refusal.{Refusal}
 use Rattle.list.specs.declared.types.Verdict.{Verdict}

@@ -11,11 +11,11 @@ use mathlib.Core.Bool.{not}
 use lib.Dec.{eqb}
 use Rattle.list.specs.declared.types.Kind.{Kind}
 use Rattle.list.specs.declared.types.Seal.{Seal}
-use Rattle.list.specs.Entries.{sealOf}
-use Rattle.list.specs.Maps.{kindOf}
+use Rattle.format.specs.EntryFields.{sealOf}
+use Rattle.format.specs.Maps.{kindOf}
 use Rattle.list.specs.declared.types.Entry.{Entry}
 use Rattle.list.specs.declared.types.DayList.{DayList}
-use Rattle.list.proofs.Stores.{sets-append}
+use Rattle.format.proofs.Stores.{sets-append}
 use Rattle.abi.specs.Flat.{flatEntry, flatEntries, flatOf, entryIn, entriesIn}
 
 -- `entryIn`, field by field

@@ -4,8 +4,8 @@ use mathlib.Core.Path.{_≡_}
 use mathlib.Core.List.{List, [], _∷_, _++_}
 use lib.ListN.{length}
 use Rattle.list.specs.Outcomes.{code, Outcome, answered, refused}
-use Rattle.list.specs.Reading.{readOf}
-use Rattle.list.specs.Writing.{writeOf, bufferAfter}
+use Rattle.format.specs.Reading.{readOf}
+use Rattle.format.specs.Writing.{writeOf, bufferAfter}
 use Rattle.list.specs.declared.types.DayList.{DayList}
 use Rattle.jackson.specs.Windows.{Windows, windowsOf}
 use Rattle.jackson.specs.Testing.{testOf}

@@ -4,8 +4,8 @@ use mathlib.Core.Bool.{not}
 use mathlib.Core.List.{List, [], _∷_, _++_}
 use lib.ListN.{getD}
 use lib.Dec.{eqb}
-use Rattle.list.specs.Maps.{kindOf}
-use Rattle.list.specs.Entries.{sealOf}
+use Rattle.format.specs.Maps.{kindOf}
+use Rattle.format.specs.EntryFields.{sealOf}
 use Rattle.list.specs.declared.types.Seal.{Seal}
 use Rattle.list.specs.declared.types.Seal.the-variants.{Missing, Number}
 use Rattle.list.specs.declared.types.Kind.{Kind}

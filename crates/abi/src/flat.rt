@@ -10,8 +10,8 @@ ghost use Prim.Native.Nat.{_+_, _≤_, min};
 ghost use lib.ListN.{replicate};
 ghost use lib.Seq.{sets};
 ghost use lib.Dec.{eqb};
-ghost use Rattle.list.specs.Maps.{kindOf};
-ghost use Rattle.list.specs.Entries.{sealOf};
+ghost use Rattle.format.specs.Maps.{kindOf};
+ghost use Rattle.format.specs.EntryFields.{sealOf};
 ghost use Rattle.abi.specs.Flat.{present, numberOf, wholeOf, flatEntry, flatOf, entryIn, valueOf};
 
 // The largest u16 for a number that is too large, and likewise below.

@@ -74,7 +74,7 @@ fn count_as(answer: WriteAnswer) -> Answer
 pub extern "C" fn dock_read(bytes: &[u8], fields: &mut [u32; 450]) -> Answer
     ensures { λ a. ⌜ ReadCall (now (bytes .entry)) (now (fields .entry)) a (now (fields .exit)) ⌝ }
 {
-    let answer = list::read(bytes);
+    let answer = format::read(bytes);
     let verdict = answer.verdict;
     match verdict {
         Verdict::Accepted => {
@@ -94,7 +94,7 @@ pub extern "C" fn dock_read(bytes: &[u8], fields: &mut [u32; 450]) -> Answer
 pub extern "C" fn dock_write(fields: &[u32; 450], out: &mut [u8]) -> Answer
     ensures { λ a. ⌜ WriteCall (now (fields .entry)) (now (out .entry)) a (now (out .exit)) ⌝ }
 {
-    let answer = list::write(list_in(fields), out);
+    let answer = format::write(list_in(fields), out);
     count_as(answer)
 }
 

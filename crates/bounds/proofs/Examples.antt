@@ -6,7 +6,7 @@ use mathlib.Core.List.{[], _∷_}
 use native.Mathlib.Omega.{arith}
 use Rattle.list.specs.Entries.{entryFault}
 use Rattle.list.specs.Checks.{headerFault, entriesFault, checkOf}
-use Rattle.list.specs.Reading.{readOf, bodyOf, entriesFrom}
+use Rattle.format.specs.Reading.{readOf, bodyOf, entriesFrom}
 use Rattle.jackson.specs.Counting.{sum, same, firstBelow, best, listOf}
 use Rattle.jackson.specs.Windows.{windowsOf}
 use Rattle.jackson.specs.Plans.{Plan, IsEnd, IsStart, placesIn}

@@ -5,7 +5,7 @@ use mathlib.Core.List.{List, [], _∷_, _++_, map}
 use lib.ListN.{getD}
 use Rattle.list.specs.Outcomes.{Outcome, answered, refused, code}
 use Rattle.list.specs.DayLists.{entriesOf, dayList}
-use Rattle.list.specs.Reading.{readOf}
+use Rattle.format.specs.Reading.{readOf}
 use Rattle.list.specs.declared.types.Seal.the-variants.{Missing}
 use Rattle.list.specs.declared.types.Kind.the-variants.{Pause, Whole}
 use Rattle.list.specs.declared.types.Entry.{Entry}

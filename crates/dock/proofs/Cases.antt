@@ -9,12 +9,12 @@ use lib.ListN.{length, take, length-take}
 use lib.Seq.{take-append-seam}
 use Rattle.list.specs.Outcomes.{Outcome, answered, refused}
 use Rattle.list.specs.Refusals.{codeOf, writeAnswerOf}
-use Rattle.list.specs.Writing.{storing}
+use Rattle.format.specs.Writing.{storing}
 use Rattle.list.specs.declared.types.Refusal.{Refusal}
 use Rattle.list.specs.declared.types.WriteAnswer.{WriteAnswer}
 use Rattle.list.specs.declared.types.WriteAnswer.the-variants.{Written, NotWritten}
 use Rattle.list.proofs.Inversion.{answered-refused, answered-same, refused-same}
-use Rattle.list.proofs.RoundTrip.{longest, longest-reached}
+use Rattle.format.proofs.RoundTrip.{longest, longest-reached}
 use Rattle.codes.specs.Numbers.{numbersOf}
 use Rattle.codes.specs.declared.RefusalCode.{RefusalCode}
 use Rattle.report.specs.Reports.{refusalLine, reportOf, printed, printedOf}

@@ -4,7 +4,7 @@ use mathlib.Core.Path.{_≡_}
 use mathlib.Core.List.{List}
 use lib.ListN.{length, take}
 use Rattle.list.specs.Checks.{WellFormed}
-use Rattle.list.specs.Writing.{bytesOf}
+use Rattle.format.specs.Writing.{bytesOf}
 use Rattle.list.specs.declared.types.DayList.{DayList}
 use Rattle.report.specs.Reports.{printedOf}
 

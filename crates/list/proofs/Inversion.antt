@@ -7,7 +7,6 @@ use Prim.Native.Nat.{ℕ, _<_, _≤_}
 use native.Mathlib.Omega.{arith}
 use Rattle.list.specs.Outcomes.{Code, code, Outcome, answered, refused, andThen}
 use Rattle.list.specs.Refusals.{codeOf, verdictOf}
-use Rattle.list.specs.Reading.{PlaceIn}
 use Rattle.list.specs.declared.types.Refusal.{Refusal}
 use Rattle.list.specs.declared.types.Verdict.{Verdict}
 use Rattle.list.specs.declared.types.Verdict.the-variants.{Accepted, Refused}
@@ -53,13 +52,6 @@ module _ {A : Type 0} (P : A → Type 0) (R : Code → Type 0) where
 -- where refusals do not count
 abbrev pub Anything : Code → Type 0
 Anything k = Unit {0}
-
--- the length, and a place inside
-pub at-end : (len x : ℕ) → x ≡ len → PlaceIn len (code 1 (x ∷ []))
-at-end len x h = record { reading = omega arith; place = x; carried = refl; missing = λ q. h; inside = λ q. absurd (q refl) }
-
-pub at-place : (len n x : ℕ) → 2 ≤ n → n ≤ 8 → x < len → PlaceIn len (code n (x ∷ []))
-at-place len n x other row h = record { reading = row; place = x; carried = refl; missing = λ q. absurd (omega arith); inside = λ q. h }
 
 -- an "or" that does not hold
 pub neither : (a b : Bool) → (a || b) ≡ false → (a ≡ false) × (b ≡ false)

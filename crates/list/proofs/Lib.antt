@@ -1,24 +1,9 @@
--- What the crates above may cite: what a well-formed list is, inversions of outcomes, the round trips, that the first 964 bytes decide how
--- an input is read, that number and values tell one answer, and laws on walks over arrays, on arrays that are filled and on runs of
--- stores. The rest serves this crate alone.
-mod Table
-mod MapBytes
-mod Places
-mod EntryCases
+-- What the crates above may cite: what a well-formed list is, inversions of outcomes, that number and values tell one answer, what the
+-- machine's types say of a list, and laws on walks over arrays and on arrays that are filled. The rest serves this crate alone.
 mod CheckCases
 pub mod Inversion
 pub mod Sound
-mod ReadCases
-mod FormCases
-mod WriteCases
-mod FieldTrip
-mod EntryTrip
-mod ListTrip
-mod InTypes
-mod Promised
+pub mod InTypes
 pub mod Walk
-pub mod Stores
 pub mod Filling
-pub mod RoundTrip
-pub mod FirstBytes
 pub mod OneVerdict

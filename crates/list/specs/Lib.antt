@@ -1,13 +1,6 @@
 pub mod Outcomes
 pub mod Refusals
-pub mod Numbers
-pub mod Maps
 pub mod Entries
 pub mod DayLists
 pub mod Checks
-pub mod Reading
-pub mod Forms
-pub mod Writing
 pub mod Machine
-pub mod Promises
-pub mod Parts

@@ -10,7 +10,7 @@ ghost use Rattle.list.specs.Entries.{entryFault};
 ghost use Rattle.list.specs.Checks.{headerFault, checkOf};
 
 // Rows 2 and 3; 3 carries the place given.
-pub(crate) fn header_fault(place: usize, frame: Frame, n: u8) -> Verdict
+pub fn header_fault(place: usize, frame: Frame, n: u8) -> Verdict
     ensures { λ v. ⌜ verdictOf v ≡ headerFault place frame n ⌝ }
 {
     let h = frame.h;
@@ -27,7 +27,7 @@ pub(crate) fn header_fault(place: usize, frame: Frame, n: u8) -> Verdict
 }
 
 // Rows 6 and 7 of one entry, which carry the place given. The sum r + p may pass 65,535.
-pub(crate) fn entry_fault(frame: Frame, place: usize, e: Entry) -> Verdict
+pub fn entry_fault(frame: Frame, place: usize, e: Entry) -> Verdict
     ensures { λ v. ⌜ verdictOf v ≡ entryFault frame place e ⌝ }
 {
     if e.p == 0 {

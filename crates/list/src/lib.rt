@@ -1,18 +1,12 @@
-// The day's list (document 01, "The day's list"): its value, its bytes, and when it is turned back.
-// Promises: `check` tests a value, `read` turns bytes into a list, `write` gives a list's one form, `empty_list` is what stands beside a
-// refusal. Each is total: its contract states the answer, and what lent buffers hold, by equality with definitions of specs/, for every
-// input. Uses nothing but the language.
+// The day's list (document 01, "The day's list"): its value, the refusals of every call, and when a value is turned back.
+// Promises: `check` tests a value, `header_fault` and `entry_fault` are its rows for a header and for an entry, which the reader gives too;
+// `empty_list` is what stands beside a refusal. Each is total: its contract states the answer by equality with definitions of specs/, for
+// every value. Uses nothing but the language.
 mod blank;
-mod bytes;
 mod checks;
-mod entry;
-mod form;
-mod map;
-mod reader;
 pub mod types;
-mod writer;
 
 pub use blank::empty_list;
 pub use checks::check;
-pub use reader::read;
-pub use writer::write;
+pub use checks::entry_fault;
+pub use checks::header_fault;

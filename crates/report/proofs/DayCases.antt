@@ -11,8 +11,8 @@ use Rattle.list.specs.Outcomes.{Outcome, answered, refused}
 use Rattle.list.specs.Refusals.{codeOf, outcomeOf}
 use Rattle.list.specs.DayLists.{entriesOf}
 use Rattle.list.specs.Checks.{WellFormed}
-use Rattle.list.specs.Reading.{readOf}
-use Rattle.list.specs.Promises.{Reads}
+use Rattle.format.specs.Reading.{readOf}
+use Rattle.format.specs.Promises.{Reads}
 use Rattle.list.specs.declared.types.Entry.{Entry}
 use Rattle.list.specs.declared.types.DayList.{DayList}
 use Rattle.list.specs.declared.types.Refusal.{Refusal}
@@ -22,7 +22,7 @@ use Rattle.list.specs.declared.types.ReadAnswer.{ReadAnswer}
 use Rattle.list.specs.declared.types.WriteAnswer.{WriteAnswer}
 use Rattle.list.specs.declared.types.WriteAnswer.the-variants.{Written}
 use Rattle.list.proofs.Sound.{sound-list}
-use Rattle.list.proofs.RoundTrip.{read-well-formed}
+use Rattle.format.proofs.RoundTrip.{read-well-formed}
 use Rattle.jackson.specs.Windows.{Windows, windowsOf}
 use Rattle.jackson.specs.Intervals.{overloadOf}
 use Rattle.jackson.specs.Plans.{placesIn}

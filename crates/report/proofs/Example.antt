@@ -1,9 +1,10 @@
 -- Document 01's examples of reports hold: the definitions compute.
 -- Assumes nothing.
 use mathlib.Core.Path.{refl}
-use Rattle.list.specs.Entries.{entryAt, entryFault, fieldsEntry, entryOf}
+use Rattle.list.specs.Entries.{entryFault}
+use Rattle.format.specs.EntryFields.{entryAt, fieldsEntry, entryOf}
 use Rattle.list.specs.Checks.{headerFault}
-use Rattle.list.specs.Reading.{entriesFrom, bodyOf, readOf}
+use Rattle.format.specs.Reading.{entriesFrom, bodyOf, readOf}
 use Rattle.jackson.specs.Counting.{sum, firstBelow, lastBelow, best, listOf}
 use Rattle.jackson.specs.Intervals.{work, leftEnd, rightEnd, overloadOf}
 use Rattle.jackson.specs.Minutes.{chosen, minuteOf, later, schedule}

@@ -5,8 +5,8 @@ use mathlib.Core.List.{List}
 use Prim.Native.Nat.{ℕ, _≤_}
 use lib.ListN.{take}
 use lib.Seq.{take-take}
-use Rattle.list.specs.Reading.{readOf}
-use Rattle.list.proofs.FirstBytes.{first-bytes}
+use Rattle.format.specs.Reading.{readOf}
+use Rattle.format.proofs.FirstBytes.{first-bytes}
 use Rattle.report.specs.Reports.{reportOf}
 
 pub same-report : (limit : ℕ) → 964 ≤ limit → (input bs : List ℕ) → take limit input ≡ bs → reportOf input ≡ reportOf bs

@@ -12,11 +12,11 @@ use Rattle.list.specs.Outcomes.{Outcome, answered, refused, andThen}
 use Rattle.list.specs.Machine.{Bytes, Typed}
 use Rattle.list.specs.DayLists.{entriesOf, blank}
 use Rattle.list.specs.Checks.{WellFormed}
-use Rattle.list.specs.Reading.{readOf}
+use Rattle.format.specs.Reading.{readOf}
 use Rattle.list.specs.declared.types.DayList.{DayList}
 use Rattle.list.proofs.Inversion.{Says, Anything}
 use Rattle.list.proofs.Sound.{sound-list}
-use Rattle.list.proofs.RoundTrip.{read-well-formed, read-typed}
+use Rattle.format.proofs.RoundTrip.{read-well-formed, read-typed}
 use Rattle.jackson.specs.Windows.{Windows, windowsOf}
 use Rattle.jackson.specs.Plans.{idle, placesIn, PlanBytes}
 use Rattle.jackson.specs.Intervals.{overloadOf}

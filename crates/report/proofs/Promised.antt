@@ -10,8 +10,8 @@ use lib.ListN.{length, getD, take}
 use lib.Seq.{sets-eq, take-append-seam, length-sets}
 use Rattle.list.specs.Outcomes.{answered}
 use Rattle.list.specs.Machine.{Bytes}
-use Rattle.list.specs.Parts.{Wrote}
-use Rattle.list.specs.Writing.{stored}
+use Rattle.format.specs.Parts.{Wrote}
+use Rattle.format.specs.Writing.{stored}
 use Rattle.list.specs.declared.types.Refusal.{Refusal}
 use Rattle.list.specs.declared.types.Refusal.the-variants.{ListBufferShort}
 use Rattle.list.specs.declared.types.WriteAnswer.{WriteAnswer}

@@ -5,7 +5,7 @@ use mathlib.Core.List.{List}
 use lib.ListN.{length}
 use Rattle.list.specs.Outcomes.{code, Outcome, answered, refused, andThen}
 use Rattle.list.specs.Refusals.{writeAnswerOf}
-use Rattle.list.specs.Writing.{storing, stored}
+use Rattle.format.specs.Writing.{storing, stored}
 use Rattle.list.specs.declared.types.WriteAnswer.{WriteAnswer}
 use Rattle.codes.specs.declared.RefusalCode.{RefusalCode}
 use Rattle.report.specs.Reports.{refusalLine, reportOf}

@@ -7,7 +7,7 @@ use lib.ListN.{getD}
 use lib.Dec.{eqb}
 use Rattle.list.specs.Outcomes.{Code, Outcome, answered, refused, andThen}
 use Rattle.list.specs.DayLists.{entriesOf, blank}
-use Rattle.list.specs.Reading.{readOf}
+use Rattle.format.specs.Reading.{readOf}
 use Rattle.list.specs.declared.types.Seal.{Seal}
 use Rattle.list.specs.declared.types.Seal.the-variants.{Missing, Number}
 use Rattle.list.specs.declared.types.Kind.{Kind}

@@ -71,7 +71,7 @@ fn put_planned(out: &mut [u8], list: DayList) -> WriteAnswer
 pub(crate) fn put_report(input: &[u8], out: &mut [u8]) -> WriteAnswer
     ensures { λ a. ⌜ PutsOr (reportOf (now (input .entry))) (now (out .entry)) a (now (out .exit)) ⌝ }
 {
-    let answer = list::read(input);
+    let answer = format::read(input);
     let verdict = answer.verdict;
     match verdict {
         Verdict::Accepted => {

@@ -1,0 +1,61 @@
+-- The promises of `read` and `write`, from the cases that code knows and the round trips.
+-- Assumes nothing.
+use mathlib.Core.Path.{_≡_, sym, subst, _∙_}
+use mathlib.Core.List.{List, [], _∷_}
+use Prim.Native.Nat.{ℕ, _≤_, _<_}
+use native.Mathlib.Nat.{zero-add}
+use native.Mathlib.Omega.{arith}
+use borrow.Author.Tests.{lt-ltb}
+use lib.ListN.{length, take}
+use lib.Seq.{sets, sets-eq}
+use Rattle.list.specs.Outcomes.{code, answered, refused}
+use Rattle.list.specs.Refusals.{verdictOf, writeAnswerOf}
+use Rattle.list.specs.DayLists.{SameList}
+use Rattle.list.specs.Checks.{WellFormed, checkOf}
+use Rattle.format.specs.Reading.{readOf}
+use Rattle.format.specs.Parts.{AnswersAs}
+use Rattle.format.specs.Writing.{bytesOf, writeOf, bufferAfter}
+use Rattle.list.specs.Machine.{Bytes, Typed}
+use Rattle.format.specs.Promises.{Reads, Writes}
+use Rattle.list.specs.declared.types.DayList.{DayList}
+use Rattle.list.specs.declared.types.Refusal.{Refusal}
+use Rattle.list.specs.declared.types.Refusal.the-variants.{ListBufferShort}
+use Rattle.list.specs.declared.types.Verdict.{Verdict}
+use Rattle.list.specs.declared.types.Verdict.the-variants.{Refused}
+use Rattle.list.specs.declared.types.ReadAnswer.{ReadAnswer}
+use Rattle.list.specs.declared.types.WriteAnswer.{WriteAnswer}
+use Rattle.list.specs.declared.types.WriteAnswer.the-variants.{Written, NotWritten}
+use Rattle.list.proofs.Inversion.{by-refused}
+use Rattle.format.proofs.WriteCases.{list-written}
+use Rattle.format.proofs.RoundTrip.{written-reads-back, read-well-formed, read-one-form}
+
+pub reads : (bs : List ℕ) (a : ReadAnswer) → Bytes bs → AnswersAs (readOf bs) a → Reads bs a
+reads bs a b w = record { outcome = w .outcome; beside = w .beside; back = λ l e. (read-well-formed bs l e, read-one-form bs l e b) }
+
+module _ (l : DayList) (old : List ℕ) (t : Typed l) where
+  promised : (a : WriteAnswer) (new : List ℕ) → writeAnswerOf a ≡ writeOf l (length old) → new ≡ bufferAfter (writeOf l (length old)) l old → Writes l old a new
+  promised a new p q =
+      record {
+        outcome = p;
+        buffer = q;
+        back =
+            λ count e. subst (λ (bs : List ℕ). (b : DayList) × (readOf (take count bs) ≡ answered b) × SameList b l) (sym q)
+            (written-reads-back l old count t e);
+      }
+
+  pub write-refused : (v : Verdict) (x : Refusal) → verdictOf v ≡ checkOf l → v ≡ Refused x → Writes l old (NotWritten x) old
+  unfolding writeOf
+  write-refused v x w a = let q = by-refused w a in promised (NotWritten x) old (rw q) (rw q)
+
+  pub write-short : (size : ℕ) → WellFormed l → size ≡ length (bytesOf l) → length old < size → Writes l old (NotWritten (ListBufferShort size)) old
+  unfolding writeOf
+  write-short size w z h =
+      let k : length old < length (bytesOf l) = omega (arith, z) in
+      let q : writeOf l (length old) ≡ refused (code 12 (length (bytesOf l) ∷ [])) = rw w (simp (lt-ltb _ _ k)) in
+      promised (NotWritten (ListBufferShort size)) old (rw (q, z)) (rw q)
+
+  pub write-done : (size : ℕ) (new : List ℕ) → WellFormed l → size ≡ length (bytesOf l) → size ≤ length old → new ≡ sets old 0 (bytesOf l)
+      → Writes l old (Written size) new
+  write-done size new w z h q₀ =
+      let q = list-written l (length old) w (omega (arith, z)) in
+      promised (Written size) new (rw (q, z)) (rw q (q₀ ∙ sets-eq (bytesOf l) old 0 (omega (arith, z)) ∙ rw zero-add))

@@ -1,0 +1,171 @@
+-- Reading a list, case by case: what code knows before, after and between the entries.
+-- Assumes nothing.
+use mathlib.Core.Path.{_≡_, refl, sym, ap, _∙_}
+use mathlib.Core.List.{List, [], _∷_, _++_, append-assoc, append-nil}
+use Prim.Native.Nat.{ℕ, suc, _+_, _-_, _≤_, _<_}
+use native.Mathlib.Nat.{sub-zero}
+use native.Mathlib.Numerals.{add-one}
+use native.Mathlib.Omega.{arith}
+use borrow.Author.Tests.{lt-ltb, le-ltb}
+use lib.Dec.{ltb}
+use lib.ListN.{length, take, drop, set, replicate, length-take, length-drop, length-set}
+use lib.Seq.{take-all, take-suc-set, drop-drop}
+use Rattle.list.specs.Outcomes.{Code, code, Outcome, answered, refused, row, firstOf, andThen}
+use Rattle.list.specs.Refusals.{codeOf, verdictOf}
+use Rattle.format.specs.EntryFields.{entryOf, entryAnswerOf}
+use Rattle.list.specs.DayLists.{blank, dayList, emptyList}
+use Rattle.list.specs.Checks.{headerFault}
+use Rattle.format.specs.Reading.{entriesFrom, frameOf, countOf, bodyOf, readOf}
+use Rattle.format.specs.Parts.{AnswersAs}
+use Rattle.list.specs.declared.types.Entry.{Entry}
+use Rattle.list.specs.declared.types.Frame.{Frame}
+use Rattle.list.specs.declared.types.DayList.{DayList}
+use Rattle.list.specs.declared.types.Refusal.{Refusal}
+use Rattle.list.specs.declared.types.Verdict.{Verdict}
+use Rattle.list.specs.declared.types.Verdict.the-variants.{Accepted, Refused}
+use Rattle.list.specs.declared.types.ReadAnswer.{ReadAnswer}
+use Rattle.format.specs.declared.entry.EntryAnswer.{EntryAnswer}
+use Rattle.format.specs.declared.entry.EntryAnswer.the-variants.{Taken, NotTaken}
+use Rattle.format.proofs.EntryTrip.{TakenEntry, entry-says}
+use Rattle.list.proofs.Filling.{blank-after, filled-list}
+
+-- the entries es in front of those that are still to come
+abbrev pub before : List Entry → Outcome (List Entry × ℕ) → Outcome (List Entry × ℕ)
+before es o = andThen o (λ more. answered (es ++ more .0, more .1))
+
+-- one entry, and k more after it
+abbrev oneMore : Frame → ℕ → ℕ → List ℕ → Outcome (List Entry × ℕ)
+oneMore f k at bs =
+    andThen (entryOf f at bs)
+    (λ one. andThen (entriesFrom f k (at + one .1) (drop (one .1) bs)) (λ more. answered (one .0 ∷ more .0, more .1)))
+
+-- i of n entries were read, up to place at
+pub record SoFar (f : Frame) (n : ℕ) (bs : List ℕ) (entries : List Entry) (at i : ℕ) : Type 0 where
+  pub passed : i ≤ n
+  pub inside : at ≤ length bs
+  pub long : length entries ≡ 64
+  pub unused : drop i entries ≡ replicate (64 - i) blank
+  pub rest : entriesFrom f n 3 (drop 3 bs) ≡ before (take i entries) (entriesFrom f (n - i) at (drop at bs))
+
+before-nothing : (o : Outcome (List Entry × ℕ)) → o ≡ before [] o
+before-nothing (answered p) = refl
+before-nothing (refused k) = refl
+
+before-one : (es : List Entry) (e : Entry) (o : Outcome (List Entry × ℕ))
+    → before es (andThen o (λ more. answered (e ∷ more .0, more .1))) ≡ before (es ++ (e ∷ [])) o
+before-one es e (answered p) = ap (λ (l : List Entry). answered (l, p .1)) (sym (append-assoc es (e ∷ []) (p .0)))
+before-one es e (refused k) = refl
+
+pub start : (f : Frame) (n : ℕ) (bs : List ℕ) → 3 ≤ length bs → SoFar f n bs (replicate 64 blank) 3 0
+start f n bs h =
+    record {
+      passed = omega arith;
+      inside = h;
+      long = refl;
+      unused = refl;
+      rest = rw sub-zero (before-nothing _);
+    }
+
+-- what is left from place at on, as code lends it
+rest-lent : (bs : List ℕ) (at : ℕ) → take (length bs - at) (drop at bs) ≡ drop at bs
+rest-lent bs at = take-all (length bs - at) (drop at bs) (omega (arith, length-drop at bs))
+
+-- the next entry, as code reads it
+abbrev pub ReadHere : Frame → ℕ → List ℕ → EntryAnswer → Type 0
+ReadHere f at bs a = entryAnswerOf a ≡ entryOf f at (take (length bs - at) (drop at bs))
+
+taken-here : (f : Frame) (at : ℕ) (bs : List ℕ) (a : EntryAnswer) (e : Entry) (size : ℕ) → ReadHere f at bs a → a ≡ Taken e size
+    → entryOf f at (drop at bs) ≡ answered (e, size)
+taken-here f at bs a e size q t = rw (t, rest-lent bs at) at (sym q)
+
+refused-here : (f : Frame) (at : ℕ) (bs : List ℕ) (a : EntryAnswer) (x : Refusal) → ReadHere f at bs a → a ≡ NotTaken x
+    → entryOf f at (drop at bs) ≡ refused (codeOf x)
+refused-here f at bs a x q t = rw (t, rest-lent bs at) at (sym q)
+
+-- an entry that was taken lies inside the input
+pub size-here : (f : Frame) (at : ℕ) (bs : List ℕ) (a : EntryAnswer) (e : Entry) (size : ℕ) → at ≤ length bs → ReadHere f at bs a
+    → a ≡ Taken e size → at + size ≤ length bs
+size-here f at bs a e size h q t =
+    let rest = drop at bs in
+    let taken : TakenEntry f rest (e, size) = rw (taken-here f at bs a e size q t) at (entry-says f at rest _ refl) in
+    omega (arith, taken .within, length-drop at bs)
+
+module _ {f : Frame} {n : ℕ} {bs : List ℕ} {entries : List Entry} {at i : ℕ} (s : SoFar f n bs entries at i) where
+  turn : i < n → entriesFrom f n 3 (drop 3 bs) ≡ before (take i entries) (oneMore f (n - (i + 1)) at (drop at bs))
+  unfolding entriesFrom
+  turn h = let q : n - i ≡ suc (n - (i + 1)) = omega arith in s .rest ∙ rw q
+
+  pub entry-refused : (a : EntryAnswer) (x : Refusal) → i < n → ReadHere f at bs a → a ≡ NotTaken x → entriesFrom f n 3 (drop 3 bs) ≡ refused (codeOf x)
+  entry-refused a x h q t = rw (turn h, refused-here f at bs a x q t)
+
+  pub next : (a : EntryAnswer) (e : Entry) (size : ℕ) → n ≤ 64 → i < n → ReadHere f at bs a → a ≡ Taken e size
+      → SoFar f n bs (set entries i e) (at + size) (i + 1)
+  next a e size room h q t =
+      record {
+        passed = omega arith;
+        inside = size-here f at bs a e size (s .inside) q t;
+        long = length-set entries i e ∙ s .long;
+        unused = blank-after entries i e (omega arith) (s .unused);
+        rest = turn h ∙ rest-after;
+      }
+    where
+      taken : take (i + 1) (set entries i e) ≡ take i entries ++ (e ∷ [])
+      taken = rw add-one (take-suc-set entries i e (omega (arith, s .long)))
+
+      rest-after : before (take i entries) (oneMore f (n - (i + 1)) at (drop at bs))
+          ≡ before (take (i + 1) (set entries i e)) (entriesFrom f (n - (i + 1)) (at + size) (drop (at + size) bs))
+      rest-after =
+          rw (taken-here f at bs a e size q t, taken, ← drop-drop size at bs)
+          (before-one (take i entries) e (entriesFrom f (n - (i + 1)) (at + size) (drop size (drop at bs))))
+
+  pub done : n ≤ i → entriesFrom f n 3 (drop 3 bs) ≡ answered (take i entries, at)
+  unfolding entriesFrom
+  done h =
+      let z : n - i ≡ 0 = omega arith in
+      s .rest ∙ rw z (ap (λ (l : List Entry). answered (l, at)) (append-nil (take i entries)))
+
+  pub list-is : n ≤ 64 → n ≤ i → record { frame = f; n = n; entries = entries } ≡ dayList f (take i entries)
+  list-is room h =
+      let z : i ≡ n = omega (arith, s .passed) in
+      let k : length (take i entries) ≡ n = simp length-take (omega (arith, s .long, s .passed)) in
+      filled-list f n (take i entries) entries k (rw z) (rw z at (s .unused))
+
+-- after the entries: row 8, or the list
+module _ (bs : List ℕ) (f : Frame) (n : ℕ) (p : f ≡ frameOf bs) (q : n ≡ countOf bs) where
+  body : bodyOf bs ≡ andThen (entriesFrom f n 3 (drop 3 bs)) (λ all. firstOf (row 8 (ltb (all .1) (length bs)) (all .1) ∷ []) (answered (dayList f (all .0))))
+  unfolding bodyOf
+  body = rw (p, q)
+
+  pub body-refused : (k : Code) → entriesFrom f n 3 (drop 3 bs) ≡ refused k → bodyOf bs ≡ refused k
+  body-refused k e = rw (body, e)
+
+  pub body-left : (es : List Entry) (end : ℕ) → entriesFrom f n 3 (drop 3 bs) ≡ answered (es, end) → end < length bs → bodyOf bs ≡ refused (code 8 (end ∷ []))
+  body-left es end e h = rw (body, e) (simp (lt-ltb _ _ h))
+
+  pub body-done : (es : List Entry) (end : ℕ) → entriesFrom f n 3 (drop 3 bs) ≡ answered (es, end) → length bs ≤ end → bodyOf bs ≡ answered (dayList f es)
+  body-done es end e h = rw (body, e) (simp (le-ltb _ _ h))
+
+-- an answer made of a refusal, and one made of a list
+pub answers-refused : (o : Outcome DayList) (a : ReadAnswer) (x : Refusal) → a ≡ record { verdict = Refused x; list = emptyList }
+    → o ≡ refused (codeOf x) → AnswersAs o a
+answers-refused o a x p q = record { outcome = rw (p, q); beside = rw (p, q) }
+
+pub answers-list : (o : Outcome DayList) (l : DayList) → o ≡ answered l → AnswersAs o (record { verdict = Accepted; list = l })
+answers-list o l q = record { outcome = sym q; beside = rw q }
+
+-- the header
+module _ (bs : List ℕ) where
+  pub read-short : length bs < 3 → readOf bs ≡ refused (code 1 (length bs ∷ []))
+  unfolding readOf
+  read-short h = simp (lt-ltb _ _ h)
+
+  module _ (f : Frame) (v : Verdict) (p : f ≡ frameOf bs) (h : 3 ≤ length bs) (w : verdictOf v ≡ headerFault 2 f (countOf bs)) where
+    header : readOf bs ≡ andThen (verdictOf v) (λ _. bodyOf bs)
+    unfolding readOf
+    header = rw w (rw p (simp (le-ltb _ _ h)))
+
+    pub read-header : (x : Refusal) → v ≡ Refused x → readOf bs ≡ refused (codeOf x)
+    read-header x a = rw (header, a)
+
+    pub read-body : v ≡ Accepted → readOf bs ≡ bodyOf bs
+    read-body a = rw (header, a)

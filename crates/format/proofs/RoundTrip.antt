@@ -1,0 +1,221 @@
+-- Lists and bytes, both ways: a well-formed list survives writing and reading, and accepted bytes survive reading and writing.
+-- Also what an accepted list is, the longest form, where bytes are turned back, and that equal lists are treated alike.
+-- Assumes nothing.
+use mathlib.Core.Path.{_≡_, refl, sym, ap, _∙_}
+use mathlib.Core.List.{List, [], _∷_, _++_, append-nil}
+use Prim.Native.Nat.{ℕ, _+_, _-_, _≤_, _<_}
+use native.Mathlib.Omega.{arith}
+use borrow.Author.Tests.{ltb-true, ltb-false}
+use lib.Dec.{ltb}
+use lib.ListN.{length, getD, take, drop, replicate, length-append, length-take, length-drop, length-replicate, drop-of-length-le}
+use lib.Seq.{take-append-seam, take-at}
+use Rattle.list.specs.Machine.{Bytes, Typed}
+use Rattle.list.specs.Outcomes.{Code, Outcome, answered, refused}
+use Rattle.list.specs.Entries.{entryFault}
+use Rattle.format.specs.Forms.{entryBytes}
+use Rattle.list.specs.DayLists.{entriesOf, blank, dayList, SameList}
+use Rattle.list.specs.Checks.{WellFormed, checkOf, headerFault, entriesFault}
+use Rattle.format.specs.Reading.{entriesFrom, frameOf, countOf, bodyOf, readOf, PlaceIn}
+use Rattle.format.specs.Writing.{bytesOfEntries, bytesOf, writeOf, bufferAfter}
+use Rattle.list.specs.declared.types.Seal.the-variants.{Number}
+use Rattle.list.specs.declared.types.Kind.the-variants.{Pause}
+use Rattle.list.specs.declared.types.Entry.{Entry}
+use Rattle.list.specs.declared.types.Frame.{Frame}
+use Rattle.list.specs.declared.types.DayList.{DayList}
+use Rattle.list.specs.declared.types.Verdict.the-variants.{Accepted}
+use Rattle.list.proofs.Inversion.{Says, by-row, by-step, Anything}
+use Rattle.format.proofs.CarriedPlaces.{at-end, at-place}
+use Rattle.list.proofs.Sound.{Header, header-says, header-passes, SoundList, check-says, sound-list, well-formed}
+use Rattle.format.proofs.FieldTrip.{bytes-drop, u16-back, u16-stands, byte-stands}
+use Rattle.format.proofs.EntryTrip.{Fits}
+use Rattle.format.proofs.ReadCases.{read-body, body-done}
+use Rattle.format.proofs.WriteCases.{list-short, has-room, list-written}
+use Rattle.format.proofs.ListTrip.{TakenEntries, entries-say, entries-read-back, every-take, every-at}
+
+module _ (l : DayList) (t : Typed l) (w : WellFormed l) where
+  sound : SoundList l
+  sound = sound-list l w
+
+  small : l .frame .h < 65536
+  small = omega (arith, sound .header .one-day)
+
+  counted : length (entriesOf l) ≡ l .n
+  counted = simp length-take (omega (arith, t .long, sound .header .room))
+
+  entries-back : entriesFrom (l .frame) (l .n) 3 (bytesOfEntries (l .frame) (entriesOf l))
+      ≡ answered (entriesOf l, 3 + length (bytesOfEntries (l .frame) (entriesOf l)))
+  entries-back =
+      let fits = every-take Fits (l .entries) (l .n) (λ i. record { serial = t .serial i; seal = t .seal i }) in
+      rw counted at (entries-read-back (l .frame) 3 (entriesOf l) small fits (sound .entries))
+
+  -- a well-formed list is read back from its one form: the same entries, and blank places after them
+  pub bytes-read-back : readOf (bytesOf l) ≡ answered (dayList (l .frame) (entriesOf l))
+  unfolding bytesOf
+  bytes-read-back =
+      let same : l .frame ≡ frameOf (bytesOf l) =
+      ap (λ (x : ℕ). record { h = x }) (sym (u16-back (l .frame .h) (l .n ∷ bytesOfEntries (l .frame) (entriesOf l)) small)) in
+      read-body (bytesOf l) (l .frame) Accepted same (omega arith) (sym (header-passes 2 (l .frame) (l .n) (sound .header))) refl
+      ∙ body-done (bytesOf l) (l .frame) (l .n) same refl (entriesOf l) _ entries-back (omega arith)
+
+  -- and that list equals the one written
+  pub same-back : SameList (dayList (l .frame) (entriesOf l)) l
+  same-back = record { frame = refl; n = counted; entries = take-append-seam (entriesOf l) _ }
+
+-- what an answer of the writer says
+module _ (l : DayList) (room : ℕ) where
+  abbrev Answer : ℕ → Type 0
+  Answer count = WellFormed l × (count ≡ length (bytesOf l))
+
+  write-says : Says Answer Anything (writeOf l room)
+  unfolding writeOf
+  write-says =
+      by-step (λ _. SoundList l) Anything Answer (checkOf l) _ (check-says l Anything tt tt (λ _. tt) (λ _. tt))
+      (λ _ s. by-row Answer Anything (ltb room (length (bytesOf l))) _ _ (λ t. tt) (λ t. (well-formed l s, refl)))
+
+-- a well-formed list survives writing and reading: from the bytes that the writer stored, an equal list is read
+pub written-reads-back : (l : DayList) (old : List ℕ) (count : ℕ) → Typed l → writeOf l (length old) ≡ answered count
+    → (back : DayList) × (readOf (take count (bufferAfter (writeOf l (length old)) l old)) ≡ answered back) × SameList back l
+written-reads-back l old count t e =
+    let z : Answer l (length old) count = rw e at (write-says l (length old)) in (
+      dayList (l .frame) (entriesOf l),
+      rw (e, take-at (bytesOf l) (drop count old) count (sym (z .1))) (bytes-read-back l t (z .0)),
+      same-back l t (z .0),
+    )
+
+-- the same from the list alone: a well-formed list that has room is written, and an equal list is read from what was written
+pub survives : (l : DayList) (old : List ℕ) → Typed l → WellFormed l → length (bytesOf l) ≤ length old
+    → (count : ℕ) × (writeOf l (length old) ≡ answered count)
+    × ((back : DayList) × (readOf (take count (bufferAfter (writeOf l (length old)) l old)) ≡ answered back) × SameList back l)
+survives l old t w h =
+    let e = list-written l (length old) w h in (length (bytesOf l), e, written-reads-back l old (length (bytesOf l)) t e)
+
+-- what an accepted list is: sound, and the list whose one form was read
+record ReadAs (bs : List ℕ) (l : DayList) : Type 0 where
+  sound : SoundList l
+  form : Bytes bs → bytesOf l ≡ bs
+  typed : Bytes bs → Typed l
+
+module _ (bs : List ℕ) where
+  abbrev f : Frame
+  f = frameOf bs
+
+  abbrev n : ℕ
+  n = countOf bs
+
+  -- what holds of the entries that are taken after the header
+  abbrev Entries : List Entry × ℕ → Type 0
+  Entries = TakenEntries f n (drop 3 bs) (length bs)
+
+  -- the list that they make, if no byte is left over
+  module _ (long : 3 ≤ length bs) (h : Header f n) (x : List Entry × ℕ) (taken : Entries x) (done : length bs ≤ x .1) where
+    abbrev es : List Entry
+    es = x .0
+
+    kept : entriesOf (dayList f es) ≡ es
+    kept = take-append-seam es _
+
+    one-form : Bytes bs → bytesOf (dayList f es) ≡ bs
+    unfolding bytesOf
+    one-form b =
+        let none : taken .rest ≡ [] = drop-of-length-le (taken .rest) {i = 0} (omega (arith, taken .left)) in
+        let body : drop 3 bs ≡ bytesOfEntries f es = taken .form (bytes-drop bs 3 b) ∙ rw none (append-nil _) in
+        rw (kept, taken .count, ← body, ← byte-stands bs 2 long, ← u16-stands bs b 0 (omega arith))
+
+    in-types : Bytes bs → Typed (dayList f es)
+    in-types b =
+        let fits : (i : ℕ) → Fits (getD (dayList f es .entries) i blank) =
+        λ i. every-at Fits es (64 - length es) i (record { serial = omega arith; seal = tt }) (taken .fits (bytes-drop bs 3 b)) in
+        record {
+          long = simp (length-append, length-replicate) (omega (arith, taken .count, h .room));
+          serial = λ i. fits i .serial;
+          seal = λ i. fits i .seal;
+        }
+
+    read-as : ReadAs bs (dayList f es)
+    read-as =
+        record {
+          sound = record { header = rw (taken .count) h; entries = rw kept (taken .sound) };
+          form = one-form;
+          typed = in-types;
+        }
+
+  -- what reading bytes says
+  read-says : Says (ReadAs bs) (PlaceIn (length bs)) (readOf bs)
+  unfolding readOf bodyOf
+  read-says =
+      let P = ReadAs bs in
+      let R = PlaceIn (length bs) in
+      by-row P R (ltb (length bs) 3) _ _ (λ t. at-end (length bs) _ refl)
+      (λ t.
+      let long : 3 ≤ length bs = ltb-false _ _ t in
+      by-step (λ _. Header f n) R P (headerFault 2 f n) _
+      (header-says 2 f n R (at-place _ 2 0 (omega arith) (omega arith) (omega arith)) (at-place _ 3 2 (omega arith) (omega arith) (omega arith)))
+      (λ _ h. by-step Entries R P (entriesFrom f n 3 (drop 3 bs)) _ (entries-say f n 3 (drop 3 bs) (length bs) (simp length-drop (omega arith)))
+      (λ x taken. by-row P R (ltb (x .1) (length bs)) _ _ (λ l. at-place _ 8 (x .1) (omega arith) (omega arith) (ltb-true _ _ l))
+      (λ l. read-as long h x taken (ltb-false _ _ l)))))
+
+  -- what 1 carries is the input's length, and any other refusal carries a place inside the input
+  pub read-places : (k : Code) → readOf bs ≡ refused k → PlaceIn (length bs) k
+  read-places k e = rw e at read-says
+
+  module _ (l : DayList) (e : readOf bs ≡ answered l) where
+    accepted : ReadAs bs l
+    accepted = rw e at read-says
+
+    -- an accepted list is well-formed
+    pub read-well-formed : WellFormed l
+    read-well-formed = well-formed l (accepted .sound)
+
+    -- an accepted list is one that the machine's types hold
+    pub read-typed : Bytes bs → Typed l
+    read-typed = accepted .typed
+
+    -- accepted bytes are the one form of the list read
+    pub read-one-form : Bytes bs → bytesOf l ≡ bs
+    read-one-form = accepted .form
+
+    -- accepted bytes survive reading and writing, byte for byte, in every buffer that has room
+    pub read-writes-back : Bytes bs → (old : List ℕ) → length bs ≤ length old
+        → (writeOf l (length old) ≡ answered (length bs)) × (bufferAfter (writeOf l (length old)) l old ≡ bs ++ drop (length bs) old)
+    read-writes-back b old h =
+        let form = read-one-form b in
+        let written : writeOf l (length old) ≡ answered (length bs) = rw form at (list-written l (length old) read-well-formed (rw form h)) in
+        (written, rw (written, form))
+
+-- no list's one form has more than 963 bytes
+pub longest : (l : DayList) → WellFormed l → length (bytesOf l) ≤ 963
+longest l w = list-short l (has-room l w)
+
+-- 64 entries that write all their fields
+fullest : DayList
+fullest = dayList (record { h = 1440 }) (replicate 64 (record { serial = 0; seal = Number 0; r = 1; d = 2; p = 1; kind = Pause }))
+
+-- some list's one form has 963 bytes
+pub longest-reached : (l : DayList) × WellFormed l × (length (bytesOf l) ≡ 963)
+unfolding fullest checkOf headerFault entriesFault entryFault bytesOf bytesOfEntries entryBytes
+longest-reached = (fullest, refl, refl)
+
+-- "Two list values are equal if H, n and the first n entries are": then the value check, the one form and the writer treat them alike
+module _ (a b : DayList) (same : SameList a b) where
+  -- they are checked alike
+  pub same-checked : checkOf a ≡ checkOf b
+  unfolding checkOf
+  same-checked = rw (same .entries, same .n, same .frame)
+
+  -- they have one form
+  pub same-bytes : bytesOf a ≡ bytesOf b
+  unfolding bytesOf
+  same-bytes = rw (same .entries, same .n, same .frame)
+
+  same-answer : (room : ℕ) → writeOf a room ≡ writeOf b room
+  unfolding writeOf
+  same-answer room = rw (same-checked, same-bytes)
+
+  same-buffer : (o : Outcome ℕ) (old : List ℕ) → bufferAfter o a old ≡ bufferAfter o b old
+  same-buffer (answered n) old = rw same-bytes
+  same-buffer (refused k) old = refl
+
+  -- they are written alike: the same answer, and the same buffer afterwards
+  pub same-written : (old : List ℕ)
+      → (writeOf a (length old) ≡ writeOf b (length old)) × (bufferAfter (writeOf a (length old)) a old ≡ bufferAfter (writeOf b (length old)) b old)
+  same-written old = (same-answer (length old), rw (same-answer (length old)) (same-buffer (writeOf b (length old)) old))

@@ -1,0 +1,125 @@
+-- A list's one form, entry by entry: its length, and the steps that store it.
+-- Assumes nothing.
+use mathlib.Core.Path.{_≡_, refl, sym, ap, _∙_}
+use mathlib.Core.List.{List, [], _∷_, _++_}
+use Prim.Native.Nat.{ℕ, _+_, _*_, _≤_, _<_}
+use native.Mathlib.Omega.{arith}
+use borrow.Author.Tests.{le-ltb}
+use lib.ListN.{length, getD, drop, set, length-append, length-set, length-take}
+use lib.Seq.{sets}
+use Rattle.list.specs.Outcomes.{answered}
+use Rattle.format.specs.Numbers.{u16Bytes}
+use Rattle.format.specs.Maps.{sizeOf}
+use Rattle.format.specs.Forms.{fieldsIn, entryBytes}
+use Rattle.list.specs.DayLists.{entriesOf}
+use Rattle.list.specs.Checks.{WellFormed}
+use Rattle.format.specs.Writing.{bytesOfEntries, bytesOf, writeOf}
+use Rattle.format.specs.Parts.{Wrote}
+use Rattle.list.specs.declared.types.Entry.{Entry}
+use Rattle.list.specs.declared.types.Frame.{Frame}
+use Rattle.list.specs.declared.types.DayList.{DayList}
+use Rattle.format.specs.declared.map.Fields.{Fields}
+use Rattle.list.proofs.Sound.{sound-list}
+use Rattle.format.proofs.Stores.{wrote-length, wrote-more, room-first, room-after}
+use Rattle.format.proofs.FormCases.{entry-length, entry-short}
+use Rattle.list.proofs.Walk.{walk-next, walk-done}
+
+-- the bytes of the entries from place i on
+abbrev pub restBytes : DayList → ℕ → List ℕ
+restBytes l i = bytesOfEntries (l .frame) (drop i (entriesOf l))
+
+-- i entries were counted
+pub record Counted (l : DayList) (size i : ℕ) : Type 0 where
+  pub passed : i ≤ l .n
+  pub total : size + length (restBytes l i) ≡ length (bytesOf l)
+
+-- i entries were stored, up to place at, in a buffer that held from after the header
+pub record StoredSoFar (l : DayList) (from out : List ℕ) (at i : ℕ) : Type 0 where
+  pub passed : i ≤ l .n
+  pub long : length out ≡ length from
+  pub room : at + length (restBytes l i) ≤ length out
+  pub rest : sets out at (restBytes l i) ≡ sets from 3 (restBytes l 0)
+
+module _ (l : DayList) (enough : l .n ≤ length (l .entries)) where
+  rest-next : (i : ℕ) (e₀ : Entry) → i < l .n → restBytes l i ≡ entryBytes (l .frame) (getD (l .entries) i e₀) ++ restBytes l (i + 1)
+  unfolding bytesOfEntries
+  rest-next i e₀ h = rw (walk-next (l .entries) (l .n) enough i e₀ h)
+
+  rest-done : (i : ℕ) → l .n ≤ i → restBytes l i ≡ []
+  unfolding bytesOfEntries
+  rest-done i h = rw (walk-done (l .entries) (l .n) enough i h)
+
+  pub counted-next : (size k i : ℕ) (e₀ : Entry) (m : Fields) → Counted l size i → i < l .n
+      → m ≡ fieldsIn (l .frame) (getD (l .entries) i e₀) → k ≡ sizeOf m → Counted l (size + k) (i + 1)
+  counted-next size k i e₀ m c h p z =
+      let e = getD (l .entries) i e₀ in
+      let q : length (restBytes l i) ≡ length (entryBytes (l .frame) e) + length (restBytes l (i + 1)) =
+      rw (rest-next i e₀ h) (length-append (entryBytes (l .frame) e) (restBytes l (i + 1))) in
+      let w : k ≡ length (entryBytes (l .frame) e) = z ∙ ap sizeOf p ∙ sym (entry-length (l .frame) e) in
+      record {
+        passed = omega arith;
+        total = omega (arith, c .total, q, w);
+      }
+
+  pub counted-done : (size i : ℕ) → Counted l size i → l .n ≤ i → size ≡ length (bytesOf l)
+  counted-done size i c h = omega (arith, c .total, ap (λ (bs : List ℕ). length bs) (rest-done i h))
+
+  pub stored-room : (from out : List ℕ) (at i : ℕ) (e₀ : Entry) → StoredSoFar l from out at i → i < l .n
+      → at + length (entryBytes (l .frame) (getD (l .entries) i e₀)) ≤ length out
+  stored-room from out at i e₀ s h =
+      room-first (entryBytes (l .frame) (getD (l .entries) i e₀)) (restBytes l (i + 1)) at (length out) (rw (rest-next i e₀ h) at (s .room))
+
+  pub stored-next : (from out new : List ℕ) (at next i : ℕ) (e₀ : Entry) → StoredSoFar l from out at i → i < l .n
+      → Wrote out at (entryBytes (l .frame) (getD (l .entries) i e₀)) new next → StoredSoFar l from new next (i + 1)
+  stored-next from out new at next i e₀ s h w =
+      record {
+        passed = omega arith;
+        long = wrote-length w ∙ s .long;
+        room = room-after w (restBytes l (i + 1)) (rw (rest-next i e₀ h) at (s .room));
+        rest = wrote-more w (restBytes l (i + 1)) ∙ (rw (rest-next i e₀ h) at (s .rest));
+      }
+
+  pub stored-done : (from out : List ℕ) (at i : ℕ) → StoredSoFar l from out at i → l .n ≤ i → out ≡ sets from 3 (restBytes l 0)
+  stored-done from out at i s h = rw (rest-done i h) at (s .rest)
+
+-- each entry takes 15 bytes at most
+entries-short : (f : Frame) (es : List Entry) → length (bytesOfEntries f es) ≤ 15 * length es
+unfolding bytesOfEntries
+entries-short f [] = omega arith
+entries-short f (e ∷ es) = simp length-append (omega (arith, entry-short f e, entries-short f es))
+
+module _ (l : DayList) where
+  pub list-length : length (bytesOf l) ≡ 3 + length (restBytes l 0)
+  unfolding bytesOf
+  list-length = simp length-append (omega arith)
+
+  -- so a list takes 963 at most
+  pub list-short : l .n ≤ 64 → length (bytesOf l) ≤ 963
+  list-short h = omega (arith, list-length, entries-short (l .frame) (entriesOf l), length-take (l .n) (l .entries))
+
+  pub counted-start : Counted l 3 0
+  counted-start = record { passed = omega arith; total = sym list-length }
+
+  -- the header and the entries one after the other
+  pub list-stored : {old o : List ℕ} {next : ℕ} → Wrote old 0 (u16Bytes (l .frame .h)) o next → sets (set o 2 (l .n)) 3 (restBytes l 0) ≡ sets old 0 (bytesOf l)
+  unfolding bytesOf
+  list-stored {old} {o} w = rw (w .stored)
+
+  pub stored-start : (old o : List ℕ) (next : ℕ) → Wrote old 0 (u16Bytes (l .frame .h)) o next → length (bytesOf l) ≤ length old
+      → StoredSoFar l (set o 2 (l .n)) (set o 2 (l .n)) 3 0
+  stored-start old o next w h =
+      record {
+        passed = omega arith;
+        long = refl;
+        room = omega (arith, list-length, wrote-length w, length-set o 2 (l .n));
+        rest = refl;
+      }
+
+  -- a well-formed list has room for its entries
+  pub has-room : WellFormed l → l .n ≤ 64
+  has-room w = sound-list l w .header .room
+
+  -- a well-formed list that has room is written
+  pub list-written : (room : ℕ) → WellFormed l → length (bytesOf l) ≤ room → writeOf l room ≡ answered (length (bytesOf l))
+  unfolding writeOf
+  list-written room w h = rw w (simp (le-ltb _ _ h))

@@ -1,0 +1,53 @@
+-- Reading: from bytes to a list value.
+use Prim.Native.Nat.{ℕ, zero, suc, _+_, _<_, _≤_}
+use mathlib.Core.Path.{_≡_}
+use mathlib.Core.List.{List, [], _∷_}
+use lib.ListN.{length, getD, drop}
+use lib.Dec.{ltb}
+use Rattle.list.specs.Outcomes.{Code, Outcome, answered, refused, row, firstOf, andThen}
+use Rattle.format.specs.Numbers.{u16At}
+use Rattle.format.specs.EntryFields.{entryOf}
+use Rattle.list.specs.DayLists.{dayList, emptyList}
+use Rattle.list.specs.Checks.{headerFault}
+use Rattle.list.specs.declared.types.Entry.{Entry}
+use Rattle.list.specs.declared.types.Frame.{Frame}
+use Rattle.list.specs.declared.types.DayList.{DayList}
+
+-- k entries, one after the other, from the start of bs, what is left of the input from place at on; with the place after them
+unfoldable pub entriesFrom : Frame → ℕ → ℕ → List ℕ → Outcome (List Entry × ℕ)
+entriesFrom f zero at bs = answered ([], at)
+entriesFrom f (suc k) at bs =
+    andThen (entryOf f at bs)
+    (λ one. andThen (entriesFrom f k (at + one .1) (drop (one .1) bs)) (λ more. answered (one .0 ∷ more .0, more .1)))
+
+-- "Header: day length H in minutes (2 bytes ..), number of entries n (1 byte ..)."
+abbrev pub frameOf : List ℕ → Frame
+frameOf bs = record { h = u16At bs 0 }
+
+abbrev pub countOf : List ℕ → ℕ
+countOf bs = getD bs 2 0
+
+-- the entries, and row 8: bytes left over
+unfoldable pub bodyOf : List ℕ → Outcome DayList
+bodyOf bs =
+    andThen (entriesFrom (frameOf bs) (countOf bs) 3 (drop 3 bs))
+    (λ all. firstOf (row 8 (ltb (all .1) (length bs)) (all .1) ∷ []) (answered (dayList (frameOf bs) (all .0))))
+
+-- the list that bytes say, or the first row, 1 to 8, that turns them back
+unfoldable pub readOf : List ℕ → Outcome DayList
+readOf bs =
+    firstOf (row 1 (ltb (length bs) 3) (length bs) ∷ [])
+    (andThen (headerFault 2 (frameOf bs) (countOf bs)) (λ _. bodyOf bs))
+
+-- the list that stands in an answer: the one read, or the empty one beside a refusal
+abbrev pub listOr : Outcome DayList → DayList
+listOr (answered l) = l
+listOr (refused k) = emptyList
+
+-- A refusal of an input of this length: one of the rows 1 to 8, of which 1 carries the length and any other a place inside the input.
+pub record PlaceIn (len : ℕ) (k : Code) : Type 0 where
+  pub reading : k .number ≤ 8
+  pub place : ℕ
+  pub carried : k .carries ≡ place ∷ []
+  pub missing : k .number ≡ 1 → place ≡ len
+  pub inside : (k .number ≡ 1 → ⊥) → place < len

@@ -1,0 +1,39 @@
+-- Writing: "The writer gives the list's one form; bytes after it keep their values." and "A refusal writes nothing to any lent buffer."
+use Prim.Native.Nat.{ℕ}
+use mathlib.Core.List.{List, [], _∷_, _++_}
+use lib.ListN.{length, drop}
+use lib.Dec.{ltb}
+use Rattle.list.specs.Outcomes.{Outcome, answered, refused, row, firstOf, andThen}
+use Rattle.format.specs.Numbers.{u16Bytes}
+use Rattle.format.specs.Forms.{entryBytes}
+use Rattle.list.specs.DayLists.{entriesOf}
+use Rattle.list.specs.Checks.{checkOf}
+use Rattle.list.specs.declared.types.Entry.{Entry}
+use Rattle.list.specs.declared.types.Frame.{Frame}
+use Rattle.list.specs.declared.types.DayList.{DayList}
+
+-- the entries' one forms, one after the other
+unfoldable pub bytesOfEntries : Frame → List Entry → List ℕ
+bytesOfEntries f [] = []
+bytesOfEntries f (e ∷ es) = entryBytes f e ++ bytesOfEntries f es
+
+-- the list's one form
+unfoldable pub bytesOf : DayList → List ℕ
+bytesOf l = u16Bytes (l .frame .h) ++ (l .n ∷ bytesOfEntries (l .frame) (entriesOf l))
+
+-- row 12 for bytes that are to stand at the start of a buffer of the length given: how many are stored, or how many are needed
+abbrev pub storing : List ℕ → ℕ → Outcome ℕ
+storing bytes room = firstOf (row 12 (ltb room (length bytes)) (length bytes) ∷ []) (answered (length bytes))
+
+-- the buffer afterwards
+abbrev pub stored : Outcome ℕ → List ℕ → List ℕ → List ℕ
+stored (answered n) bytes old = bytes ++ drop n old
+stored (refused k) bytes old = old
+
+-- the number of bytes written to a buffer of the length given, or the first row, 2, 3, 6, 7 and 12, that turns the list back
+unfoldable pub writeOf : DayList → ℕ → Outcome ℕ
+writeOf l room = andThen (checkOf l) (λ _. storing (bytesOf l) room)
+
+-- the buffer afterwards
+abbrev pub bufferAfter : Outcome ℕ → DayList → List ℕ → List ℕ
+bufferAfter o l old = stored o (bytesOf l) old

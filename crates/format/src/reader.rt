@@ -1,0 +1,81 @@
+// Reading a list from its bytes.
+use crate::bytes::u16_at;
+use crate::entry::EntryAnswer;
+use crate::entry::read_entry;
+use list::empty_list;
+use list::header_fault;
+use list::types::DayList;
+use list::types::Frame;
+use list::types::ReadAnswer;
+use list::types::Refusal;
+use list::types::Verdict;
+ghost use mathlib.Core.Path.{_≡_};
+ghost use Prim.Native.Nat.{_≤_};
+ghost use lib.ListN.{length};
+ghost use Rattle.list.specs.DayLists.{emptyList};
+ghost use Rattle.format.specs.Reading.{frameOf, countOf, bodyOf};
+ghost use Rattle.format.specs.Parts.{AnswersAs};
+ghost use Rattle.format.specs.Promises.{Reads};
+
+// A refusal, with the empty list beside it.
+fn refused_with(x: Refusal) -> ReadAnswer
+    ensures { λ a. ⌜ a ≡ record { verdict = Verdict.Refused x; list = emptyList } ⌝ }
+{
+    ReadAnswer {
+        verdict: Verdict::Refused(x),
+        list: empty_list(),
+    }
+}
+
+// The entries after a sound header, and row 8.
+fn read_body(bytes: &[u8], frame: Frame, n: u8) -> ReadAnswer
+    requires { ⌜ (3 ≤ length (now bytes)) × (n ≤ 64) × (frame ≡ frameOf (now bytes)) × (n ≡ countOf (now bytes)) ⌝ }
+    ensures { λ a. ⌜ AnswersAs (bodyOf (now (bytes .entry))) a ⌝ }
+{
+    let none = empty_list();
+    let mut entries = none.entries;
+    let mut at: usize = 3;
+    let mut i: usize = 0;
+    while i < n as usize {
+        let one = read_entry(frame, at, &bytes[at..]);
+        match one {
+            EntryAnswer::Taken(e, size) => {
+                entries[i] = e;
+                at += size;
+            }
+            EntryAnswer::NotTaken(x) => {
+                return refused_with(x);
+            }
+        }
+        i += 1;
+    }
+    if at < bytes.len() {
+        return refused_with(Refusal::BytesLeftOver(at));
+    }
+    ReadAnswer {
+        verdict: Verdict::Accepted,
+        list: DayList {
+            frame: frame,
+            n: n,
+            entries: entries,
+        },
+    }
+}
+
+// The list that bytes say, or why they are turned back.
+pub fn read(bytes: &[u8]) -> ReadAnswer
+    ensures { λ a. ⌜ Reads (now (bytes .entry)) a ⌝ }
+{
+    if bytes.len() < 3 {
+        return refused_with(Refusal::BytesMissing(bytes.len()));
+    }
+    let frame = Frame {
+        h: u16_at(bytes, 0),
+    };
+    let n = bytes[2];
+    let header = header_fault(2, frame, n);
+    match header {
+        Verdict::Accepted => read_body(bytes, frame, n),
+        Verdict::Refused(x) => refused_with(x),
+    }
+}

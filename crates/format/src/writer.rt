@@ -1,0 +1,66 @@
+// Writing a list's one form.
+use crate::bytes::put_u16;
+use crate::form::fields_in;
+use crate::form::put_entry;
+use crate::map::size_of;
+use list::check;
+use list::types::DayList;
+use list::types::Refusal;
+use list::types::Verdict;
+use list::types::WriteAnswer;
+ghost use mathlib.Core.Path.{_≡_};
+ghost use Prim.Native.Nat.{_≤_};
+ghost use lib.ListN.{length};
+ghost use lib.Seq.{sets};
+ghost use Rattle.format.specs.Writing.{bytesOf};
+ghost use Rattle.format.specs.Promises.{Writes};
+
+// The bytes of a list's one form.
+fn list_size(list: DayList) -> usize
+    requires { ⌜ list .n ≤ 64 ⌝ }
+    ensures { λ k. ⌜ k ≡ length (bytesOf list) ⌝ }
+{
+    let n = list.n as usize;
+    let mut size: usize = 3;
+    let mut i: usize = 0;
+    while i < n {
+        size += size_of(fields_in(list.frame, list.entries[i]));
+        i += 1;
+    }
+    size
+}
+
+// A list's one form, at the start of the buffer.
+fn put_list(list: DayList, out: &mut [u8])
+    requires { ⌜ (list .n ≤ 64) × (length (bytesOf list) ≤ length (now out)) ⌝ }
+    ensures { λ _. ⌜ now (out .exit) ≡ sets (now (out .entry)) 0 (bytesOf list) ⌝ }
+{
+    let n = list.n as usize;
+    let frame = list.frame;
+    put_u16(out, 0, frame.h);
+    out[2] = list.n;
+    let mut at: usize = 3;
+    let mut i: usize = 0;
+    while i < n {
+        at = put_entry(out, at, frame, list.entries[i]);
+        i += 1;
+    }
+}
+
+// The value checks, then 12, else the one form.
+pub fn write(list: DayList, out: &mut [u8]) -> WriteAnswer
+    ensures { λ a. ⌜ Writes list (now (out .entry)) a (now (out .exit)) ⌝ }
+{
+    let verdict = check(list);
+    match verdict {
+        Verdict::Accepted => {
+            let size = list_size(list);
+            if out.len() < size {
+                return WriteAnswer::NotWritten(Refusal::ListBufferShort(size));
+            }
+            put_list(list, out);
+            WriteAnswer::Written(size)
+        }
+        Verdict::Refused(x) => WriteAnswer::NotWritten(x),
+    }
+}
