@@ -58,14 +58,15 @@ pub fn not_settled(fields: &Fields, number: u32, carries: usize) {
 }
 
 /// Settles a list that is not overloaded with the library, from its windows as given and from those that each
-/// round with moves leaves, and gives the rounds of the second narrowing. From each of these windows the
-/// library must make the moves of the rounds that are still to come and give the last windows, or the same
-/// refusal.
+/// round with moves leaves, or some ten of many rounds, and gives the rounds of the second narrowing. From each
+/// of these windows the library must make the moves of the rounds that are still to come and give the last
+/// windows, or the same refusal.
 #[track_caller]
 pub fn rounds(day: &Day) -> Rounds {
     let rounds = narrow::rounds(day);
     let moving = rounds.done.iter().filter(|round| round.moves > 0).map(|round| &round.day);
-    for (made, windows) in [day].into_iter().chain(moving).enumerate() {
+    let some = 1 + rounds.done.len() / 10;
+    for (made, windows) in [day].into_iter().chain(moving).enumerate().step_by(some) {
         let fields = flat::of_day(windows);
         alike(&fields, abi::settle(&fields), wanted(&rounds.outcome_after(made)));
     }
