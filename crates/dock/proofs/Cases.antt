@@ -22,24 +22,25 @@ use Rattle.report.specs.Calls.{StoresText, enough, Reports, lineOf, lineEnough,
 use Rattle.report.proofs.FirstBytes.{same-report}
 use Rattle.dock.specs.Texts.{InputLimit, Holds, Prints}
 
--- the one limit that there is
-pub limit-is : (limit : ℕ) → limit ≡ 964 → InputLimit limit
-limit-is limit is = record { most = omega arith; more = λ l w. omega (arith, longest l w) }
+-- The limit: more than the 963 bytes of a longest list.
+pub limit-is : (limit : ℕ) → 963 < limit → limit ≤ 964 → InputLimit limit
+limit-is limit more most = record { most = most; more = λ l w. omega (arith, longest l w) }
 
-limit-least : (limit : ℕ) → InputLimit limit → 964 ≤ limit
-limit-least limit is = let (l, formed, long) = longest-reached in omega (arith, is .more l formed, long)
+limit-more : (limit : ℕ) → InputLimit limit → 963 < limit
+limit-more limit is = let (l, formed, long) = longest-reached in omega (arith, is .more l formed, long)
 
 -- A text that a buffer has room for was stored.
-module _ (text old : List ℕ) (a : WriteAnswer) (new : List ℕ) (stores : StoresText (answered text) old a new) (room : length text ≤ length old) where
+module _ (text old : List ℕ) (a : WriteAnswer) (new : List ℕ) (stores : StoresText (answered text) old a new)
+    (room : length text ≤ length old) where
   fits : storing text (length old) ≡ answered (length text)
   fits = simp (le-ltb (length old) (length text) room)
 
-  pub text-held : (size : ℕ) → a ≡ Written size → Holds new size text
+  text-held : (size : ℕ) → a ≡ Written size → Holds new size text
   text-held size e =
       let whole : size ≡ length text = answered-same (sym (stores .outcome) ∙ ap writeAnswerOf e) fits in
       record { whole = whole; bytes = rw (whole, stores .buffer, fits) (take-append-seam text _) }
 
-  pub text-taken : (x : Refusal) → a ≡ NotWritten x → ⊥
+  text-taken : (x : Refusal) → a ≡ NotWritten x → ⊥
   text-taken x e = answered-refused fits (sym (stores .outcome) ∙ ap writeAnswerOf e)
 
 -- The line of a refusal, from its number and values.
@@ -64,7 +65,7 @@ pub prints : (buffer : List ℕ) (count : ℕ) → InputLimit (length buffer) �
 prints buffer count limit text size h =
     record {
       read = h;
-      all = λ input e. rw (same-report (length buffer) (limit-least _ limit) input (take count buffer) e) h;
+      all = λ input e. rw (same-report (length buffer) (limit-more _ limit) input (take count buffer) e) h;
     }
 
 -- The report of the bytes read, in a buffer that has room for every text.

@@ -29,8 +29,8 @@ fn line_of(x: Refusal, text: &mut [u8]) -> usize
     }
 }
 
-// What is printed when the first `count` bytes of the buffer `input` were read, in a buffer that has room for every text: its length. Row 12
-// cannot hold here.
+// What is printed when the first `count` bytes of the buffer `input` were read, in a buffer that has room for every text: its length.
+// Row 12 cannot hold here.
 fn text_of(input: &[u8], count: usize, text: &mut [u8]) -> usize
     requires { ⌜ InputLimit (length (now input)) ⌝ }
     requires { ⌜ count ≤ length (now input) ⌝ }

@@ -24,7 +24,8 @@ use Rattle.report.proofs.LineLengths.{refusal-short}
 use Rattle.report.proofs.Lengths.{report-short}
 
 -- a text stored at the start of a buffer that has room for it
-stored-whole : {old text new : List ℕ} {next : ℕ} → length text ≤ length old → Wrote old 0 text new next → new ≡ stored (answered (length text)) text old
+stored-whole : {old text new : List ℕ} {next : ℕ} → length text ≤ length old → Wrote old 0 text new next
+    → new ≡ stored (answered (length text)) text old
 stored-whole {old} {text} room w = w .stored ∙ sets-eq text old 0 (omega arith) ∙ rw zero-add refl
 
 -- A text at the start of a buffer, or row 12.

@@ -22,7 +22,7 @@ digits-same (suc j) (suc k) x a b =
     (λ less. rw (lt-ltb x 10 less))
 
 -- so a bound that is large enough does not matter
-pub digits-enough : (k x : ℕ) → x < k → digits k x ≡ decimal x
+digits-enough : (k x : ℕ) → x < k → digits k x ≡ decimal x
 unfolding decimal
 digits-enough k x h = digits-same k (suc x) x h (omega arith)
 

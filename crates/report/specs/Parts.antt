@@ -20,7 +20,7 @@ use Rattle.report.specs.Reports.{headLine, entryLines, runLines}
 pub record Puts (old : List ℕ) (at : ℕ) (text new : List ℕ) (next : ℕ) : Type 0 where
   pub wrote : at + length text ≤ length old → Wrote old at text new next
 
--- A text is put to the start of a buffer, or there is none: the refusal.
+-- what putting a text to the start of a buffer answers: the place after it, or the refusal that stands instead of a text
 abbrev pub PutsOr : Outcome (List ℕ) → List ℕ → WriteAnswer → List ℕ → Type 0
 PutsOr o old (Written next) new = (text : List ℕ) × (o ≡ answered text) × Puts old 0 text new next
 PutsOr o old (NotWritten x) new = o ≡ refused (codeOf x)

@@ -14,11 +14,13 @@ use Rattle.codes.proofs.numbers_of.Statement.{statement}
 use Rattle.codes.proofs.numbers_of.Tie as tie
 
 -- the refusal that carries three values
-three-values : {x : Refusal} {a b work : ℕ} → x ≡ Overloaded a b work → record { number = 9; values = a ∷ b ∷ work ∷ [] } ≡ numbersOf (codeOf x)
+three-values : {x : Refusal} {a b work : ℕ} → x ≡ Overloaded a b work
+    → record { number = 9; values = a ∷ b ∷ work ∷ [] } ≡ numbersOf (codeOf x)
 three-values q = rw q
 
 -- a refusal that carries one value
-one-value : {r : RefusalCode} {x y : Refusal} {k v : ℕ} → r ≡ numbersOf (code k (v ∷ [])) → x ≡ y → codeOf y ≡ code k (v ∷ []) → r ≡ numbersOf (codeOf x)
+one-value : {r : RefusalCode} {x y : Refusal} {k v : ℕ} → r ≡ numbersOf (code k (v ∷ [])) → x ≡ y
+    → codeOf y ≡ code k (v ∷ []) → r ≡ numbersOf (codeOf x)
 one-value p q s = rw (p, q, s)
 
 enum-known-x : tie.Need-enum-known-x

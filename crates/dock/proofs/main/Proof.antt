@@ -18,7 +18,7 @@ slice-aggregate-text-of-2 : tie.Need-slice-aggregate-text-of-2
 slice-aggregate-text-of-2 c = search needs
 
 text-of-requires : tie.Need-text-of-requires
-text-of-requires c κs = (limit-is _ (search needs), (search needs, search needs))
+text-of-requires c κs = (limit-is _ (search needs) (search needs), (search needs, search needs))
 
 array-share-prefix-text : tie.Need-array-share-prefix-text
 array-share-prefix-text c = size-fits _ _ _ (c .before .text-of .ensures .read)

@@ -39,8 +39,9 @@ returns-2 : tie.Need-returns-2
 returns-2 c =
     let start = c .before .before .before .before .before .before .before .before .before .before .before .before .before .before in
     let report = c .before .before .before .before .before .before .before .before .before .report in
+    let refused = c .before .before .before .before .before .answer2 .given .1 in
     prints (start .args .input .now) (start .args .count) (start .pre .0) _ _
-    (rw (report-refused _ (start .args .text .now) (report .result) _ (report .ensures) (start .pre .1 .1) _ (c .before .before .before .before .before .answer2 .given .1))
+    (rw (report-refused _ (start .args .text .now) (report .result) _ (report .ensures) (start .pre .1 .1) _ refused)
     (c .before .before .line-of .ensures))
 
 pub text-of-spec : {M : Type 1} → statement M

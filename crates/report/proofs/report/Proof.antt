@@ -20,16 +20,18 @@ array-share-prefix-text : tie.Need-array-share-prefix-text
 array-share-prefix-text c =
     let bytes = c .before .before .before .before .before .before .before .shared-slice-known in
     let put-report = c .before .before .before .before .put-report in
-    text-fits (c .before .before .before .before .before .before .before .before .args .input .now) (λ i. bytes .given i .fits) _ _ refl (put-report .result) (put-report .ensures) _
+    let args = c .before .before .before .before .before .before .before .before .args in
+    text-fits (args .input .now) (λ i. bytes .given i .fits) _ _ refl (put-report .result) (put-report .ensures) _
     (c .before .answer .given .1)
 
 slice-aggregate-store : tie.Need-slice-aggregate-store
 slice-aggregate-store c =
     let bytes = c .before .before .before .before .before .before .before .before .shared-slice-known in
     let put-report = c .before .before .before .before .before .put-report in
+    let args = c .before .before .before .before .before .before .before .before .before .args in
     sym
     (length-take-le _ _
-    (text-fits (c .before .before .before .before .before .before .before .before .before .args .input .now) (λ i. bytes .given i .fits) _ _ refl (put-report .result) (put-report .ensures) _
+    (text-fits (args .input .now) (λ i. bytes .given i .fits) _ _ refl (put-report .result) (put-report .ensures) _
     (c .before .before .answer .given .1)))
 
 store-requires : tie.Need-store-requires
@@ -46,8 +48,10 @@ returns c =
     let args = c .before .before .before .before .before .before .before .before .before .before .before .before .before .args in
     let bytes = c .before .before .before .before .before .before .before .before .before .before .before .before .shared-slice-known in
     let put-report = c .before .before .before .before .before .before .before .before .before .put-report in
-    report-stored (args .input .now) (λ i. bytes .given i .fits) _ _ refl (put-report .result) (put-report .ensures) _
-    (c .before .before .before .before .before .before .answer .given .1) (args .out .now) _ (c .before .before .store .result) (c .before .before .store .ensures)
+    let written = c .before .before .before .before .before .before .answer .given .1 in
+    let store = c .before .before .store in
+    report-stored (args .input .now) (λ i. bytes .given i .fits) _ _ refl (put-report .result) (put-report .ensures) _ written
+    (args .out .now) _ (store .result) (store .ensures)
 
 returns-2 : tie.Need-returns-2
 returns-2 c =

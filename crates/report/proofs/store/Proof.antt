@@ -17,7 +17,8 @@ same-length c = search needs
 returns-2 : tie.Need-returns-2
 returns-2 c =
     let args = c .before .before .before .before .before .before .before .args in
-    store-whole (args .text .now) (args .out .now) _ _ (c .before .before .before .before .if1 .left) (c .before .before .put-bytes .ensures)
+    let room = c .before .before .before .before .if1 .left in
+    store-whole (args .text .now) (args .out .now) _ _ room (c .before .before .put-bytes .ensures)
 
 pub store-spec : {M : Type 1} → statement M
 store-spec = tie.close (tie.spec returns put-bytes-requires same-length returns-2)

@@ -22,19 +22,22 @@ array-share-prefix-plan : tie.Need-array-share-prefix-plan
 array-share-prefix-plan c =
     let start = c .before .before .before .before .before .before .before .before .before in
     let plan-day = c .before .before .before .before .before .before .plan-day in
-    bytes-room (start .args .list) (start .pre) _ refl (plan-day .result) _ (plan-day .ensures) (c .before .before .enum-told .given .1)
+    let accepted = c .before .before .enum-told .given .1 in
+    bytes-room (start .args .list) (start .pre) _ refl (plan-day .result) _ (plan-day .ensures) accepted
 
 slice-aggregate-put-day : tie.Need-slice-aggregate-put-day
 slice-aggregate-put-day c =
     let start = c .before .before .before .before .before .before .before .before .before .before in
     let plan-day = c .before .before .before .before .before .before .before .plan-day in
-    bytes-long (start .args .list) (start .pre) _ refl (plan-day .result) _ (plan-day .ensures) (c .before .before .before .enum-told .given .1)
+    let accepted = c .before .before .before .enum-told .given .1 in
+    bytes-long (start .args .list) (start .pre) _ refl (plan-day .result) _ (plan-day .ensures) accepted
 
 put-day-requires : tie.Need-put-day-requires
 put-day-requires c κs =
     let start = c .before .before .before .before .before .before .before .before .before .before in
     let plan-day = c .before .before .before .before .before .before .before .plan-day in
-    list-few (start .args .list) (start .pre) _ refl (plan-day .result) _ (plan-day .ensures) (c .before .before .before .enum-told .given .1)
+    let accepted = c .before .before .before .enum-told .given .1 in
+    list-few (start .args .list) (start .pre) _ refl (plan-day .result) _ (plan-day .ensures) accepted
 
 enum-known-verdict : tie.Need-enum-known-verdict
 enum-known-verdict c = search needs
@@ -46,7 +49,8 @@ returns : tie.Need-returns
 returns c =
     let start = c .before .before .before .before .before .before .before .before .before .before .before .before .before in
     let plan-day = c .before .before .before .before .before .before .before .before .before .before .plan-day in
-    answered-put (start .args .list) (start .pre) _ refl (plan-day .result) _ (plan-day .ensures) (c .before .before .before .before .before .before .enum-told .given .1)
+    let accepted = c .before .before .before .before .before .before .enum-told .given .1 in
+    answered-put (start .args .list) (start .pre) _ refl (plan-day .result) _ (plan-day .ensures) accepted
     (c .before .before .put-day .ensures)
 
 returns-2 : tie.Need-returns-2

@@ -13,8 +13,9 @@ enum-told c = search needs
 
 put-planned-requires : tie.Need-put-planned-requires
 put-planned-requires c κs =
+    let args = c .before .before .before .before .before .before .before .args in
     let read = c .before .before .before .before .read in
-    read-formed (c .before .before .before .before .before .before .before .args .input .now) (read .result) (read .ensures) (c .before .before .enum-told .given .1)
+    read-formed (args .input .now) (read .result) (read .ensures) (c .before .before .enum-told .given .1)
 
 enum-known-verdict : tie.Need-enum-known-verdict
 enum-known-verdict c = search needs
@@ -24,14 +25,17 @@ same-length c = search needs
 
 returns : tie.Need-returns
 returns c =
+    let args = c .before .before .before .before .before .before .before .before .before .before .args in
     let read = c .before .before .before .before .before .before .before .read in
-    read-put (c .before .before .before .before .before .before .before .before .before .before .args .input .now) (read .result) (read .ensures) _ _ (c .before .before .put-planned .result)
-    (c .before .before .before .before .before .enum-told .given .1) (c .before .before .put-planned .ensures)
+    let accepted = c .before .before .before .before .before .enum-told .given .1 in
+    let put-planned = c .before .before .put-planned in
+    read-put (args .input .now) (read .result) (read .ensures) _ _ (put-planned .result) accepted (put-planned .ensures)
 
 returns-2 : tie.Need-returns-2
 returns-2 c =
+    let args = c .before .before .before .before .before .before .args in
     let read = c .before .before .before .read in
-    unread-is (c .before .before .before .before .before .before .args .input .now) (read .result) (read .ensures) _ (c .before .verdict .given .1)
+    unread-is (args .input .now) (read .result) (read .ensures) _ (c .before .verdict .given .1)
 
 pub put-report-spec : {M : Type 1} → statement M
 put-report-spec =

@@ -30,7 +30,9 @@ unfolding ascii
 returns c =
     let put-after = c .before .before .before .before .before .before .before .before .before .before .before .put-after in
     let put-carried = c .before .before .before .before .before .before .before .put-carried in
-    refusal-put (c .before .before .before .before .before .before .before .before .before .before .before .before .before .before .before .before .args .code) (puts-then (put-after .ensures) (puts-then (put-carried .ensures) (c .before .before .put-bytes .ensures)))
+    let args = c .before .before .before .before .before .before .before .before .before .before .before .before .before .before .before .before .args in
+    refusal-put (args .code)
+    (puts-then (put-after .ensures) (puts-then (put-carried .ensures) (c .before .before .put-bytes .ensures)))
 
 pub put-refusal-spec : {M : Type 1} → statement M
 put-refusal-spec =
