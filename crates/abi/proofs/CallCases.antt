@@ -26,7 +26,7 @@ use Rattle.bounds.specs.declared.types.PlanAnswer.{PlanAnswer}
 use Rattle.bounds.specs.declared.types.ShownAnswer.{ShownAnswer}
 use Rattle.report.specs.Calls.{StoresText}
 use Rattle.codes.specs.Numbers.{three}
-use Rattle.abi.specs.Flat.{flatOf, valueOf}
+use Rattle.flat.specs.Flat.{flatOf, valueOf}
 use Rattle.abi.specs.Calls.{answerWith, ReadCall, WriteCall, OverloadCall, ScheduleCall, NarrowCall, PlanCall, ShownCall, EarlyCall, LateCall, TextCall}
 use Rattle.abi.specs.declared.Answer.{Answer}
 

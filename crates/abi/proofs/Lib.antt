@@ -1,4 +1,2 @@
 -- What the code's proofs cite, case by case.
-mod FlatCases
 mod CallCases
-mod BoundsCases

@@ -19,7 +19,7 @@ use Rattle.bounds.specs.Calls.{settledOr, planned, planOf, leastEnds, greatestS
 use Rattle.report.specs.Reports.{refusalLine, reportOf}
 use Rattle.report.specs.Calls.{storeOf, textAfter}
 use Rattle.codes.specs.Numbers.{three}
-use Rattle.abi.specs.Flat.{flatOf, valueOf}
+use Rattle.flat.specs.Flat.{flatOf, valueOf}
 use Rattle.abi.specs.declared.Answer.{Answer}
 
 -- 0 with the values given, or a refusal's number with the values that it carries

@@ -2,18 +2,15 @@
 // Promises: each call answers 0 or a refusal's number of document 01, with its values, and leaves in its buffers what
 // specs/Calls.antt says, whatever the bytes and numbers are. What it cannot check are the pointers themselves: a caller lends
 // `bytes`, `out` and `plan` with their lengths, `fields` and `narrowed` with 450 numbers each, `bounds` with 128 and `values` with 3, and
-// no two of them overlap. Uses the crates list, jackson, narrow, bounds, report and codes.
-mod flat;
-mod flat_bounds;
-
+// no two of them overlap. Uses the crates list, format, flat, jackson, narrow, bounds, report and codes.
 use bounds::plan_day;
 use bounds::show_early;
 use bounds::show_late;
 use bounds::types::PlanAnswer;
 use codes::RefusalCode;
 use flat::flat_of;
+use flat::joined;
 use flat::list_in;
-use flat_bounds::joined;
 use list::types::Refusal;
 use list::types::Verdict;
 use list::types::WriteAnswer;

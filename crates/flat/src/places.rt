@@ -24,7 +24,7 @@ fn put_places(xs: [u16; 64], bounds: &mut [u32; 128], at: usize)
 }
 
 // The numbers of the 64 places, the ends before the starts.
-pub(crate) fn joined(ends: [u16; 64], starts: [u16; 64]) -> [u32; 128]
+pub fn joined(ends: [u16; 64], starts: [u16; 64]) -> [u32; 128]
     ensures { λ r. ⌜ r ≡ ends ++ starts ⌝ }
 {
     let mut bounds = zeros();

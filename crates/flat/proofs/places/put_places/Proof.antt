@@ -4,9 +4,9 @@ use borrow.Author.Needs.{needs}
 use mathlib.Core.Path.{_≡_}
 use Prim.Native.Nat.{_-_}
 use lib.ListN.{length}
-use Rattle.abi.proofs.BoundsCases.{PlacesSoFar, stored-start, stored-next, stored-done}
-use Rattle.abi.proofs.flat_bounds.put_places.Statement.{statement}
-use Rattle.abi.proofs.flat_bounds.put_places.Tie as tie
+use Rattle.flat.proofs.PlacesCases.{PlacesSoFar, stored-start, stored-next, stored-done}
+use Rattle.flat.proofs.places.put_places.Statement.{statement}
+use Rattle.flat.proofs.places.put_places.Tie as tie
 
 abbrev Inv-loop : tie.InvT-loop
 Inv-loop bounds₀ at xs i₀ bounds i = PlacesSoFar bounds₀ at xs bounds i

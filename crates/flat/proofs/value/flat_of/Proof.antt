@@ -5,9 +5,9 @@ use mathlib.Core.Path.{_≡_}
 use Prim.Native.Nat.{_-_}
 use lib.ListN.{length}
 use Rattle.list.proofs.Walk.{length-mapped}
-use Rattle.abi.proofs.FlatCases.{PutSoFar, put-start, put-next, put-done}
-use Rattle.abi.proofs.flat.flat_of.Statement.{statement}
-use Rattle.abi.proofs.flat.flat_of.Tie as tie
+use Rattle.flat.proofs.FlatCases.{PutSoFar, put-start, put-next, put-done}
+use Rattle.flat.proofs.value.flat_of.Statement.{statement}
+use Rattle.flat.proofs.value.flat_of.Tie as tie
 
 abbrev Inv-loop : tie.InvT-loop
 Inv-loop list fields₀ i₀ fields i = PutSoFar list fields i

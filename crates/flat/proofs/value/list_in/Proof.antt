@@ -2,9 +2,9 @@
 -- Assumes nothing.
 use borrow.Author.Needs.{needs}
 use Prim.Native.Nat.{_-_}
-use Rattle.abi.proofs.FlatCases.{ReadInSoFar, read-in-start, read-in-next, read-in-done}
-use Rattle.abi.proofs.flat.list_in.Statement.{statement}
-use Rattle.abi.proofs.flat.list_in.Tie as tie
+use Rattle.flat.proofs.FlatCases.{ReadInSoFar, read-in-start, read-in-next, read-in-done}
+use Rattle.flat.proofs.value.list_in.Statement.{statement}
+use Rattle.flat.proofs.value.list_in.Tie as tie
 
 abbrev Inv-loop : tie.InvT-loop
 Inv-loop fields entries₀ i₀ entries i = ReadInSoFar fields entries i

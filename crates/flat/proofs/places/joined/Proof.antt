@@ -3,9 +3,9 @@
 use borrow.Author.Needs.{needs}
 use mathlib.Core.Path.{_≡_}
 use lib.ListN.{length}
-use Rattle.abi.proofs.BoundsCases.{both-stored}
-use Rattle.abi.proofs.flat_bounds.joined.Statement.{statement}
-use Rattle.abi.proofs.flat_bounds.joined.Tie as tie
+use Rattle.flat.proofs.PlacesCases.{both-stored}
+use Rattle.flat.proofs.places.joined.Statement.{statement}
+use Rattle.flat.proofs.places.joined.Tie as tie
 
 zeros-requires : tie.Need-zeros-requires
 zeros-requires c κs = search needs

@@ -1,8 +1,8 @@
 -- A missing seal or a number, by its flag.
 -- Assumes nothing.
 use borrow.Author.Tests.{eq-eqb, ne-eqb}
-use Rattle.abi.proofs.flat.seal_in.Statement.{statement}
-use Rattle.abi.proofs.flat.seal_in.Tie as tie
+use Rattle.flat.proofs.value.seal_in.Statement.{statement}
+use Rattle.flat.proofs.value.seal_in.Tie as tie
 
 returns : tie.Need-returns
 returns c = simp (eq-eqb _ _ (c .if1 .taken))

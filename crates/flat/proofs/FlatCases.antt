@@ -16,7 +16,7 @@ use Rattle.format.specs.Maps.{kindOf}
 use Rattle.list.specs.declared.types.Entry.{Entry}
 use Rattle.list.specs.declared.types.DayList.{DayList}
 use Rattle.format.proofs.Stores.{sets-append}
-use Rattle.abi.specs.Flat.{flatEntry, flatEntries, flatOf, entryIn, entriesIn}
+use Rattle.flat.specs.Flat.{flatEntry, flatEntries, flatOf, entryIn, entriesIn}
 
 -- `entryIn`, field by field
 pub entry-in-is : (xs : List ℕ) (at : ℕ) {seal : Seal} {r d p : ℕ} {kind : Kind}

@@ -12,7 +12,7 @@ ghost use lib.Seq.{sets};
 ghost use lib.Dec.{eqb};
 ghost use Rattle.format.specs.Maps.{kindOf};
 ghost use Rattle.format.specs.EntryFields.{sealOf};
-ghost use Rattle.abi.specs.Flat.{present, numberOf, wholeOf, flatEntry, flatOf, entryIn, valueOf};
+ghost use Rattle.flat.specs.Flat.{present, numberOf, wholeOf, flatEntry, flatOf, entryIn, valueOf};
 
 // The largest u16 for a number that is too large, and likewise below.
 fn u16_of(x: u32) -> u16
@@ -68,7 +68,7 @@ fn alike(e: Entry) -> [Entry; 64]
 }
 
 // The list value that the numbers say, whatever they are.
-pub(crate) fn list_in(fields: &[u32; 450]) -> DayList
+pub fn list_in(fields: &[u32; 450]) -> DayList
     ensures { λ l. ⌜ l ≡ valueOf (now (fields .entry)) ⌝ }
 {
     let mut entries = alike(entry_in(fields, 2));
@@ -136,7 +136,7 @@ fn zeros() -> [u32; 450]
 }
 
 // The numbers that say a list value.
-pub(crate) fn flat_of(list: DayList) -> [u32; 450]
+pub fn flat_of(list: DayList) -> [u32; 450]
     ensures { λ r. ⌜ r ≡ flatOf list ⌝ }
 {
     let frame = list.frame;

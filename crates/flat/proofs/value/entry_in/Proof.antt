@@ -1,9 +1,9 @@
 -- Field by field.
 -- Assumes nothing.
 use borrow.Author.Needs.{needs}
-use Rattle.abi.proofs.FlatCases.{entry-in-is}
-use Rattle.abi.proofs.flat.entry_in.Statement.{statement}
-use Rattle.abi.proofs.flat.entry_in.Tie as tie
+use Rattle.flat.proofs.FlatCases.{entry-in-is}
+use Rattle.flat.proofs.value.entry_in.Statement.{statement}
+use Rattle.flat.proofs.value.entry_in.Tie as tie
 
 add-seal-in : tie.Need-add-seal-in
 add-seal-in c = search needs

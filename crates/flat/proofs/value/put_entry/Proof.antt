@@ -2,8 +2,8 @@
 -- Assumes nothing.
 use borrow.Author.Needs.{needs}
 use native.Mathlib.Numerals.{towards-suc}
-use Rattle.abi.proofs.flat.put_entry.Statement.{statement}
-use Rattle.abi.proofs.flat.put_entry.Tie as tie
+use Rattle.flat.proofs.value.put_entry.Statement.{statement}
+use Rattle.flat.proofs.value.put_entry.Tie as tie
 
 mul-fields : tie.Need-mul-fields
 mul-fields c = search needs

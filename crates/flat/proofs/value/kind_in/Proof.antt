@@ -1,8 +1,8 @@
 -- Either kind, by its flag.
 -- Assumes nothing.
 use borrow.Author.Tests.{eq-eqb, ne-eqb}
-use Rattle.abi.proofs.flat.kind_in.Statement.{statement}
-use Rattle.abi.proofs.flat.kind_in.Tie as tie
+use Rattle.flat.proofs.value.kind_in.Statement.{statement}
+use Rattle.flat.proofs.value.kind_in.Tie as tie
 
 returns : tie.Need-returns
 returns c = simp (eq-eqb _ _ (c .if1 .taken))

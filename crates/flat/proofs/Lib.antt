@@ -1,0 +1,3 @@
+-- What the code's proofs cite, case by case.
+mod FlatCases
+mod PlacesCases

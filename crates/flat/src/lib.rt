@@ -1,0 +1,10 @@
+// A list value as 450 numbers, and numbers by place, as they cross to other languages.
+// Promises: `list_in` is the list value that numbers say, whatever they are, `flat_of` the numbers that say a list value, `joined` least ends
+// and greatest starts one after the other. Each is total: its contract states the answer by equality with definitions of specs/. Uses the
+// types of the crate list.
+mod places;
+mod value;
+
+pub use places::joined;
+pub use value::flat_of;
+pub use value::list_in;
