@@ -22,6 +22,7 @@ use Rattle.report.specs.Calls.{StoresText, enough, Reports, lineOf, line
 use Rattle.report.specs.Parts.{Puts, PutsOr}
 use Rattle.report.proofs.LineLengths.{refusal-short}
 use Rattle.report.proofs.Lengths.{report-short}
+use Rattle.report.proofs.FirstBytes.{same-report}
 
 -- a text stored at the start of a buffer that has room for it
 stored-whole : {old text new : List ℕ} {next : ℕ} → length text ≤ length old → Wrote old 0 text new next
@@ -72,12 +73,17 @@ module _ (bs : List ℕ) (is : Bytes bs) (own buffer : List ℕ) (long : length 
         record {
           stores = rw (found .1) (rw (own-is own (found .0) buffer size has-room (found .2)) at s);
           room = report-short bs is;
+          first-bytes = λ limit more input. same-report limit more input bs;
         }
 
   pub report-refused : (x : Refusal) → a ≡ NotWritten x → (old : List ℕ) → Reports bs old (NotWritten x) old
   report-refused x e old =
       let none : PutsOr (reportOf bs) own (NotWritten x) buffer = rw e at puts in
-      record { stores = record { outcome = rw none refl; buffer = rw none refl }; room = report-short bs is }
+      record {
+        stores = record { outcome = rw none refl; buffer = rw none refl };
+        room = report-short bs is;
+        first-bytes = λ limit more input. same-report limit more input bs;
+      }
 
 -- `refusal_line`: the line was put to a buffer that has room for every one.
 module _ (c : RefusalCode) (number : c .number < 2 ^ 64) (values : (i : ℕ) → getD (c .values) i 0 < 2 ^ 64) (own buffer : List ℕ)

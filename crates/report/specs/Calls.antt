@@ -2,7 +2,7 @@
 use Prim.Native.Nat.{ℕ, _≤_}
 use mathlib.Core.Path.{_≡_}
 use mathlib.Core.List.{List}
-use lib.ListN.{length}
+use lib.ListN.{length, take}
 use Rattle.list.specs.Outcomes.{code, Outcome, answered, refused, andThen}
 use Rattle.list.specs.Refusals.{writeAnswerOf}
 use Rattle.format.specs.Writing.{storing, stored}
@@ -34,6 +34,8 @@ pub record Reports (bs old : List ℕ) (a : WriteAnswer) (new : List ℕ) : Type
   pub stores : StoresText (reportOf bs) old a new
   -- so a buffer of this length is never too short
   pub room : (text : List ℕ) → reportOf bs ≡ answered text → length text ≤ enough
+  -- "it takes 964 bytes at most; a longest list has 963": where bs are the first bytes of an input, 964 or more, this is its report too
+  pub first-bytes : (limit : ℕ) → 964 ≤ limit → (input : List ℕ) → take limit input ≡ bs → reportOf input ≡ reportOf bs
 
 -- the line of a refusal's number and values
 abbrev pub lineOf : RefusalCode → List ℕ
