@@ -101,7 +101,7 @@ module _ (l : DayList) where
   unfolding planChecks
   plan-formed room e = rows-passed (bufferRow (l .frame .h) room ∷ []) e .0
 
-  pub plan-room : (room : ℕ) → planChecks l room ≡ answered tt → l .frame .h ≤ room
+  plan-room : (room : ℕ) → planChecks l room ≡ answered tt → l .frame .h ≤ room
   unfolding planChecks
   plan-room room e = ltb-false _ _ (row-passed _ _ _ (rows-passed (bufferRow (l .frame .h) room ∷ []) e .1) .0)
 
@@ -190,19 +190,12 @@ pub record Ready (checks : Outcome (Unit {0})) (l : DayList) (old : List ℕ) (a
   pub holds : Holds (a .list) s
   pub room : l .frame .h ≤ length old
 
-module _ {l : DayList} {old : List ℕ} {a : NarrowAnswer} {s : WindowSet} where
-  pub plan-ready : NarrowsAfter (planChecks l (length old)) l a → a .verdict ≡ Accepted → Holds (a .list) s
-      → Ready (planChecks l (length old)) l old a s
-  plan-ready after e holds =
-      let settled = is-settled after e (plan-formed l (length old)) in
-      record { after = after; settled = settled; holds = holds; room = plan-room l (length old) (settled .passed) }
-
-  pub shown-ready : (k : ℕ) → NarrowsAfter (shownChecks l k (length old)) l a → a .verdict ≡ Accepted → Holds (a .list) s
-      → Ready (shownChecks l k (length old)) l old a s
-  shown-ready k after e holds =
-      let settled = is-settled after e (shown-formed l k (length old)) in
-      let passed = shown-plan l k (length old) (settled .passed) .1 in
-      record { after = after; settled = settled; holds = holds; room = plan-room l (length old) passed }
+pub is-ready : {checks : Outcome (Unit {0})} {l : DayList} {old : List ℕ} {a : NarrowAnswer} {s : WindowSet}
+    → NarrowsAfter checks l a → (checks ≡ answered tt → planChecks l (length old) ≡ answered tt)
+    → a .verdict ≡ Accepted → Holds (a .list) s → Ready checks l old a s
+is-ready {checks} {l} {old} after plan e holds =
+    let settled = is-settled after e (λ q. plan-formed l (length old) (plan q)) in
+    record { after = after; settled = settled; holds = holds; room = plan-room l (length old) (plan (settled .passed)) }
 
 module _ {checks : Outcome (Unit {0})} {l : DayList} {old : List ℕ} {a : NarrowAnswer} {s : WindowSet}
     (ready : Ready checks l old a s) where

@@ -25,18 +25,20 @@ mirror-plan-requires c κs = search needs
 
 sub-result : tie.Need-sub-result
 sub-result c =
-    let mirrored = c .before .before .before .before .before .before .before .before .before .before in
-    let can = mirrored .before .before .pre .0 in
-    end-in-day (can .formed) (can .place) (mirrored .mirrored .ensures .windows) (c .before .before .before .before .before .before .before .before .store-early .ensures)
+    let stored = c .before .before .before .before .before .before .before .before in
+    let turned = stored .before .before in
+    let can = turned .before .before .pre .0 in
+    end-in-day (can .formed) (can .place) (turned .mirrored .ensures .windows) (stored .store-early .ensures)
 
 same-length : tie.Need-same-length
 same-length c = search needs
 
 returns : tie.Need-returns
 returns c =
-    let mirrored = c .before .before .before .before .before .before .before .before .before .before in
-    let can = mirrored .before .before .pre .0 in
-    stored-late (can .formed) (can .place) (mirrored .mirrored .ensures .windows) (c .before .before .before .before .before .before .before .before .store-early .ensures) _
+    let stored = c .before .before .before .before .before .before .before .before in
+    let turned = stored .before .before in
+    let can = turned .before .before .pre .0 in
+    stored-late (can .formed) (can .place) (turned .mirrored .ensures .windows) (stored .store-early .ensures) _
     (c .before .before .before .mirror-plan .ensures)
 
 pub store-late-spec : {M : Type 1} → statement M
