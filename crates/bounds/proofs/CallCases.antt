@@ -212,11 +212,11 @@ module _ {checks : Outcome (Unit {0})} {l : DayList} {old : List ℕ} {a : Narro
   count-is : windowsOf (a .list) .n ≡ a .list .n
   count-is = ap (λ (w : Windows). w .n) (sym (holds .windows)) ∙ ready-formed .count
 
-  day-is : s .h ≡ l .frame .h
-  day-is = ap (λ (w : Windows). w .h) (holds .windows) ∙ settled-day settled
+  day-is : s .h ≡ a .list .frame .h
+  day-is = ap (λ (w : Windows). w .h) (holds .windows)
 
   pub ready-room : s .h ≤ length old
-  ready-room = omega (arith, day-is, ready .room)
+  ready-room = omega (arith, day-is, settled-day settled, ready .room)
 
   -- a place of the list is one of the list answered
   pub ready-place : WellFormed l → length (l .entries) ≡ 64 → (k : ℕ) → k < l .n → k < a .list .n
@@ -248,19 +248,16 @@ module _ {checks : Outcome (Unit {0})} {l : DayList} {old : List ℕ} {a : Narro
 
     pub plan-held : HoldsPlan (a .list) (s .h) new
     plan-held =
-        let day : s .h ≡ a .list .frame .h = ap (λ (w : Windows). w .h) (holds .windows) in
         record {
-          day = day;
+          day = day-is;
           few = settled .few;
           room = omega (arith, plan-long, ready-room);
-          plan = rw (day, front) (settled-plan settled .plan .plan);
+          plan = rw (day-is, front) (settled-plan settled .plan .plan);
         }
 
     pub broken-is : (x : ℕ) → x ≡ brokenIn (wholeIn (a .list)) (windowsOf (a .list)) (placesIn (take (s .h) new))
         → x ≡ brokenOf (wholeIn l) (narrowAfter checks l)
-    broken-is x e =
-        let day : s .h ≡ a .list .frame .h = ap (λ (w : Windows). w .h) (holds .windows) in
-        e ∙ rw (settled .outcome, settled .kinds, day, front) refl
+    broken-is x e = e ∙ rw (settled .outcome, settled .kinds, day-is, front) refl
 
   -- a shown plan
   module _ {x : Shown} {k : ℕ} {b : Bool} (kind : b ≡ wholeIn (a .list) k) {e : ℕ} {new : List ℕ}
