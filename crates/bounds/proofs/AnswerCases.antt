@@ -3,7 +3,7 @@
 use mathlib.Core.Path.{_≡_, refl, sym, ap, _∙_}
 use mathlib.Core.Bool.{Bool, cond}
 use mathlib.Core.List.{List}
-use Prim.Native.Nat.{ℕ, _<_, _≤_}
+use Prim.Native.Nat.{ℕ, _<_}
 use native.Mathlib.Omega.{arith}
 use borrow.Author.Tests.{eq-eqb, ne-eqb}
 use lib.Dec.{eqb}
@@ -194,18 +194,18 @@ shown-refused x {l} {k} {old} {a} after {r} e =
     let z = outcome-is after (Refused r) e in
     shows x l k old _ old after (rw z refl) (rw z refl)
 
-module _ {l : DayList} {k : ℕ} {old : List ℕ} {a : NarrowAnswer} {s : WindowSet} (ready : Ready (shownChecks l k (length old)) l old a s)
-  where
-    -- the place asked is one of the list answered
-    pub shown-place : length (l .entries) ≡ 64 → k < a .list .n
-    shown-place long =
-        let passed = shown-plan l k (length old) (ready .settled .passed) in
-        ready-place ready (plan-formed l (length old) (passed .1)) long k (passed .0)
+module _ {l : DayList} {k : ℕ} {old : List ℕ} {a : NarrowAnswer} {s : WindowSet}
+    (ready : Ready (shownChecks l k (length old)) l old a s) where
+  -- the place asked is one of the list answered
+  pub shown-place : length (l .entries) ≡ 64 → k < a .list .n
+  shown-place long =
+      let passed = shown-plan l k (length old) (ready .settled .passed) in
+      ready-place ready (plan-formed l (length old) (passed .1)) long k (passed .0)
 
-    pub shown-searchable : length (l .entries) ≡ 64 → Searchable s k
-    shown-searchable long = searchable-at (ready-formed ready) k (shown-place long)
+  pub shown-searchable : length (l .entries) ≡ 64 → Searchable s k
+  shown-searchable long = searchable-at (ready-formed ready) k (shown-place long)
 
-    pub shown-done : {x : Shown} {b : Bool} → b ≡ wholeIn (a .list) k → {e : ℕ} {new : List ℕ}
-        → Stores x (λ _. b) (windowsIn s) k old e new → Shows x l k old (record { narrowed = a; bound = e }) new
-    shown-done {x} kind {e} {new} stores =
-        shows x l k old _ new (ready .after) (shown-bound ready kind stores) (shown-stored ready kind stores)
+  pub shown-done : {x : Shown} {b : Bool} → b ≡ wholeIn (a .list) k → {e : ℕ} {new : List ℕ}
+      → Stores x (λ _. b) (windowsIn s) k old e new → Shows x l k old (record { narrowed = a; bound = e }) new
+  shown-done {x} kind {e} {new} stores =
+      shows x l k old _ new (ready .after) (shown-bound ready kind stores) (shown-stored ready kind stores)

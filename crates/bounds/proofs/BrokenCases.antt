@@ -117,42 +117,42 @@ abbrev oneBroken : DayList → ℕ → List ℕ → ℕ → ℕ
 oneBroken l h bytes k = cond (isBroken (wholeIn l) h (placesIn (take h bytes)) k) 1 0
 
 -- one entry
-module _ {l : DayList} {h : ℕ} {bytes : List ℕ} (has : HoldsPlan l h bytes) (long : length (l .entries) ≡ 64) {k : ℕ} (place : k < l .n)
-  where
-    abbrev m : ℕ → ℕ
-    m = placesIn (take h bytes)
+module _ {l : DayList} {h : ℕ} {bytes : List ℕ} (has : HoldsPlan l h bytes) (long : length (l .entries) ≡ 64)
+    {k : ℕ} (place : k < l .n) where
+  abbrev m : ℕ → ℕ
+  m = placesIn (take h bytes)
 
-    count-is : windowsOf l .n ≡ l .n
-    count-is = rw (length-take (l .n) (l .entries)) (omega (arith, has .few, long))
+  count-is : windowsOf l .n ≡ l .n
+  count-is = rw (length-take (l .n) (l .entries)) (omega (arith, has .few, long))
 
-    minutes-are : minutesOf h m k ≡ getD (l .entries) k blank .p
-    minutes-are =
-        ap (λ (x : ℕ). minutesOf x m k) (has .day)
-        ∙ has .plan .exact k (omega (arith, count-is, place))
-        ∙ ap (λ (e : Entry). e .p) (getD-take (l .n) (l .entries) k blank place)
+  minutes-are : minutesOf h m k ≡ getD (l .entries) k blank .p
+  minutes-are =
+      ap (λ (x : ℕ). minutesOf x m k) (has .day)
+      ∙ has .plan .exact k (omega (arith, count-is, place))
+      ∙ ap (λ (e : Entry). e .p) (getD-take (l .n) (l .entries) k blank place)
 
-    pub minutes-in-day : getD (l .entries) k blank .p ≤ h
-    minutes-in-day = omega (arith, minutes-are, minutes-within h m k 0 h (λ t below _. (omega arith, below)))
+  pub minutes-in-day : getD (l .entries) k blank .p ≤ h
+  minutes-in-day = omega (arith, minutes-are, minutes-within h m k 0 h (λ t below _. (omega arith, below)))
 
-    pub start-in-day : startOf h m k ≤ h
-    start-in-day = first-below h _ .within
+  pub start-in-day : startOf h m k ≤ h
+  start-in-day = first-below h _ .within
 
-    pub not-whole : {x : Bool} → x ≡ wholeIn l k → not x ≡ true → 0 ≡ oneBroken l h bytes k
-    not-whole {x} e f = let z : wholeIn l k ≡ false = sym e ∙ not-true x f in rw z refl
+  pub not-whole : {x : Bool} → x ≡ wholeIn l k → not x ≡ true → 0 ≡ oneBroken l h bytes k
+  not-whole {x} e f = let z : wholeIn l k ≡ false = sym e ∙ not-true x f in rw z refl
 
-    module _ {x : Bool} (e : x ≡ wholeIn l k) (t : not x ≡ false) {s end : ℕ} (start : s ≡ startOf h m k) (ends : end ≡ endOf h m k) where
-      whole : wholeIn l k ≡ true
-      whole = sym e ∙ not-false x t
+  module _ {x : Bool} (e : x ≡ wholeIn l k) (t : not x ≡ false) {s end : ℕ} (start : s ≡ startOf h m k) (ends : end ≡ endOf h m k) where
+    whole : wholeIn l k ≡ true
+    whole = sym e ∙ not-false x t
 
-      pub in-one-piece : s + getD (l .entries) k blank .p ≡ end → 0 ≡ oneBroken l h bytes k
-      in-one-piece same =
-          let z : startOf h m k + minutesOf h m k ≡ endOf h m k = omega (arith, same, start, ends, minutes-are) in
-          rw (whole, eq-eqb _ _ z) refl
+    pub in-one-piece : s + getD (l .entries) k blank .p ≡ end → 0 ≡ oneBroken l h bytes k
+    in-one-piece same =
+        let z : startOf h m k + minutesOf h m k ≡ endOf h m k = omega (arith, same, start, ends, minutes-are) in
+        rw (whole, eq-eqb _ _ z) refl
 
-      pub in-pieces : (s + getD (l .entries) k blank .p ≡ end → ⊥) → 1 ≡ oneBroken l h bytes k
-      in-pieces other =
-          let z : startOf h m k + minutesOf h m k ≡ endOf h m k → ⊥ = λ q. other (omega (arith, q, start, ends, minutes-are)) in
-          rw (whole, ne-eqb _ _ z) refl
+    pub in-pieces : (s + getD (l .entries) k blank .p ≡ end → ⊥) → 1 ≡ oneBroken l h bytes k
+    in-pieces other =
+        let z : startOf h m k + minutesOf h m k ≡ endOf h m k → ⊥ = λ q. other (omega (arith, q, start, ends, minutes-are)) in
+        rw (whole, ne-eqb _ _ z) refl
 
 -- the broken entries among the first i
 pub record Counted (l : DayList) (h : ℕ) (bytes : List ℕ) (x i : ℕ) : Type 0 where

@@ -101,7 +101,7 @@ module _ (l : DayList) where
   unfolding planChecks
   plan-formed room e = rows-passed (bufferRow (l .frame .h) room ∷ []) e .0
 
-  pub plan-room : (room : ℕ) → planChecks l room ≡ answered tt → l .frame .h ≤ room
+  plan-room : (room : ℕ) → planChecks l room ≡ answered tt → l .frame .h ≤ room
   unfolding planChecks
   plan-room room e = ltb-false _ _ (row-passed _ _ _ (rows-passed (bufferRow (l .frame .h) room ∷ []) e .1) .0)
 
@@ -190,19 +190,12 @@ pub record Ready (checks : Outcome (Unit {0})) (l : DayList) (old : List ℕ) (a
   pub holds : Holds (a .list) s
   pub room : l .frame .h ≤ length old
 
-module _ {l : DayList} {old : List ℕ} {a : NarrowAnswer} {s : WindowSet} where
-  pub plan-ready : NarrowsAfter (planChecks l (length old)) l a → a .verdict ≡ Accepted → Holds (a .list) s
-      → Ready (planChecks l (length old)) l old a s
-  plan-ready after e holds =
-      let settled = is-settled after e (plan-formed l (length old)) in
-      record { after = after; settled = settled; holds = holds; room = plan-room l (length old) (settled .passed) }
-
-  pub shown-ready : (k : ℕ) → NarrowsAfter (shownChecks l k (length old)) l a → a .verdict ≡ Accepted → Holds (a .list) s
-      → Ready (shownChecks l k (length old)) l old a s
-  shown-ready k after e holds =
-      let settled = is-settled after e (shown-formed l k (length old)) in
-      let passed = shown-plan l k (length old) (settled .passed) .1 in
-      record { after = after; settled = settled; holds = holds; room = plan-room l (length old) passed }
+pub is-ready : {checks : Outcome (Unit {0})} {l : DayList} {old : List ℕ} {a : NarrowAnswer} {s : WindowSet}
+    → NarrowsAfter checks l a → (checks ≡ answered tt → planChecks l (length old) ≡ answered tt)
+    → a .verdict ≡ Accepted → Holds (a .list) s → Ready checks l old a s
+is-ready {checks} {l} {old} after plan e holds =
+    let settled = is-settled after e (λ q. plan-formed l (length old) (plan q)) in
+    record { after = after; settled = settled; holds = holds; room = plan-room l (length old) (plan (settled .passed)) }
 
 module _ {checks : Outcome (Unit {0})} {l : DayList} {old : List ℕ} {a : NarrowAnswer} {s : WindowSet}
     (ready : Ready checks l old a s) where
@@ -219,11 +212,11 @@ module _ {checks : Outcome (Unit {0})} {l : DayList} {old : List ℕ} {a : Narro
   count-is : windowsOf (a .list) .n ≡ a .list .n
   count-is = ap (λ (w : Windows). w .n) (sym (holds .windows)) ∙ ready-formed .count
 
-  day-is : s .h ≡ l .frame .h
-  day-is = ap (λ (w : Windows). w .h) (holds .windows) ∙ settled-day settled
+  day-is : s .h ≡ a .list .frame .h
+  day-is = ap (λ (w : Windows). w .h) (holds .windows)
 
   pub ready-room : s .h ≤ length old
-  ready-room = omega (arith, day-is, ready .room)
+  ready-room = omega (arith, day-is, settled-day settled, ready .room)
 
   -- a place of the list is one of the list answered
   pub ready-place : WellFormed l → length (l .entries) ≡ 64 → (k : ℕ) → k < l .n → k < a .list .n
@@ -255,19 +248,16 @@ module _ {checks : Outcome (Unit {0})} {l : DayList} {old : List ℕ} {a : Narro
 
     pub plan-held : HoldsPlan (a .list) (s .h) new
     plan-held =
-        let day : s .h ≡ a .list .frame .h = ap (λ (w : Windows). w .h) (holds .windows) in
         record {
-          day = day;
+          day = day-is;
           few = settled .few;
           room = omega (arith, plan-long, ready-room);
-          plan = rw (day, front) (settled-plan settled .plan .plan);
+          plan = rw (day-is, front) (settled-plan settled .plan .plan);
         }
 
     pub broken-is : (x : ℕ) → x ≡ brokenIn (wholeIn (a .list)) (windowsOf (a .list)) (placesIn (take (s .h) new))
         → x ≡ brokenOf (wholeIn l) (narrowAfter checks l)
-    broken-is x e =
-        let day : s .h ≡ a .list .frame .h = ap (λ (w : Windows). w .h) (holds .windows) in
-        e ∙ rw (settled .outcome, settled .kinds, day, front) refl
+    broken-is x e = e ∙ rw (settled .outcome, settled .kinds, day-is, front) refl
 
   -- a shown plan
   module _ {x : Shown} {k : ℕ} {b : Bool} (kind : b ≡ wholeIn (a .list) k) {e : ℕ} {new : List ℕ}

@@ -77,7 +77,7 @@ searchable-mirror {s} can turned =
       place = omega (arith, turned .n, can .place);
     }
 
--- the late plan: the mirror of the early plan one in the mirrored windows u, whose end is e
+-- the late plan: a buffer that holds the early plan in the mirrored windows u, with the end e, is mirrored
 module _ {whole : ℕ → Bool} {w u : Windows} (formed : Formed w) {k : ℕ} (place : k < w .n) (turned : u ≡ mirror w)
     {old : List ℕ} {e : ℕ} {one : List ℕ} (stores : Stores Early whole u k old e one) where
   end-is : e ≡ leastEnd overloadOf whole (mirror w) k

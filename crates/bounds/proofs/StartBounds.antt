@@ -80,7 +80,8 @@ module _ {test : Test} (planner : Planner test) (whole : ℕ → Bool) (w : Wind
   pub start-bound : (m : ℕ → ℕ) → Keeping whole w k m → (s : ℕ) → IsStart (w .h) m k s → s ≤ greatestStart test whole w k
   start-bound m keeping s start =
       let there = formed-mirror w formed in
-      let bound = end-least planner whole (mirror w) there k place _ (mirror-plan w m (keeping .plan)) _ (start-mirror (w .h) m k s start) in
+      let plan = mirror-plan w m (keeping .plan) in
+      let bound = end-least planner whole (mirror w) there k place _ plan _ (start-mirror (w .h) m k s start) in
       omega (arith, start .below, start-by-mirror planner w formed k place whole)
 
   pub late-is : Settled whole w → IsLate whole w k (greatestStart test whole w k) (latePlan w k (greatestStart test whole w k))

@@ -10,7 +10,7 @@ ghost use lib.ListN.{length, drop};
 ghost use Rattle.jackson.specs.Windows.{windowsIn};
 ghost use Rattle.jackson.specs.Mirrors.{mirrorBytes};
 ghost use Rattle.narrow.specs.Parts.{Searchable};
-ghost use Rattle.bounds.specs.declared.shown.Shown.the-variants.{Early, Late};
+ghost use Rattle.bounds.specs.declared.shown.Shown.the-variants.{Early};
 ghost use Rattle.bounds.specs.Parts.{Stores};
 
 // Which of a place's two plans is shown.
@@ -48,18 +48,7 @@ fn mirror_plan(h: usize, plan: &mut [u8])
     }
 }
 
-// Stores the mirror of the mirrored windows' early plan of entry k, and answers the mirror of its end.
-fn store_late(windows: WindowSet, k: usize, whole: bool, plan: &mut [u8]) -> u16
-    requires { ⌜ Searchable windows k ⌝ }
-    requires { ⌜ windows .h ≤ length (now plan) ⌝ }
-    ensures { λ s. ⌜ Stores Late (λ _. whole) (windowsIn windows) k (now (plan .entry)) s (now (plan .exit)) ⌝ }
-{
-    let end = store_early(mirrored(windows), k, whole, plan);
-    mirror_plan(windows.h as usize, plan);
-    windows.h - end
-}
-
-// Stores the plan of entry k that is to be shown, and answers its bound.
+// Stores the plan of entry k that is shown, and answers its bound. The late plan is the mirror of the early one in the mirror.
 pub(crate) fn store_shown(
     shown: Shown,
     windows: WindowSet,
@@ -73,6 +62,10 @@ pub(crate) fn store_shown(
 {
     match shown {
         Shown::Early => store_early(windows, k, whole, plan),
-        Shown::Late => store_late(windows, k, whole, plan),
+        Shown::Late => {
+            let end = store_early(mirrored(windows), k, whole, plan);
+            mirror_plan(windows.h as usize, plan);
+            windows.h - end
+        }
     }
 }

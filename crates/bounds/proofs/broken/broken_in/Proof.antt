@@ -26,8 +26,9 @@ one-broken-requires c κs = (c .before .before .before .before .pre, c .loop-tes
 
 add-sum : tie.Need-add-sum Inv-loop μ-loop
 add-sum c =
-    let so = c .before .before .loop .inv in
-    let next = counted-next (c .before .before .before .before .before .pre) so (c .before .loop-test .taken) (c .one-broken .ensures) in
+    let loop = c .before .before in
+    let so = loop .loop .inv in
+    let next = counted-next (loop .before .before .before .pre) so (c .before .loop-test .taken) (c .one-broken .ensures) in
     search (needs, so .small, so .few, next .small)
 
 add-i : tie.Need-add-i Inv-loop μ-loop
@@ -38,7 +39,8 @@ loop-less c = search needs
 
 loop-again : tie.Need-loop-again Inv-loop μ-loop
 loop-again c =
-    counted-next (c .before .before .before .before .before .pre) (c .before .before .loop .inv) (c .before .loop-test .taken) (c .one-broken .ensures)
+    let loop = c .before .before in
+    counted-next (loop .before .before .before .pre) (loop .loop .inv) (c .before .loop-test .taken) (c .one-broken .ensures)
 
 returns : tie.Need-returns Inv-loop μ-loop
 returns c =

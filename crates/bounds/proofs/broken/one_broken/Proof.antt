@@ -48,14 +48,16 @@ end-in-requires c κs = c .before .before .before .before .pre .0 .room
 
 returns-2 : tie.Need-returns-2
 returns-2 c =
-    let start = c .before .before .before .before .before .before in
-    in-one-piece (start .pre .0) (long start) (start .pre .1) (c .before .before .before .before .whole-at .ensures) (c .before .before .before .if1 .left)
+    let whole = c .before .before .before in
+    let start = whole .before .before .before in
+    in-one-piece (start .pre .0) (long start) (start .pre .1) (whole .before .whole-at .ensures) (whole .if1 .left)
     (c .before .before .start-in .ensures) (c .before .end-in .ensures) (c .if2 .taken)
 
 returns-3 : tie.Need-returns-3
 returns-3 c =
-    let start = c .before .before .before .before .before .before in
-    in-pieces (start .pre .0) (long start) (start .pre .1) (c .before .before .before .before .whole-at .ensures) (c .before .before .before .if1 .left)
+    let whole = c .before .before .before in
+    let start = whole .before .before .before in
+    in-pieces (start .pre .0) (long start) (start .pre .1) (whole .before .whole-at .ensures) (whole .if1 .left)
     (c .before .before .start-in .ensures) (c .before .end-in .ensures) (c .if2 .left)
 
 pub one-broken-spec : {M : Type 1} → statement M

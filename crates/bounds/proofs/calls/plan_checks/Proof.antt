@@ -24,13 +24,15 @@ cast-h c = search needs
 
 returns-2 : tie.Need-returns-2
 returns-2 c =
-    let args = c .before .before .before .before .before .args in
-    buffer-short (args .list) _ (c .before .before .before .before .check .ensures) (args .room) (c .before .before .enum-told .given .1) (c .if1 .taken)
+    let check = c .before .before .before .before in
+    let args = check .before .args in
+    buffer-short (args .list) _ (check .check .ensures) (args .room) (c .before .before .enum-told .given .1) (c .if1 .taken)
 
 returns-3 : tie.Need-returns-3
 returns-3 c =
-    let args = c .before .before .before .before .before .args in
-    buffer-fine (args .list) _ (c .before .before .before .before .check .ensures) (args .room) (c .before .before .enum-told .given .1) (c .if1 .left)
+    let check = c .before .before .before .before in
+    let args = check .before .args in
+    buffer-fine (args .list) _ (check .check .ensures) (args .room) (c .before .before .enum-told .given .1) (c .if1 .left)
 
 pub plan-checks-spec : {M : Type 1} → statement M
 plan-checks-spec =

@@ -5,7 +5,7 @@ use mathlib.Core.Path.{sym, _∙_}
 use lib.ListN.{length}
 use Rattle.bounds.specs.Calls.{planChecks}
 use Rattle.bounds.specs.Parts.{NarrowsAfter}
-use Rattle.bounds.proofs.CallCases.{plan-formed, Ready, plan-ready, ready-formed, plan-held, plan-long}
+use Rattle.bounds.proofs.CallCases.{plan-formed, Ready, is-ready, ready-formed, plan-held, plan-long}
 use Rattle.bounds.proofs.AnswerCases.{plan-refused, plan-done}
 use Rattle.bounds.proofs.calls.plan_day.Statement.{statement}
 use Rattle.bounds.proofs.calls.plan_day.Tie as tie
@@ -21,7 +21,9 @@ ready : (c : tie.After-untested-windows)
     → let args = c .before .before .before .before .before .before .before .args in
     Ready (planChecks (args .list) (length (args .plan .now))) (args .list) (args .plan .now)
     (c .before .before .before .before .settled-after .result) (c .untested-windows .result)
-ready c = plan-ready (narrowed (c .before .before .before .before)) (c .before .before .enum-told .given .1) (c .untested-windows .ensures)
+ready c =
+    let after = narrowed (c .before .before .before .before) in
+    is-ready after (λ e. e) (c .before .before .enum-told .given .1) (c .untested-windows .ensures)
 
 plan-checks-requires : tie.Need-plan-checks-requires
 plan-checks-requires c κs = search needs
@@ -45,7 +47,9 @@ zeros-requires-2 c κs = search needs
 
 returns : tie.Need-returns
 returns c =
-    plan-refused (narrowed (c .before .before .before .before)) (c .before .before .enum-told2 .given .1) (c .before .zeros .ensures) (c .zeros2 .ensures)
+    let turned-back = c .before .before in
+    plan-refused (narrowed (turned-back .before .before)) (turned-back .enum-told2 .given .1) (c .before .zeros .ensures)
+    (c .zeros2 .ensures)
 
 untested-windows-requires : tie.Need-untested-windows-requires
 untested-windows-requires c κs = search needs
@@ -57,7 +61,9 @@ cast-broken-in : tie.Need-cast-broken-in
 cast-broken-in c = search needs
 
 broken-in-requires : tie.Need-broken-in-requires
-broken-in-requires c κs = plan-held (ready (c .before .before .before .before .before .before)) (c .before .before .before .before .untested-schedule .ensures)
+broken-in-requires c κs =
+    let filled = c .before .before .before .before in
+    plan-held (ready (filled .before .before)) (filled .untested-schedule .ensures)
 
 least-ends-requires : tie.Need-least-ends-requires
 least-ends-requires c κs = ready-formed (ready (c .before .before .before .before .before .before .before))
@@ -67,13 +73,14 @@ greatest-starts-requires c κs = ready-formed (ready (c .before .before .before 
 
 same-length : tie.Need-same-length
 same-length c =
-    plan-long (ready (c .before .before .before .before .before .before .before .before .before)) (c .before .before .before .before .before .before .before .untested-schedule .ensures)
+    let filled = c .before .before .before .before .before .before .before in
+    plan-long (ready (filled .before .before)) (filled .untested-schedule .ensures)
 
 returns-2 : tie.Need-returns-2
 returns-2 c =
-    let all = ready (c .before .before .before .before .before .before .before .before .before) in
-    let filled = c .before .before .before .before .before .before .before .untested-schedule .ensures in
-    plan-done all filled (c .before .before .broken-in .ensures) (c .before .least-ends .ensures) (c .greatest-starts .ensures)
+    let filled = c .before .before .before .before .before .before .before in
+    plan-done (ready (filled .before .before)) (filled .untested-schedule .ensures) (c .before .before .broken-in .ensures)
+    (c .before .least-ends .ensures) (c .greatest-starts .ensures)
 
 pub plan-day-spec : {M : Type 1} → statement M
 plan-day-spec =

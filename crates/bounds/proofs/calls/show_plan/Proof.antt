@@ -6,7 +6,7 @@ use lib.ListN.{length}
 use Rattle.list.proofs.Walk.{length-mapped}
 use Rattle.bounds.specs.Calls.{shownChecks}
 use Rattle.bounds.specs.Parts.{NarrowsAfter}
-use Rattle.bounds.proofs.CallCases.{shown-formed, Ready, shown-ready, ready-room}
+use Rattle.bounds.proofs.CallCases.{shown-plan, shown-formed, Ready, is-ready, ready-room}
 use Rattle.bounds.proofs.AnswerCases.{shown-refused, shown-place, shown-searchable, shown-done}
 use Rattle.bounds.proofs.calls.show_plan.Statement.{statement}
 use Rattle.bounds.proofs.calls.show_plan.Tie as tie
@@ -26,7 +26,9 @@ ready : (c : tie.After-untested-windows)
     → let args = c .before .before .before .before .before .before .before .args in
     Ready (shownChecks (args .list) (args .k) (length (args .plan .now))) (args .list) (args .plan .now)
     (c .before .before .before .before .settled-after .result) (c .untested-windows .result)
-ready c = shown-ready _ (narrowed (c .before .before .before .before)) (c .before .before .enum-told .given .1) (c .untested-windows .ensures)
+ready c =
+    let after = narrowed (c .before .before .before .before) in
+    is-ready after (λ e. shown-plan _ _ _ e .1) (c .before .before .enum-told .given .1) (c .untested-windows .ensures)
 
 shown-checks-requires : tie.Need-shown-checks-requires
 shown-checks-requires c κs = search needs
@@ -60,7 +62,9 @@ same-length : tie.Need-same-length
 same-length c = search needs
 
 returns-2 : tie.Need-returns-2
-returns-2 c = shown-done (ready (c .before .before .before .before .before)) (c .before .before .before .before .whole-at .ensures) (c .before .before .store-shown .ensures)
+returns-2 c =
+    let kind = c .before .before .before .before in
+    shown-done (ready (kind .before)) (kind .whole-at .ensures) (c .before .before .store-shown .ensures)
 
 pub show-plan-spec : {M : Type 1} → statement M
 show-plan-spec =

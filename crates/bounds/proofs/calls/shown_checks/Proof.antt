@@ -24,17 +24,18 @@ cast-if1 c = search needs
 
 returns-2 : tie.Need-returns-2
 returns-2 c =
-    let args = c .before .before .before .before .before .args in
-    place-unknown (args .list) _ (c .before .before .before .before .check .ensures) (args .room) (c .before .before .enum-told .given .1) (args .k)
-    (c .if1 .taken)
+    let check = c .before .before .before .before in
+    let args = check .before .args in
+    place-unknown (args .list) _ (check .check .ensures) (args .room) (c .before .before .enum-told .given .1) (args .k) (c .if1 .taken)
 
 plan-checks-requires : tie.Need-plan-checks-requires
 plan-checks-requires c κs = search needs
 
 returns-3 : tie.Need-returns-3
 returns-3 c =
-    let args = c .before .before .before .before .before .before .args in
-    place-known (args .list) _ (c .before .before .before .before .before .check .ensures) (args .room) (c .before .before .before .enum-told .given .1) (args .k)
+    let check = c .before .before .before .before .before in
+    let args = check .before .args in
+    place-known (args .list) _ (check .check .ensures) (args .room) (c .before .before .before .enum-told .given .1) (args .k)
     (c .before .if1 .left) (c .plan-checks .result) (c .plan-checks .ensures)
 
 pub shown-checks-spec : {M : Type 1} → statement M

@@ -38,8 +38,8 @@ array-read-starts c = search (needs, formed-few (c .before .before .before .befo
 
 sub-starts : tie.Need-sub-starts Inv-loop μ-loop
 sub-starts c =
-    mirror-end-in-day (c .before .before .before .before .before .before .pre) (c .before .before .before .before .before .mirrored .ensures) (c .before .before .before .before .least-ends .ensures) _
-    (c .loop-test .taken)
+    let ends = c .before .before .before .before in
+    mirror-end-in-day (ends .before .before .pre) (ends .before .mirrored .ensures) (ends .least-ends .ensures) _ (c .loop-test .taken)
 
 mul-starts-2 : tie.Need-mul-starts-2 Inv-loop μ-loop
 mul-starts-2 c = search (needs, formed-few (c .before .before .before .before .before .before .pre))
@@ -58,8 +58,9 @@ loop-again c = placed-next _ _ _ _ _ (c .before .loop .inv) (c .loop-test .taken
 
 returns : tie.Need-returns Inv-loop μ-loop
 returns c =
+    let ends = c .before .before .before .before in
     placed-all _ _ _ _ (c .before .loop .inv) (c .loop-test .left)
-    ∙ starts-by-mirror (c .before .before .before .before .before .before .pre) (c .before .before .before .before .before .mirrored .ensures) (c .before .before .before .before .least-ends .ensures)
+    ∙ starts-by-mirror (ends .before .before .pre) (ends .before .mirrored .ensures) (ends .least-ends .ensures)
 
 pub greatest-starts-spec : {M : Type 1} → statement M
 greatest-starts-spec =
