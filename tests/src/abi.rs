@@ -32,6 +32,7 @@ extern "C" {
         narrowed: *mut Fields,
     ) -> Answer;
     fn dock_report(bytes: *const u8, len: usize, out: *mut u8, room: usize) -> Answer;
+    fn dock_refusal_line(number: u64, values: *const [u64; 3], out: *mut u8, room: usize) -> Answer;
 }
 
 /// What a call answers: 0 or a refusal's number, and three values, 0 where there are fewer.
@@ -179,4 +180,16 @@ pub fn report(bytes: &[u8], room: usize) -> (Answer, Vec<u8>) {
 pub fn report_into(bytes: &[u8], out: &mut [u8]) -> Answer {
     // SAFETY: the library reads `bytes.len()` bytes and writes the bytes of `out`, all of them lent here.
     unsafe { dock_report(bytes.as_ptr(), bytes.len(), out.as_mut_ptr(), out.len()) }
+}
+
+/// Stores the line of a refusal through the library in `room` bytes, and gives all of them back.
+pub fn refusal_line(refusal: Answer, room: usize) -> (Answer, Vec<u8>) {
+    lending(room, |out| refusal_line_into(refusal, out))
+}
+
+/// Stores the line of a refusal through the library in these bytes, whatever they hold.
+pub fn refusal_line_into(refusal: Answer, out: &mut [u8]) -> Answer {
+    let Answer { number, values } = refusal;
+    // SAFETY: the library reads three values and writes the bytes of `out`, all of them lent here.
+    unsafe { dock_refusal_line(number, &values, out.as_mut_ptr(), out.len()) }
 }

@@ -29,7 +29,7 @@ pub mod small; // every day of so many minutes and entries
 pub mod check; // reading, writing, overload test, schedule
 pub mod check_bounds; // planning and shown plans
 pub mod check_narrow; // narrowing
-pub mod check_report; // reports
+pub mod check_report; // reports and refusals' lines
 
 // Inputs, lists and values to try.
 pub mod cases; // inputs with their reports, from files

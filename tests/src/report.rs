@@ -1,7 +1,7 @@
 //! The second report: the lines of document 01's section "Writer and report", from the second reader,
 //! narrowing and bounds. An input is read to its end, however long it is.
 
-use crate::day::{Day, Entry, Interval, Refusal, IDLE};
+use crate::day::{Day, Entry, Refusal, IDLE};
 use crate::narrow::{self, Narrowed};
 use crate::{bounds, flat, jackson, reader};
 
@@ -10,15 +10,18 @@ pub const LONGEST_INPUT: usize = 964;
 /// A buffer in which every report fits.
 pub const ENOUGH: usize = 22_352;
 
-/// The report of an input, or of its refusal.
-pub fn text(input: &[u8]) -> String {
-    settled(input).map_or_else(refused, |narrowed| planned(&narrowed))
+/// The report of a planned day, or its refusal.
+pub type Outcome = Result<String, Refusal>;
+
+/// How an input is answered.
+pub fn outcome(input: &[u8]) -> Outcome {
+    let day = reader::read(input)?;
+    narrow::settle(&flat::value(&flat::of_day(&day))).map(|narrowed| planned(&narrowed))
 }
 
-/// How an input is answered: its settled windows and the moves, or its refusal.
-pub fn settled(input: &[u8]) -> Result<Narrowed, Refusal> {
-    let day = reader::read(input)?;
-    narrow::settle(&flat::value(&flat::of_day(&day)))
+/// What the program prints for an input.
+pub fn text(input: &[u8]) -> String {
+    outcome(input).unwrap_or_else(refused)
 }
 
 /// "fields one space apart and every line ended by a newline: a head line ..; per entry ..; per maximal run
@@ -61,13 +64,16 @@ pub fn runs(plan: &[u8]) -> Vec<(usize, usize, u8)> {
 
 /// "Refusals print as `refused 7 at 3` (the number, then what it carries), `refused 9 from 2 to 5 work 4`,
 /// `refused 10 entry 0`."
-fn refused(refusal: Refusal) -> String {
-    match refusal {
-        Refusal::Overloaded(Interval { a, b, work }) => format!("refused 9 from {a} to {b} work {work}\n"),
-        Refusal::NoPlace { place } => format!("refused 10 entry {place}\n"),
-        _ => {
-            let (number, [carries, ..]) = refusal.code();
-            format!("refused {number} at {carries}\n")
-        }
+pub fn refusal_line(number: u64, [first, second, third]: [u64; 3]) -> String {
+    match number {
+        9 => format!("refused 9 from {first} to {second} work {third}\n"),
+        10 => format!("refused 10 entry {first}\n"),
+        _ => format!("refused {number} at {first}\n"),
     }
+}
+
+/// The line of a refusal.
+pub fn refused(refusal: Refusal) -> String {
+    let (number, values) = refusal.code();
+    refusal_line(number.into(), values)
 }

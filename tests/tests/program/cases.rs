@@ -1,9 +1,8 @@
 //! The cases in the folder tests/cases: the built program prints each case's report when it gets the list
-//! through a pipe, and the library stores it.
+//! through a pipe, and the library has it too.
 
 use dock_tests::cases::{self, Case};
-use dock_tests::check_report::{number, stored};
-use dock_tests::report::ENOUGH;
+use dock_tests::check_report::{number, report};
 use dock_tests::samples::{self, hex};
 use dock_tests::{program, writer};
 use std::collections::BTreeSet;
@@ -71,8 +70,8 @@ fn the_program_prints_the_report_of_each_case() {
 }
 
 #[test]
-fn the_library_stores_the_report_of_each_case() {
-    for Case { list, report, .. } in cases::all() {
-        stored(&list, &report, ENOUGH);
+fn the_library_has_the_report_of_each_case() {
+    for case in cases::all() {
+        assert_eq!(report(&case.list), case.report, "{}", case.name);
     }
 }

@@ -1,6 +1,7 @@
-//! The report's text, as the library stores it.
+//! The report's text and the line of a refusal, as the library stores them.
 
 mod buffers;
 mod examples;
 mod limits;
 mod random_lists;
+mod refusal_lines;
