@@ -33,7 +33,7 @@ fresh() {
     printf '# least\nedits 2\ntests 4\n' >.ci/least
     echo 'file: src/lib.rt' | tee crates/one/must-fail/wrong.edit >crates/one/must-fail/worse.edit
     # shellcheck disable=SC2016
-    log 'proofs/one/Proof.antt:3:5: error: `returns`: the two types differ'
+    log 'proofs/one/Proof.antt:3:5: error: `returns`: the two types first differ where one has 1'
     # shellcheck disable=SC2016
     echo 'fn one::one: no proof: expected `one-spec`; `search` does not close `add-result`' >target/must-fail/one/worse/.log
     printf '# crates\none: io # a comment\n' >crates.txt

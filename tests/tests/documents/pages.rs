@@ -1,7 +1,9 @@
 //! The links of the pages, README and those under docs/ and samples/, lead to files; the name that stands before
-//! a link to a Rattle file is declared there; and the report that README shows is the sample's.
+//! a link to a Rattle file is declared there; docs/GATE.md names the must-fail edits, all of them and no others;
+//! and the report that README shows is the sample's.
 
 use dock_tests::cases::{names, root};
+use std::collections::BTreeSet;
 use std::fs;
 use std::path::{Path, PathBuf};
 
@@ -90,6 +92,32 @@ fn a_file_that_is_linked_declares_the_name_before_the_link() {
         found += 1;
     }
     assert!(found > 70, "{found} names");
+}
+
+/// The must-fail edits, as docs/GATE.md names them: `narrow/one_round_only`.
+fn edits() -> BTreeSet<String> {
+    let crates = fs::read_dir(root().join("crates")).expect("crates/ must be listed");
+    crates
+        .map(|item| item.expect("a crate must be listed"))
+        .flat_map(|item| {
+            let name = item.file_name().into_string().expect("a crate's name is a text");
+            let edits = names(&item.path().join("must-fail"), "edit");
+            edits.into_iter().map(move |edit| format!("{name}/{edit}"))
+        })
+        .collect()
+}
+
+#[test]
+fn the_gates_page_names_every_edit_and_no_other() {
+    let page = text_of(&root().join("docs/GATE.md"));
+    let crates: Vec<String> =
+        edits().iter().filter_map(|edit| Some(edit.split_once('/')?.0.to_string())).collect();
+    let named = page
+        .split('`')
+        .filter(|word| word.split_once('/').is_some_and(|(name, _)| crates.iter().any(|c| c == name)))
+        .map(String::from)
+        .collect::<BTreeSet<_>>();
+    assert_eq!(named, edits());
 }
 
 #[test]
