@@ -53,7 +53,8 @@ pub side-by-mirror : {test : Test} → Planner test → (k : ℕ) (s : Narrowed)
     → narrowSide test latest k s ≡ mirrorOutcome (narrowSide test earliest k (mirrorState s))
 unfolding narrowSide
 side-by-mirror {test} planner k s formed place =
-    rw (step-mirror (planner-in-mirror planner) w formed k place) (go (step test earliest k (mirror w)) (step-says (mirror w) there k place test earliest))
+    rw (step-mirror (planner-in-mirror planner) w formed k place)
+    (go (step test earliest k (mirror w)) (step-says (mirror w) there k place test earliest))
   where
     w : Windows
     w = s .windows
@@ -65,6 +66,7 @@ side-by-mirror {test} planner k s formed place =
         → andThen (andThen o (λ v. answered (mirror v))) (λ v. answered (counted k s v))
         ≡ mirrorOutcome (andThen o (λ v. answered (counted k (mirrorState s) v)))
     go (answered v) keeps =
-        let as-many = subst (λ (x : Windows). movesOf k x (mirror v) ≡ movesOf k (mirror w) v) (mirror-back w formed) (moves-mirror k there place keeps) in
+        let there-many = moves-mirror k there place keeps in
+        let as-many = subst (λ (x : Windows). movesOf k x (mirror v) ≡ movesOf k (mirror w) v) (mirror-back w formed) there-many in
         λ j. answered (record { windows = mirror v; moves = s .moves + as-many j })
     go (refused x) _ = refl

@@ -12,7 +12,7 @@ use Rattle.jackson.specs.Windows.{Windows, withWindows}
 use Rattle.jackson.specs.Existence.{Plannable}
 use Rattle.narrow.specs.Searching.{Test, SearchLaw}
 use Rattle.narrow.specs.Settling.{SettledInside, NoneSettled, Widest, minutesCut}
-use Rattle.narrow.specs.Rounds.{Side, step, Narrowed, unmoved, visit, round, rounds, slack, narrowing}
+use Rattle.narrow.specs.Rounds.{Narrowed, unmoved, round, rounds, slack, narrowing}
 use Rattle.narrow.specs.StepLists.{Step, NamesWhole, stepsLeave, someRefused, NothingLeft, Completes}
 use Rattle.narrow.specs.RoundsByPlans.{RoundsGive, roundsSteps}
 use Rattle.narrow.specs.Laws.{Formed, RoomInside, Reason, FromSteps, RoundLaw, NarrowLaw}
@@ -20,7 +20,7 @@ use Rattle.narrow.proofs.Planners.{Planner}
 use Rattle.narrow.proofs.Keeping.{Keeps, formed-inside, keeps-n, keeps-p}
 use Rattle.narrow.proofs.Costs.{CostsOr, round-cost, round-refused, rounds-says}
 use Rattle.narrow.proofs.Exact.{search-law}
-use Rattle.narrow.proofs.SettledSteps.{Narrows, NarrowsOr, plannable-widen, step-narrows, visit-narrows, round-narrows, rounds-narrow, steps-narrow, steps-none}
+use Rattle.narrow.proofs.SettledSteps.{Narrows, NarrowsOr, plannable-widen, round-narrows, rounds-narrow, steps-narrow, steps-none}
 use Rattle.narrow.proofs.RoundSteps.{AsSteps, round-gives, rounds-give, rounds-as-steps, names-rounds}
 use Rattle.narrow.proofs.SingleRounds.{round-after}
 use Rattle.narrow.proofs.Fixpoints.{nothing-widest, rounds-end, rounds-widest, widest-set, widest-unique}
@@ -72,13 +72,15 @@ module _ {test : Test} (planner : Planner test) (whole : ℕ → Bool) (w : Wind
 
   by-rounds : Plannable w → RoundsGive whole (unmoved w) (narrowing test whole w)
   by-rounds planned =
-      by-plan (RoundsGive whole (unmoved w)) (λ _. rounds-give planner whole _ (unmoved w) formed (omega arith)) (λ k e none. absurd (none planned))
+      by-plan (RoundsGive whole (unmoved w)) (λ _. rounds-give planner whole _ (unmoved w) formed (omega arith))
+      (λ k e none. absurd (none planned))
 
   -- the rounds are a list of steps: it completes, or meets a refusal
   rounds-steps : Plannable w → (m : ℕ) × FromSteps test whole w (roundsSteps whole (w .n) m) (narrowing test whole w)
   rounds-steps planned =
       by-plan (λ o. (m : ℕ) × FromSteps test whole w (roundsSteps whole (w .n) m) o)
-      (λ _. let z = rounds-as-steps planner whole (w .n) _ (unmoved w) formed (omega arith) refl in
+      (λ _.
+      let z = rounds-as-steps planner whole (w .n) _ (unmoved w) formed (omega arith) refl in
       (z .0, go (z .0) outcome (z .1) (rounds-end test whole _ (unmoved w) formed (omega arith))))
       (λ k e none. absurd (none planned))
     where
@@ -132,7 +134,8 @@ module _ {test : Test} (planner : Planner test) (whole : ℕ → Bool) (w : Wind
   reason k e = rw e at narrowing-reason
 
   -- one of the two
-  decided : {G : Type 0} → ((v : Narrowed) → narrowing test whole w ≡ answered v → G) → ((k : Code) → narrowing test whole w ≡ refused k → G) → G
+  decided : {G : Type 0} → ((v : Narrowed) → narrowing test whole w ≡ answered v → G)
+      → ((k : Code) → narrowing test whole w ≡ refused k → G) → G
   decided {G} f g = go (narrowing test whole w) refl
     where
       go : (o : Outcome Narrowed) → narrowing test whole w ≡ o → G

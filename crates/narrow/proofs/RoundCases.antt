@@ -48,7 +48,8 @@ module _ (test : Test) (k : ℕ) (s : Narrowed) where
   start-refused x e = rw e
 
 -- what code leaves in the arrays is that
-pub placed-r : (s : WindowSet) (moves k x m : ℕ) → k < length (s .r) → m ≡ moved (getD (s .r) k 0) x → leastStart overloadOf (windowsIn s) k ≡ answered x
+pub placed-r : (s : WindowSet) (moves k x m : ℕ) → k < length (s .r) → m ≡ moved (getD (s .r) k 0) x
+    → leastStart overloadOf (windowsIn s) k ≡ answered x
     → answered (record { windows = columns (s .h) (min (s .n) 64) (set (s .r) k x) (s .d) (s .p); moves = moves + m })
     ≡ narrowSide overloadOf earliest k (stateOf s moves)
 placed-r s moves k x m h e found = rw (e, held-r s k x h) (sym (start-found overloadOf k (stateOf s moves) x found))
@@ -71,6 +72,7 @@ module _ (s t : WindowSet) (moves k : ℕ) (mirrors : windowsIn t ≡ mirror (wi
       ∙ ap mirrorOutcome (rw mirrors at is)
       ∙ sym (side-by-mirror overload-planner k (stateOf s moves) (ready .formed) (ready .place))
     where
-      mirrored : (v : Verdict) → outcomeOf v (mirrorState (stateOf (a .windows) (a .moves))) ≡ mirrorOutcome (outcomeOf v (stateOf (a .windows) (a .moves)))
+      mirrored : (v : Verdict) → outcomeOf v (mirrorState (stateOf (a .windows) (a .moves)))
+          ≡ mirrorOutcome (outcomeOf v (stateOf (a .windows) (a .moves)))
       mirrored Accepted = refl
       mirrored (Refused x) = refl

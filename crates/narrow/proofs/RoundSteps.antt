@@ -1,22 +1,22 @@
 -- A round is the list of its steps: as plans have them, and as a list of steps leaves windows.
 -- Assumes nothing.
-use mathlib.Core.Path.{_≡_, refl, sym, ap, _∙_}
+use mathlib.Core.Path.{_≡_, refl, ap, _∙_}
 use mathlib.Core.Bool.{Bool, true, false, cond, not, _||_, false≢true}
 use mathlib.Core.List.{List, [], _∷_, _++_}
 use Prim.Native.Nat.{ℕ, zero, suc, _<_, _≤_}
 use native.Mathlib.Omega.{arith}
-use Rattle.list.specs.Outcomes.{Code, code, Outcome, answered, refused, andThen}
+use Rattle.list.specs.Outcomes.{Code, Outcome, answered, refused, andThen}
 use Rattle.list.proofs.Inversion.{Says, answered-same, refused-same, answered-refused}
 use Rattle.jackson.specs.Windows.{Windows}
 use Rattle.narrow.specs.Searching.{Test, accepts, withR, withD, leastStart, greatestEnd, IsLeastStart, NoStart, IsGreatestEnd, NoEnd}
 use Rattle.narrow.specs.Rounds.{Side, earliest, latest, step, Narrowed, counted, narrowSide, visit, visits, round, rounds, slack}
-use Rattle.narrow.specs.StepLists.{Step, NamesWhole, leftBy, stepsLeave, someRefused}
-use Rattle.narrow.specs.RoundsByPlans.{StepGives, start, no-start, end, no-end, StepsGive, done, found, none, roundSteps, RoundGives}
+use Rattle.narrow.specs.StepLists.{Step, NamesWhole, stepsLeave, someRefused}
+use Rattle.narrow.specs.RoundsByPlans.{StepGives, start, no-start, end, no-end, StepsGive, done, found, none, visitSteps, roundSteps, RoundGives}
 use Rattle.narrow.specs.RoundsByPlans.{RoundsGive, last, next, stopped, roundsSteps}
 use Rattle.narrow.specs.Laws.{Formed}
 use Rattle.narrow.proofs.Planners.{Planner}
 use Rattle.narrow.proofs.Keeping.{keeps-n}
-use Rattle.narrow.proofs.Costs.{Costs, CostsOr, costs-same, side-says, visits-says, round-cost}
+use Rattle.narrow.proofs.Costs.{Costs, CostsOr, side-says, visits-says, round-cost}
 use Rattle.narrow.proofs.RoundsEnd.{rounds-by}
 use Rattle.narrow.proofs.Exact.{SearchSays, one-start, one-end, some-start, some-end, start-searched, end-searched}
 
@@ -27,12 +27,14 @@ steps-append : {xs : List Step} {s u : Narrowed} {o : Outcome Narrowed} (ys : Li
 steps-append ys done more = more
 steps-append ys (found a rest) more = found a (steps-append ys rest more)
 
-steps-stopped : {xs : List Step} {s : Narrowed} {k : Code} (ys : List Step) → StepsGive xs s (refused k) → StepsGive (xs ++ ys) s (refused k)
+steps-stopped : {xs : List Step} {s : Narrowed} {k : Code} (ys : List Step) → StepsGive xs s (refused k)
+    → StepsGive (xs ++ ys) s (refused k)
 steps-stopped ys (found a rest) = found a (steps-stopped ys rest)
 steps-stopped ys (none a) = none a
 
 -- names of whole entries
-names-append : (whole : ℕ → Bool) (n : ℕ) (xs ys : List Step) → NamesWhole whole n xs → NamesWhole whole n ys → NamesWhole whole n (xs ++ ys)
+names-append : (whole : ℕ → Bool) (n : ℕ) (xs ys : List Step) → NamesWhole whole n xs → NamesWhole whole n ys
+    → NamesWhole whole n (xs ++ ys)
 names-append whole n [] ys a b = b
 names-append whole n (x ∷ xs) ys a b = (a .0, a .1, names-append whole n xs ys (a .2) b)
 
@@ -67,19 +69,21 @@ pub record AsSteps (test : Test) (xs : List Step) (s : Narrowed) (o : Outcome Na
   pub leaves : Says (λ v. stepsLeave test xs (s .windows) ≡ v .windows) (λ _. someRefused test xs (s .windows) ≡ true) o
 
 -- an answer, then an outcome; a refusal stays
-after-steps : (test : Test) (xs ys : List Step) (s u : Narrowed) (o : Outcome Narrowed) → AsSteps test xs s (answered u) → AsSteps test ys u o
-    → AsSteps test (xs ++ ys) s o
+after-steps : (test : Test) (xs ys : List Step) (s u : Narrowed) (o : Outcome Narrowed)
+    → AsSteps test xs s (answered u) → AsSteps test ys u o → AsSteps test (xs ++ ys) s o
 after-steps test xs ys s u (answered v) a b =
     record { gives = steps-append ys (a .gives) (b .gives); leaves = leave-append test xs ys (s .windows) ∙ rw (a .leaves) (b .leaves) }
 after-steps test xs ys s u (refused k) a b =
     record { gives = steps-append ys (a .gives) (b .gives); leaves = some-second test xs ys (s .windows) (rw (a .leaves) (b .leaves)) }
 
-refused-steps : (test : Test) (xs ys : List Step) (s : Narrowed) (k : Code) → AsSteps test xs s (refused k) → AsSteps test (xs ++ ys) s (refused k)
+refused-steps : (test : Test) (xs ys : List Step) (s : Narrowed) (k : Code) → AsSteps test xs s (refused k)
+    → AsSteps test (xs ++ ys) s (refused k)
 refused-steps test xs ys s k a = record { gives = steps-stopped ys (a .gives); leaves = some-first test xs ys (s .windows) (a .leaves) }
 
 -- one outcome, then the next
 then-steps : (test : Test) (whole : ℕ → Bool) (xs ys : List Step) (s : Narrowed) (o : Outcome Narrowed) (f : Narrowed → Outcome Narrowed)
-    → CostsOr whole s o → AsSteps test xs s o → ((u : Narrowed) → Costs whole s u → AsSteps test ys u (f u)) → AsSteps test (xs ++ ys) s (andThen o f)
+    → CostsOr whole s o → AsSteps test xs s o → ((u : Narrowed) → Costs whole s u → AsSteps test ys u (f u))
+    → AsSteps test (xs ++ ys) s (andThen o f)
 then-steps test whole xs ys s (answered u) f costs a rest = after-steps test xs ys s u (f u) a (rest u costs)
 then-steps test whole xs ys s (refused k) f ten a rest = refused-steps test xs ys s k a
 
@@ -90,12 +94,14 @@ module _ {test : Test} (planner : Planner test) (whole : ℕ → Bool) where
   step-gives : (side : Side) (w : Windows) → Formed w → (k : ℕ) → k < w .n → StepGives k w side (step test side k w)
   step-gives earliest w formed k place = go (leastStart test w k) (start-searched planner w formed k place)
     where
-      go : (o : Outcome ℕ) → SearchSays (IsLeastStart w k) (NoStart w k) k o → StepGives k w earliest (andThen o (λ s. answered (withR w k s)))
+      go : (o : Outcome ℕ) → SearchSays (IsLeastStart w k) (NoStart w k) k o
+          → StepGives k w earliest (andThen o (λ s. answered (withR w k s)))
       go (answered s) is = start is
       go (refused x) (ten, nowhere) = rw ten (no-start nowhere)
   step-gives latest w formed k place = go (greatestEnd test w k) (end-searched planner w formed k place)
     where
-      go : (o : Outcome ℕ) → SearchSays (IsGreatestEnd w k) (NoEnd w k) k o → StepGives k w latest (andThen o (λ e. answered (withD w k e)))
+      go : (o : Outcome ℕ) → SearchSays (IsGreatestEnd w k) (NoEnd w k) k o
+          → StepGives k w latest (andThen o (λ e. answered (withD w k e)))
       go (answered e) is = end is
       go (refused x) (ten, nowhere) = rw ten (no-end nowhere)
 
@@ -110,12 +116,12 @@ module _ {test : Test} (planner : Planner test) (whole : ℕ → Bool) where
       go (refused x) e is = record { gives = none is; leaves = rw e }
 
   visit-steps : (k : ℕ) (s : Narrowed) → Formed (s .windows) → k < s .windows .n
-      → AsSteps test (cond (whole k) (record { place = k; side = earliest } ∷ record { place = k; side = latest } ∷ []) []) s (visit test whole k s)
+      → AsSteps test (cond (whole k) (visitSteps k) []) s (visit test whole k s)
   unfolding visit stepsLeave
   visit-steps k s formed place = go (whole k) refl
     where
       go : (t : Bool) → whole k ≡ t
-          → AsSteps test (cond t (record { place = k; side = earliest } ∷ record { place = k; side = latest } ∷ []) []) s
+          → AsSteps test (cond t (visitSteps k) []) s
           (cond t (andThen (narrowSide test earliest k s) (narrowSide test latest k)) (answered s))
       go false e = record { gives = done; leaves = refl }
       go true e =
@@ -125,7 +131,8 @@ module _ {test : Test} (planner : Planner test) (whole : ℕ → Bool) where
           (side-steps earliest k s formed place)
           (λ u c. side-steps latest k u (c .keeps .formed) (omega (arith, keeps-n (c .keeps))))
 
-  visits-steps : (k : ℕ) (s : Narrowed) → Formed (s .windows) → k ≤ s .windows .n → AsSteps test (roundSteps whole k) s (visits test whole k s)
+  visits-steps : (k : ℕ) (s : Narrowed) → Formed (s .windows) → k ≤ s .windows .n
+      → AsSteps test (roundSteps whole k) s (visits test whole k s)
   unfolding visits roundSteps stepsLeave
   visits-steps zero s formed below = record { gives = done; leaves = refl }
   visits-steps (suc k) s formed below =
@@ -142,7 +149,8 @@ module _ {test : Test} (planner : Planner test) (whole : ℕ → Bool) where
   round-gives s formed = round-steps s formed .gives
 
   -- and so do the rounds
-  pub rounds-give : (fuel : ℕ) (s : Narrowed) → Formed (s .windows) → slack whole (s .windows) < fuel → RoundsGive whole s (rounds test whole fuel s)
+  pub rounds-give : (fuel : ℕ) (s : Narrowed) → Formed (s .windows) → slack whole (s .windows) < fuel
+      → RoundsGive whole s (rounds test whole fuel s)
   rounds-give =
       rounds-by test whole (RoundsGive whole)
       (λ s v formed e same. last (rw e at (round-gives s formed)) same)
@@ -155,7 +163,8 @@ module _ {test : Test} (planner : Planner test) (whole : ℕ → Bool) where
   unfolding stepsLeave
   rounds-as-steps n =
       rounds-by test whole (λ s o. s .windows .n ≡ n → (m : ℕ) × AsSteps test (roundsSteps whole n m) s o)
-      (λ s v formed e _ count. (1, after-steps test _ [] s v (answered v) (one s formed count (answered v) e) (record { gives = done; leaves = refl })))
+      (λ s v formed e _ count.
+      (1, after-steps test _ [] s v (answered v) (one s formed count (answered v) e) (record { gives = done; leaves = refl })))
       (λ s v o formed e _ rest count.
       let more = rest (omega (arith, count, keeps-n (round-cost test whole s formed v e .keeps))) in
       (suc (more .0), after-steps test _ _ s v o (one s formed count (answered v) e) (more .1)))
@@ -171,7 +180,7 @@ unfolding roundSteps
 names-round whole n zero below = tt
 names-round whole n (suc k) below = names-append whole n (roundSteps whole k) _ (names-round whole n k (omega arith)) (go (whole k) refl)
   where
-    go : (t : Bool) → whole k ≡ t → NamesWhole whole n (cond t (record { place = k; side = earliest } ∷ record { place = k; side = latest } ∷ []) [])
+    go : (t : Bool) → whole k ≡ t → NamesWhole whole n (cond t (visitSteps k) [])
     go true e = (omega arith, e, (omega arith, e, tt))
     go false e = tt
 

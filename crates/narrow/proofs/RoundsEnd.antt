@@ -14,7 +14,8 @@ use Rattle.narrow.proofs.Costs.{Costs, by-test, round-cost}
 
 module _ (test : Test) (whole : ℕ → Bool) (P : Narrowed → Outcome Narrowed → Type 0)
     (last : (s v : Narrowed) → Formed (s .windows) → round test whole s ≡ answered v → v .moves ≡ s .moves → P s (answered v))
-    (next : (s v : Narrowed) (o : Outcome Narrowed) → Formed (s .windows) → round test whole s ≡ answered v → (v .moves ≡ s .moves → ⊥) → P v o → P s o)
+    (next : (s v : Narrowed) (o : Outcome Narrowed) → Formed (s .windows) → round test whole s ≡ answered v
+    → (v .moves ≡ s .moves → ⊥) → P v o → P s o)
     (stopped : (s : Narrowed) (k : Code) → Formed (s .windows) → round test whole s ≡ refused k → P s (refused k)) where
   -- what holds of a round without moves and of a refused one, and of one more round before it, holds of the rounds: each but the last cuts
   -- a minute, so that this many are enough

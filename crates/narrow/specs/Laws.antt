@@ -77,7 +77,7 @@ pub record NarrowLaw (test : Test) (whole : ℕ → Bool) (w : Windows) (o : Out
   -- if nothing is left to do after one, the rounds answer the windows that it left
   pub steps-settled : Plannable w → (ss : List Step) → Completes test whole w ss
       → (moves : ℕ) × (o ≡ answered (record { windows = stepsLeave test ss w; moves = moves }))
-  -- there is a list of each kind where the outcome asks for it: the steps of the rounds
+  -- the steps of the rounds are such a list: one after which nothing is left to do, or one that meets a refusal
   pub rounds-steps : Plannable w → (rounds : ℕ) × FromSteps test whole w (roundsSteps whole (w .n) rounds) o
   -- so two such lists leave the same windows, and if some list meets a refusal there is no such list
   pub order-free : Plannable w → (ss xs : List Step) → Completes test whole w ss → Completes test whole w xs

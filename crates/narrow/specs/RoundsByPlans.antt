@@ -24,12 +24,14 @@ pub data StepsGive : List Step → Narrowed → Outcome Narrowed → Type 0 wher
   none : {x : Step} {xs : List Step} {s : Narrowed} {k : Code}
       → StepGives (x .place) (s .windows) (x .side) (refused k) → StepsGive (x ∷ xs) s (refused k)
 
--- "A round visits places from 0 up; pause entries are passed over. For a whole entry, its r becomes .. Then its d becomes ..": its steps
--- for the places below n
+-- "For a whole entry, its r becomes .. Then its d becomes .."
+abbrev pub visitSteps : ℕ → List Step
+visitSteps k = record { place = k; side = earliest } ∷ record { place = k; side = latest } ∷ []
+
+-- "A round visits places from 0 up; pause entries are passed over.": its steps for the places below n
 unfoldable pub roundSteps : (ℕ → Bool) → ℕ → List Step
 roundSteps whole zero = []
-roundSteps whole (suc k) =
-    roundSteps whole k ++ cond (whole k) (record { place = k; side = earliest } ∷ record { place = k; side = latest } ∷ []) []
+roundSteps whole (suc k) = roundSteps whole k ++ cond (whole k) (visitSteps k) []
 
 -- what one round gives
 abbrev pub RoundGives : (ℕ → Bool) → Narrowed → Outcome Narrowed → Type 0
