@@ -109,13 +109,15 @@ module _ (bs : List ℕ) (b : Bytes bs) (i : ℕ) where
   seal-fits true = u32-small bs b i
   seal-fits false = tt
 
-module _ (f : Frame) (m : Fields) (bs : List ℕ) (r-kept : m .r && eqb (entryAt f m bs .r) (defaultR f) ≡ false) (d-kept : m .d && eqb (entryAt f m bs .d) (defaultD f) ≡ false) where
+module _ (f : Frame) (m : Fields) (bs : List ℕ) (r-kept : m .r && eqb (entryAt f m bs .r) (defaultR f) ≡ false)
+    (d-kept : m .d && eqb (entryAt f m bs .d) (defaultD f) ≡ false) where
   fields-again : fieldsIn f (entryAt f m bs) ≡ m
   unfolding entryAt
   fields-again =
       rw (sealed-again, written-again (m .r) (u16At bs (rPlace m)) (defaultR f) r-kept, written-again (m .d) (u16At bs (dPlace m)) (defaultD f) d-kept)
 
-  entry-stands : Bytes bs → sizeOf m ≤ length bs → mapOf (fieldsIn f (entryAt f m bs)) ≡ getD bs 0 0 → bs ≡ formBefore f (entryAt f m bs) (drop (sizeOf m) bs)
+  entry-stands : Bytes bs → sizeOf m ≤ length bs → mapOf (fieldsIn f (entryAt f m bs)) ≡ getD bs 0 0
+      → bs ≡ formBefore f (entryAt f m bs) (drop (sizeOf m) bs)
   unfolding entryAt
   entry-stands b l q =
       byte-stands bs 0 (omega arith)
@@ -180,6 +182,7 @@ module _ (f : Frame) (at : ℕ) (bs : List ℕ) (len : ℕ) (all : at + length b
       (λ n.
       let h : 1 ≤ length bs = omega (arith, eqb-false (length bs) 0 n) in
       by-step (λ n. Says (TakenEntry f bs) (PlaceIn len) (fieldsEntry f at n bs)) (PlaceIn len) (TakenEntry f bs) (mapFields at (getD bs 0 0)) _
-      (by-row (λ n. Says (TakenEntry f bs) (PlaceIn len) (fieldsEntry f at n bs)) (PlaceIn len) (not (legalMap (getD bs 0 0))) _ _ (λ t. here h 4 (omega arith) (omega arith))
+      (by-row (λ n. Says (TakenEntry f bs) (PlaceIn len) (fieldsEntry f at n bs)) (PlaceIn len) (not (legalMap (getD bs 0 0))) _ _
+      (λ t. here h 4 (omega arith) (omega arith))
       (λ t. fields-say (not-false _ t) h))
       (λ n s. s))

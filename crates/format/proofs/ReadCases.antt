@@ -95,7 +95,8 @@ module _ {f : Frame} {n : ℕ} {bs : List ℕ} {entries : List Entry} {at i : �
   unfolding entriesFrom
   turn h = let q : n - i ≡ suc (n - (i + 1)) = omega arith in s .rest ∙ rw q
 
-  pub entry-refused : (a : EntryAnswer) (x : Refusal) → i < n → ReadHere f at bs a → a ≡ NotTaken x → entriesFrom f n 3 (drop 3 bs) ≡ refused (codeOf x)
+  pub entry-refused : (a : EntryAnswer) (x : Refusal) → i < n → ReadHere f at bs a → a ≡ NotTaken x
+      → entriesFrom f n 3 (drop 3 bs) ≡ refused (codeOf x)
   entry-refused a x h q t = rw (turn h, refused-here f at bs a x q t)
 
   pub next : (a : EntryAnswer) (e : Entry) (size : ℕ) → n ≤ 64 → i < n → ReadHere f at bs a → a ≡ Taken e size
@@ -132,17 +133,21 @@ module _ {f : Frame} {n : ℕ} {bs : List ℕ} {entries : List Entry} {at i : �
 
 -- after the entries: row 8, or the list
 module _ (bs : List ℕ) (f : Frame) (n : ℕ) (p : f ≡ frameOf bs) (q : n ≡ countOf bs) where
-  body : bodyOf bs ≡ andThen (entriesFrom f n 3 (drop 3 bs)) (λ all. firstOf (row 8 (ltb (all .1) (length bs)) (all .1) ∷ []) (answered (dayList f (all .0))))
+  body : bodyOf bs
+      ≡ andThen (entriesFrom f n 3 (drop 3 bs))
+      (λ all. firstOf (row 8 (ltb (all .1) (length bs)) (all .1) ∷ []) (answered (dayList f (all .0))))
   unfolding bodyOf
   body = rw (p, q)
 
   pub body-refused : (k : Code) → entriesFrom f n 3 (drop 3 bs) ≡ refused k → bodyOf bs ≡ refused k
   body-refused k e = rw (body, e)
 
-  pub body-left : (es : List Entry) (end : ℕ) → entriesFrom f n 3 (drop 3 bs) ≡ answered (es, end) → end < length bs → bodyOf bs ≡ refused (code 8 (end ∷ []))
+  pub body-left : (es : List Entry) (end : ℕ) → entriesFrom f n 3 (drop 3 bs) ≡ answered (es, end) → end < length bs
+      → bodyOf bs ≡ refused (code 8 (end ∷ []))
   body-left es end e h = rw (body, e) (simp (lt-ltb _ _ h))
 
-  pub body-done : (es : List Entry) (end : ℕ) → entriesFrom f n 3 (drop 3 bs) ≡ answered (es, end) → length bs ≤ end → bodyOf bs ≡ answered (dayList f es)
+  pub body-done : (es : List Entry) (end : ℕ) → entriesFrom f n 3 (drop 3 bs) ≡ answered (es, end) → length bs ≤ end
+      → bodyOf bs ≡ answered (dayList f es)
   body-done es end e h = rw (body, e) (simp (le-ltb _ _ h))
 
 -- an answer made of a refusal, and one made of a list

@@ -78,9 +78,11 @@ StepNarrowsOr whole side k w = Says (StepNarrows whole side k w) (λ _. NoneSett
 fixed-plan : (w : Windows) → Formed w → (k : ℕ) → k < w .n → Plannable (fixedAt w k (w .r k)) → SidePlan earliest w k
 fixed-plan w formed k place z =
     let room = formed .room k place in
-    (z .0, widen w _ _ (z .0) (fixed-inside w k (w .r k) (omega arith) room) (z .1), fixed-consecutive w formed k (w .r k) place room (z .0) (z .1))
+    let wide = widen w _ _ (z .0) (fixed-inside w k (w .r k) (omega arith) room) (z .1) in
+    (z .0, wide, fixed-consecutive w formed k (w .r k) place room (z .0) (z .1))
 
-module _ {test : Test} (planner : Planner test) (whole : ℕ → Bool) (w : Windows) (formed : Formed w) (k : ℕ) (place : k < w .n) (is-whole : whole k ≡ true) where
+module _ {test : Test} (planner : Planner test) (whole : ℕ → Bool) (w : Windows) (formed : Formed w)
+    (k : ℕ) (place : k < w .n) (is-whole : whole k ≡ true) where
   -- a settled set has a plan with k from its own r on, so the search for r answers at most that, and the set stays inside
   start-narrows : StepNarrowsOr whole earliest k w (step test earliest k w)
   start-narrows = go (leastStart test w k) (start-searched planner w formed k place)
@@ -125,7 +127,8 @@ narrows-mirror {whole} w formed v a =
       stays =
           λ r d set.
           let u = mirror (withWindows w r d) in
-          let back = ap (λ x. mirror (withWindows x (u .r) (u .d))) (a .keeps .entries) ∙ mirror-back (withWindows w r d) (set-formed whole w formed r d set) in
+          let same = mirror-back (withWindows w r d) (set-formed whole w formed r d set) in
+          let back = ap (λ x. mirror (withWindows x (u .r) (u .d))) (a .keeps .entries) ∙ same in
           subst (λ (x : Windows). SettledInside whole (mirror v) (x .r) (x .d)) back
           (set-mirror whole v (a .keeps .formed) (u .r) (u .d) (a .stays (u .r) (u .d) (set-mirror whole w formed r d set)));
       plannable = λ z. plannable-mirror v (a .plannable (plannable-mirror w z));
@@ -134,16 +137,21 @@ narrows-mirror {whole} w formed v a =
 -- Steps, visits, rounds and lists of steps.
 
 module _ {test : Test} (planner : Planner test) (whole : ℕ → Bool) where
-  pub step-narrows : (side : Side) (w : Windows) → Formed w → (k : ℕ) → k < w .n → whole k ≡ true → StepNarrowsOr whole side k w (step test side k w)
+  pub step-narrows : (side : Side) (w : Windows) → Formed w → (k : ℕ) → k < w .n → whole k ≡ true
+      → StepNarrowsOr whole side k w (step test side k w)
   step-narrows earliest w formed k place is-whole = start-narrows planner whole w formed k place is-whole
   step-narrows latest w formed k place is-whole =
       rw (step-mirror (planner-in-mirror planner) w formed k place)
       (go (step test earliest k (mirror w)) (start-narrows planner whole (mirror w) (formed-mirror w formed) k place is-whole))
     where
-      go : (o : Outcome Windows) → StepNarrowsOr whole earliest k (mirror w) o → StepNarrowsOr whole latest k w (andThen o (λ v. answered (mirror v)))
+      go : (o : Outcome Windows) → StepNarrowsOr whole earliest k (mirror w) o
+          → StepNarrowsOr whole latest k w (andThen o (λ v. answered (mirror v)))
       go (answered v) a =
           let kept = a .narrows .keeps in
-          record { narrows = narrows-mirror w formed v (a .narrows); plan = earliest-mirror v (kept .formed) k (omega (arith, keeps-n kept)) (a .plan) }
+          record {
+            narrows = narrows-mirror w formed v (a .narrows);
+            plan = earliest-mirror v (kept .formed) k (omega (arith, keeps-n kept)) (a .plan);
+          }
       go (refused x) none = λ r d set. none _ _ (set-mirror whole w formed r d set)
 
   side-narrows : (side : Side) (s : Narrowed) → Formed (s .windows) → (k : ℕ) → k < s .windows .n → whole k ≡ true
@@ -152,7 +160,8 @@ module _ {test : Test} (planner : Planner test) (whole : ℕ → Bool) where
   side-narrows side s formed k place is-whole =
       by-step _ _ _ (step test side k (s .windows)) _ (step-narrows side (s .windows) formed k place is-whole) (λ v a. a .narrows)
 
-  pub visit-narrows : (s : Narrowed) → Formed (s .windows) → (k : ℕ) → k < s .windows .n → NarrowsOr whole (s .windows) (visit test whole k s)
+  visit-narrows : (s : Narrowed) → Formed (s .windows) → (k : ℕ) → k < s .windows .n
+      → NarrowsOr whole (s .windows) (visit test whole k s)
   unfolding visit
   visit-narrows s formed k place = go (whole k) refl
     where
@@ -186,7 +195,8 @@ module _ {test : Test} (planner : Planner test) (whole : ℕ → Bool) where
       go v f false o told = told
 
   -- one step of a list, which changes nothing if it is refused
-  left-narrows : (side : Side) (k : ℕ) (w : Windows) → Formed w → (o : Outcome Windows) → StepNarrowsOr whole side k w o → Narrows whole w (leftBy o w)
+  left-narrows : (side : Side) (k : ℕ) (w : Windows) → Formed w → (o : Outcome Windows) → StepNarrowsOr whole side k w o
+      → Narrows whole w (leftBy o w)
   left-narrows side k w formed (answered v) a = a .narrows
   left-narrows side k w formed (refused x) none = narrows-same w formed
 

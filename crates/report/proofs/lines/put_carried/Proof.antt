@@ -39,7 +39,12 @@ same-length c = search needs
 
 returns : tie.Need-returns
 unfolding ascii
-returns c = rw (c .before .before .before .before .before .before .before .before .before .before .before .before .before .before .before .if1 .taken) (puts-then (c .before .before .before .before .before .before .before .before .before .before .before .before .put-after .ensures) (puts-then (c .before .before .before .before .before .before .before .put-after2 .ensures) (c .before .before .put-after3 .ensures)))
+returns c =
+    let third = c .before .before in
+    let second = third .before .before .before .before .before in
+    let first = second .before .before .before .before .before in
+    rw (first .before .before .before .if1 .taken)
+    (puts-then (first .put-after .ensures) (puts-then (second .put-after2 .ensures) (third .put-after3 .ensures)))
 
 slice-aggregate-put-after-4 : tie.Need-slice-aggregate-put-after-4
 slice-aggregate-put-after-4 c = search needs
@@ -55,7 +60,9 @@ same-length-2 c = search needs
 
 returns-2 : tie.Need-returns-2
 unfolding ascii
-returns-2 c = simp (ne-eqb _ _ (c .before .before .before .before .before .before .if1 .left), eq-eqb _ _ (c .before .before .before .before .before .if2 .taken)) (c .before .before .put-after4 .ensures)
+returns-2 c =
+    let tested = c .before .before .before .before .before in
+    simp (ne-eqb _ _ (tested .before .if1 .left), eq-eqb _ _ (tested .if2 .taken)) (c .before .before .put-after4 .ensures)
 
 slice-aggregate-put-after-5 : tie.Need-slice-aggregate-put-after-5
 slice-aggregate-put-after-5 c = search needs
@@ -71,7 +78,9 @@ same-length-3 c = search needs
 
 returns-3 : tie.Need-returns-3
 unfolding ascii
-returns-3 c = simp (ne-eqb _ _ (c .before .before .before .before .before .before .if1 .left), ne-eqb _ _ (c .before .before .before .before .before .if2 .left)) (c .before .before .put-after5 .ensures)
+returns-3 c =
+    let tested = c .before .before .before .before .before in
+    simp (ne-eqb _ _ (tested .before .if1 .left), ne-eqb _ _ (tested .if2 .left)) (c .before .before .put-after5 .ensures)
 
 pub put-carried-spec : {M : Type 1} → statement M
 put-carried-spec =

@@ -53,11 +53,34 @@ put-bytes-requires : tie.Need-put-bytes-requires
 put-bytes-requires c κs = search needs
 
 same-length : tie.Need-same-length
-same-length c = c .before .before .put-bytes .kept .0 ∙ c .before .before .before .before .before .before .before .put-after5 .kept .0 ∙ c .before .before .before .before .before .before .before .before .before .before .before .before .put-after4 .kept .0 ∙ c .before .before .before .before .before .before .before .before .before .before .before .before .before .before .before .before .before .put-after3 .kept .0 ∙ c .before .before .before .before .before .before .before .before .before .before .before .before .before .before .before .before .before .before .before .before .before .before .before .put-after2 .kept .0 ∙ c .before .before .before .before .before .before .before .before .before .before .before .before .before .before .before .before .before .before .before .before .before .before .before .before .before .before .before .before .before .put-after .kept .0
+same-length c =
+    let last = c .before .before in
+    let fifth = last .before .before .before .before .before in
+    let fourth = fifth .before .before .before .before .before in
+    let third = fourth .before .before .before .before .before in
+    let second = third .before .before .before .before .before .before in
+    let first = second .before .before .before .before .before .before in
+    last .put-bytes .kept .0
+    ∙ fifth .put-after5 .kept .0
+    ∙ fourth .put-after4 .kept .0
+    ∙ third .put-after3 .kept .0
+    ∙ second .put-after2 .kept .0
+    ∙ first .put-after .kept .0
 
 returns : tie.Need-returns
 unfolding ascii
-returns c = times-put (c .before .before .before .before .before .before .before .before .before .before .before .before .before .before .before .before .before .before .before .before .before .before .before .before .before .before .before .before .before .before .before .before .before .before .args .e) (c .before .before .before .before .before .before .before .before .before .before .before .before .before .before .before .before .before .before .before .before .before .before .before .before .before .before .before .before .before .before .before .before .before .before .args .end) (c .before .before .before .before .before .before .before .before .before .before .before .before .before .before .before .before .before .before .before .before .before .before .before .before .before .before .before .before .before .before .before .before .before .before .args .start) (c .before .before .before .before .before .before .before .before .before .before .before .before .before .before .before .before .before .before .before .before .before .before .before .before .before .before .before .before .before .put-after .ensures) (c .before .before .before .before .before .before .before .before .before .before .before .before .before .before .before .before .before .before .before .before .before .before .before .put-after2 .ensures) (c .before .before .before .before .before .before .before .before .before .before .before .before .before .before .before .before .before .put-after3 .ensures) (c .before .before .before .before .before .before .before .before .before .before .before .before .put-after4 .ensures) (c .before .before .before .before .before .before .before .put-after5 .ensures) (c .before .before .put-bytes .ensures)
+returns c =
+    let last = c .before .before in
+    let fifth = last .before .before .before .before .before in
+    let fourth = fifth .before .before .before .before .before in
+    let third = fourth .before .before .before .before .before in
+    let second = third .before .before .before .before .before .before in
+    let first = second .before .before .before .before .before .before in
+    let args = first .before .before .before .before .before .args in
+    times-put (args .e) (args .end) (args .start) (first .put-after .ensures) (second .put-after2 .ensures) (third .put-after3 .ensures)
+    (fourth .put-after4 .ensures)
+    (fifth .put-after5 .ensures)
+    (last .put-bytes .ensures)
 
 pub put-times-spec : {M : Type 1} → statement M
 put-times-spec =

@@ -29,13 +29,19 @@ loop-less : tie.Need-loop-less Inv-loop μ-loop
 loop-less c = search needs
 
 loop-again : tie.Need-loop-again Inv-loop μ-loop
-loop-again c = extends-next _ _ _ (c .before .before .before .loop .inv) (c .before .before .loop-test .taken) (c .before .before .before .before .before .pre) (c .if1 .left)
+loop-again c =
+    let tested = c .before .before in
+    let turn = tested .before in
+    extends-next _ _ _ (turn .loop .inv) (tested .loop-test .taken) (turn .before .before .pre) (c .if1 .left)
 
 returns : tie.Need-returns Inv-loop μ-loop
 returns c = ends-day _ _ _ (c .before .loop .inv) (c .loop-test .left)
 
 returns-2 : tie.Need-returns-2 Inv-loop μ-loop
-returns-2 c = ends-here _ _ _ (c .before .before .before .loop .inv) (c .before .before .loop-test .taken) (c .before .before .before .before .before .pre) (c .if1 .taken)
+returns-2 c =
+    let tested = c .before .before in
+    let turn = tested .before in
+    ends-here _ _ _ (turn .loop .inv) (tested .loop-test .taken) (turn .before .before .pre) (c .if1 .taken)
 
 pub run-end-spec : {M : Type 1} → statement M
 run-end-spec =
