@@ -4,10 +4,10 @@ use mathlib.Core.Path.{_≡_, refl, sym, ap, subst, _∙_}
 use mathlib.Core.List.{List, [], _∷_, _++_}
 use Prim.Native.Nat.{ℕ}
 use lib.ListN.{length}
-use Rattle.list.specs.Outcomes.{Outcome, answered, refused}
+use Rattle.base.specs.Outcomes.{Outcome, answered, refused}
 use Rattle.list.specs.Refusals.{codeOf, verdictOf, outcomeOf, writeAnswerOf}
 use Rattle.format.specs.Reading.{readOf}
-use Rattle.format.specs.Promises.{Reads, Writes}
+use Rattle.format.specs.Calls.{Reads, Writes}
 use Rattle.list.specs.declared.types.DayList.{DayList}
 use Rattle.list.specs.declared.types.Refusal.{Refusal}
 use Rattle.list.specs.declared.types.Verdict.{Verdict}
@@ -15,8 +15,7 @@ use Rattle.list.specs.declared.types.Verdict.the-variants.{Accepted, Refused}
 use Rattle.list.specs.declared.types.ReadAnswer.{ReadAnswer}
 use Rattle.list.specs.declared.types.WriteAnswer.{WriteAnswer}
 use Rattle.jackson.specs.Windows.{Windows}
-use Rattle.jackson.specs.Testing.{Tests}
-use Rattle.jackson.specs.Planning.{Fills}
+use Rattle.jackson.specs.Calls.{Tests, Fills}
 use Rattle.narrow.specs.Rounds.{Narrowed}
 use Rattle.narrow.specs.Calls.{narrowAnswerOf, narrowedIn, listed, AnswersAs}
 use Rattle.narrow.specs.declared.types.NarrowAnswer.{NarrowAnswer}
@@ -25,7 +24,7 @@ use Rattle.bounds.specs.Demand3.{Told}
 use Rattle.bounds.specs.declared.types.PlanAnswer.{PlanAnswer}
 use Rattle.bounds.specs.declared.types.ShownAnswer.{ShownAnswer}
 use Rattle.report.specs.Calls.{StoresText}
-use Rattle.codes.specs.Numbers.{three}
+use Rattle.codes.specs.Codes.{three}
 use Rattle.flat.specs.Flat.{flatOf, valueOf}
 use Rattle.abi.specs.Calls.{answerWith, ReadCall, WriteCall, OverloadCall, ScheduleCall, NarrowCall, PlanCall, ShownCall, EarlyCall, LateCall, TextCall}
 use Rattle.abi.specs.declared.Answer.{Answer}

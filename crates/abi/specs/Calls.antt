@@ -3,22 +3,22 @@ use Prim.Native.Nat.{ℕ}
 use mathlib.Core.Path.{_≡_}
 use mathlib.Core.List.{List, [], _∷_, _++_}
 use lib.ListN.{length}
-use Rattle.list.specs.Outcomes.{code, Outcome, answered, refused}
+use Rattle.base.specs.Outcomes.{code, Outcome, answered, refused}
 use Rattle.format.specs.Reading.{readOf}
 use Rattle.format.specs.Writing.{writeOf, bufferAfter}
 use Rattle.list.specs.declared.types.DayList.{DayList}
 use Rattle.jackson.specs.Windows.{Windows, windowsOf}
-use Rattle.jackson.specs.Testing.{testOf}
+use Rattle.jackson.specs.Calls.{testOf, fillOf, planAfter}
 use Rattle.jackson.specs.Intervals.{overloadOf}
 use Rattle.jackson.specs.Minutes.{schedule}
-use Rattle.jackson.specs.Planning.{fillOf, planAfter}
 use Rattle.narrow.specs.Rounds.{Narrowed}
-use Rattle.narrow.specs.Calls.{wholeIn, settleOf, listed}
+use Rattle.list.specs.DayLists.{wholeIn}
+use Rattle.narrow.specs.Calls.{settleOf, listed}
 use Rattle.bounds.specs.Ends.{leastEnd, greatestStart}
 use Rattle.bounds.specs.Calls.{settledOr, planned, planOf, leastEnds, greatestStarts, brokenOf, shownOf, earlyOf, lateOf}
 use Rattle.report.specs.Reports.{refusalLine, reportOf}
 use Rattle.report.specs.Calls.{storeOf, textAfter}
-use Rattle.codes.specs.Numbers.{three}
+use Rattle.codes.specs.Codes.{three}
 use Rattle.flat.specs.Flat.{flatOf, valueOf}
 use Rattle.abi.specs.declared.Answer.{Answer}
 

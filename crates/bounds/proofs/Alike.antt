@@ -4,18 +4,17 @@ use Prim.Native.Nat.{ℕ}
 use mathlib.Core.Path.{_≡_, refl}
 use mathlib.Core.List.{List}
 use lib.ListN.{length}
-use Rattle.list.specs.Outcomes.{Outcome, andThen}
+use Rattle.base.specs.Outcomes.{Outcome, andThen}
 use Rattle.list.specs.Checks.{checkOf}
-use Rattle.list.specs.DayLists.{SameList}
+use Rattle.list.specs.DayLists.{SameList, wholeIn}
 use Rattle.list.specs.declared.types.DayList.{DayList}
 use Rattle.jackson.specs.Intervals.{overloadOf}
 use Rattle.jackson.specs.Minutes.{schedule}
 use Rattle.jackson.proofs.Alike.{alike-windows, alike-checked}
 use Rattle.narrow.specs.Rounds.{narrowing}
-use Rattle.narrow.specs.Calls.{wholeIn, SameTimes, listed}
+use Rattle.narrow.specs.Calls.{SameTimes, listed}
 use Rattle.narrow.proofs.Alike.{same-times, times-windows, times-whole, same-listed}
-use Rattle.bounds.specs.Calls.{planChecks, shownChecks, narrowAfter, settledOr, planned}
-use Rattle.bounds.specs.Calls.{planOf, leastEnds, greatestStarts, brokenOf, shownOf, boundOf, shownPlan}
+use Rattle.bounds.specs.Calls.{planChecks, shownChecks, narrowAfter, settledOr, planned, planOf, leastEnds, greatestStarts, brokenOf, shownOf, boundOf, shownPlan}
 use Rattle.bounds.specs.declared.shown.Shown.{Shown}
 
 -- windows, moves, refusals, bounds, broken entries and plans do not depend on serials and seals, nor on what stands from n on

@@ -9,33 +9,32 @@ use borrow.Author.Tests.{eq-eqb, ne-eqb}
 use lib.Dec.{eqb}
 use lib.ListN.{length, getD, take, replicate}
 use lib.Seq.{take-at}
-use Rattle.list.specs.Outcomes.{Outcome, answered}
+use Rattle.base.specs.Outcomes.{Outcome, answered}
 use Rattle.list.specs.Refusals.{outcomeOf}
 use Rattle.list.specs.Checks.{WellFormed}
 use Rattle.list.specs.declared.types.Refusal.{Refusal}
 use Rattle.list.specs.declared.types.Verdict.{Verdict}
 use Rattle.list.specs.declared.types.Verdict.the-variants.{Accepted, Refused}
 use Rattle.list.specs.declared.types.DayList.{DayList}
-use Rattle.list.proofs.Inversion.{answered-same, answered-refused}
-use Rattle.jackson.specs.Windows.{Windows, windowsOf, windowsIn}
+use Rattle.base.proofs.Inversion.{answered-same, answered-refused}
+use Rattle.jackson.specs.Windows.{Windows, windowsOf, windowsIn, Searchable}
 use Rattle.jackson.specs.Plans.{placesIn}
 use Rattle.jackson.specs.Intervals.{overloadOf}
 use Rattle.jackson.specs.Minutes.{schedule}
-use Rattle.jackson.specs.Planning.{FillsWindows}
+use Rattle.jackson.specs.Calls.{FillsWindows}
 use Rattle.jackson.specs.declared.types.WindowSet.{WindowSet}
-use Rattle.jackson.proofs.Sums.{same-cases}
+use Rattle.base.proofs.Sums.{same-cases}
 use Rattle.narrow.specs.Rounds.{Narrowed}
-use Rattle.narrow.specs.Calls.{wholeIn, narrowedIn}
-use Rattle.narrow.specs.Parts.{Searchable}
+use Rattle.list.specs.DayLists.{wholeIn}
+use Rattle.narrow.specs.Calls.{narrowedIn}
 use Rattle.narrow.specs.declared.types.NarrowAnswer.{NarrowAnswer}
 use Rattle.narrow.proofs.CallCases.{list-formed}
 use Rattle.bounds.specs.Ends.{leastEnd, greatestStart}
 use Rattle.bounds.specs.ShownPlans.{earlyPlan, latePlan}
 use Rattle.bounds.specs.BrokenEntries.{brokenIn}
 use Rattle.bounds.specs.Demand3.{Told, Demand3}
-use Rattle.bounds.specs.Calls.{planChecks, shownChecks, byPlace, settledOr, planned, planOf, leastEnds, greatestStarts, brokenOf}
-use Rattle.bounds.specs.Calls.{toldByPlan, PlansWindows, PlansDay, shownOf, boundOf, shownPlan, putShown, toldByShown, Shows}
-use Rattle.bounds.specs.Parts.{Stores, NarrowsAfter}
+use Rattle.bounds.specs.Calls.{planChecks, shownChecks, byPlace, settledOr, planned, planOf, leastEnds, greatestStarts, brokenOf, toldByPlan, PlansWindows, PlansDay, shownOf, boundOf, shownPlan, putShown, toldByShown, Shows}
+use Rattle.bounds.specs.Internal.{Stores, NarrowsAfter}
 use Rattle.bounds.specs.declared.types.PlanAnswer.{PlanAnswer}
 use Rattle.bounds.specs.declared.types.ShownAnswer.{ShownAnswer}
 use Rattle.bounds.specs.declared.shown.Shown.{Shown}
@@ -43,9 +42,7 @@ use Rattle.bounds.specs.declared.shown.Shown.the-variants.{Early, Late}
 use Rattle.bounds.proofs.Demands.{AtPlace, ByRules, demand3}
 use Rattle.bounds.proofs.EndCases.{by-place, searchable-at}
 use Rattle.bounds.proofs.ShownCases.{schedule-long, shown-long}
-use Rattle.bounds.proofs.CallCases.{plan-formed, shown-plan, shown-formed, settledIn, IsSettled, outcome-is, is-settled}
-use Rattle.bounds.proofs.CallCases.{settled-few, settled-day, settled-plan, Ready, ready-formed, ready-place}
-use Rattle.bounds.proofs.CallCases.{bounds-are, plan-is, broken-is, shown-bound, shown-stored}
+use Rattle.bounds.proofs.CallCases.{plan-formed, shown-plan, shown-formed, settledIn, IsSettled, outcome-is, is-settled, settled-few, settled-day, settled-plan, Ready, ready-formed, ready-place, bounds-are, plan-is, broken-is, shown-bound, shown-stored}
 
 -- the windows of the list answered are those told
 windows-told : (a : NarrowAnswer) (v : Narrowed) → narrowedIn a ≡ answered v → (a .verdict ≡ Accepted) × (windowsOf (a .list) ≡ v .windows)

@@ -10,18 +10,17 @@ use borrow.Author.Tests.{eq-eqb, ne-eqb, eqb-true, not-true, not-false}
 use lib.Dec.{eqb}
 use lib.ListN.{length, getD, take, length-take}
 use lib.Seq.{getD-take}
-use Rattle.list.specs.DayLists.{blank}
+use Rattle.list.specs.DayLists.{blank, wholeIn}
 use Rattle.list.specs.declared.types.Entry.{Entry}
 use Rattle.list.specs.declared.types.DayList.{DayList}
-use Rattle.jackson.specs.Counting.{lastBelow, sum}
+use Rattle.base.specs.Counting.{lastBelow, sum}
 use Rattle.jackson.specs.Windows.{windowsOf}
 use Rattle.jackson.specs.Plans.{idle, placesIn, startOf, endOf, minutesOf}
-use Rattle.jackson.proofs.Sums.{le-or-lt}
-use Rattle.jackson.proofs.Searches.{first-below, one-first}
+use Rattle.base.proofs.Sums.{le-or-lt}
+use Rattle.base.proofs.Searches.{first-below, one-first}
 use Rattle.jackson.proofs.PlanFacts.{minutes-within, place-read}
-use Rattle.narrow.specs.Calls.{wholeIn}
 use Rattle.bounds.specs.BrokenEntries.{isBroken, brokenIn}
-use Rattle.bounds.specs.Parts.{HoldsPlan}
+use Rattle.bounds.specs.Internal.{HoldsPlan}
 
 -- 1 or 0
 at-most-one : (t : Bool) (b : ℕ) → b ≡ cond t 1 0 → b ≤ 1

@@ -7,9 +7,9 @@ use Prim.Native.Nat.{ℕ, zero, suc, _+_, _-_, _<_, _≤_, min}
 use native.Mathlib.Omega.{arith}
 use borrow.Author.Tests.{eqb-false, ne-eqb, not-true}
 use lib.Dec.{eqb}
-use Rattle.jackson.specs.Counting.{sum}
+use Rattle.base.specs.Counting.{sum}
 use Rattle.jackson.specs.Plans.{minutesOf, startOf, endOf, IsStart, IsEnd}
-use Rattle.jackson.proofs.Sums.{le-or-lt, same-cases}
+use Rattle.base.proofs.Sums.{le-or-lt, same-cases}
 use Rattle.jackson.proofs.PlanFacts.{minutes-within, minutes-fill, start-is, end-is, start-to-end}
 use Rattle.narrow.specs.Settling.{Consecutive}
 use Rattle.bounds.specs.BrokenEntries.{isBroken, Broken}

@@ -8,36 +8,34 @@ use native.Mathlib.Omega.{arith}
 use borrow.Author.Tests.{lt-ltb, le-ltb, le-leb, lt-leb, leb-false, ltb-false}
 use lib.ListN.{length, take, drop, replicate}
 use lib.Seq.{length-take-le, take-at}
-use Rattle.list.specs.Outcomes.{Code, Row, Outcome, answered, refused, firstOf, andThen}
+use Rattle.base.specs.Outcomes.{Code, Row, Outcome, answered, refused, firstOf, andThen}
 use Rattle.list.specs.Refusals.{codeOf, outcomeOf, verdictOf}
 use Rattle.list.specs.Checks.{checkOf, WellFormed}
-use Rattle.list.specs.DayLists.{emptyList}
+use Rattle.list.specs.DayLists.{emptyList, wholeIn}
 use Rattle.list.specs.declared.types.Refusal.{Refusal}
 use Rattle.list.specs.declared.types.Refusal.the-variants.{PlanBufferShort, UnknownPlace}
 use Rattle.list.specs.declared.types.Verdict.{Verdict}
 use Rattle.list.specs.declared.types.Verdict.the-variants.{Accepted, Refused}
 use Rattle.list.specs.declared.types.DayList.{DayList}
 use Rattle.list.proofs.Sound.{sound-list}
-use Rattle.list.proofs.Inversion.{answered-refused, by-accepted, by-refused}
-use Rattle.jackson.specs.Windows.{Windows, windowsOf, windowsIn}
+use Rattle.base.proofs.Inversion.{answered-refused}
+use Rattle.list.proofs.Verdicts.{by-accepted, by-refused}
+use Rattle.jackson.specs.Windows.{Windows, windowsOf, windowsIn, Formed}
 use Rattle.jackson.specs.Plans.{placesIn}
 use Rattle.jackson.specs.Minutes.{schedule}
-use Rattle.jackson.specs.Testing.{Holds}
-use Rattle.jackson.specs.Planning.{bufferRow, FillsWindows}
+use Rattle.jackson.specs.Calls.{Holds, bufferRow, FillsWindows}
 use Rattle.jackson.specs.declared.types.WindowSet.{WindowSet}
 use Rattle.jackson.proofs.ListLaws.{list-few}
-use Rattle.narrow.specs.Laws.{Formed}
 use Rattle.narrow.specs.Settling.{Widest}
 use Rattle.narrow.specs.Rounds.{Narrowed}
-use Rattle.narrow.specs.Calls.{wholeIn, settleOf, Settles}
+use Rattle.narrow.specs.Calls.{settleOf, Settles}
 use Rattle.narrow.specs.declared.types.NarrowAnswer.{NarrowAnswer}
 use Rattle.narrow.proofs.OverloadPlanner.{overload-planner}
 use Rattle.narrow.proofs.NarrowLaws.{narrow-law}
 use Rattle.narrow.proofs.CallCases.{list-formed, answers-refused, holds-answer}
 use Rattle.bounds.specs.BrokenEntries.{brokenIn}
-use Rattle.bounds.specs.Calls.{PlansWindows, beforeNine, placeRow, planChecks, shownChecks, narrowAfter}
-use Rattle.bounds.specs.Calls.{byPlace, settledOr, planned, brokenOf, boundOf, shownPlan}
-use Rattle.bounds.specs.Parts.{HoldsFormed, Stores, HoldsPlan, NarrowsAfter}
+use Rattle.bounds.specs.Calls.{PlansWindows, beforeNine, placeRow, planChecks, shownChecks, narrowAfter, byPlace, settledOr, planned, brokenOf, boundOf, shownPlan}
+use Rattle.bounds.specs.Internal.{HoldsFormed, Stores, HoldsPlan, NarrowsAfter}
 use Rattle.bounds.specs.declared.shown.Shown.{Shown}
 use Rattle.bounds.proofs.Demands.{plans-windows}
 use Rattle.bounds.proofs.EndCases.{bound-kind}

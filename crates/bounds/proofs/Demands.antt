@@ -4,16 +4,15 @@ use mathlib.Core.Path.{_≡_, refl, ap}
 use mathlib.Core.Bool.{Bool}
 use Prim.Native.Nat.{ℕ, _<_}
 use native.Mathlib.Omega.{arith}
-use Rattle.list.specs.Outcomes.{answered}
-use Rattle.jackson.specs.Windows.{Windows}
-use Rattle.jackson.specs.Plans.{placesIn, PlanBytes}
-use Rattle.jackson.specs.Existence.{Plannable}
+use Rattle.base.specs.Outcomes.{answered}
+use Rattle.jackson.specs.Windows.{Windows, Formed}
+use Rattle.jackson.specs.Plans.{placesIn, PlanBytes, Plannable}
 use Rattle.jackson.specs.Intervals.{overloadOf}
 use Rattle.jackson.specs.Minutes.{schedule}
 use Rattle.jackson.proofs.Law.{schedule-law}
 use Rattle.narrow.specs.Settling.{Widest}
 use Rattle.narrow.specs.Rounds.{Narrowed, narrowing}
-use Rattle.narrow.specs.Laws.{Formed, NarrowLaw}
+use Rattle.narrow.specs.Laws.{NarrowLaw}
 use Rattle.narrow.proofs.OverloadPlanner.{formed-roomy, overload-planner}
 use Rattle.narrow.proofs.MirrorSettled.{set-formed}
 use Rattle.narrow.proofs.Fixpoints.{widest-set}

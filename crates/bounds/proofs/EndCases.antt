@@ -9,23 +9,20 @@ use borrow.Author.Tests.{lt-ltb, le-ltb}
 use lib.Dec.{ltb}
 use lib.ListN.{length, getD, set, replicate, length-set, length-replicate, getD-replicate}
 use lib.Seq.{getD-set-same, getD-set-other, getD-take}
-use Rattle.list.specs.DayLists.{blank}
+use Rattle.list.specs.DayLists.{blank, isWhole, wholeIn}
 use Rattle.list.specs.declared.types.DayList.{DayList}
-use Rattle.jackson.specs.Windows.{Windows, windowsIn}
+use Rattle.jackson.specs.Windows.{Windows, windowsIn, withD, Formed, Searchable}
 use Rattle.jackson.specs.Mirrors.{MirrorOf, mirror}
 use Rattle.jackson.specs.Intervals.{overloadOf}
 use Rattle.jackson.specs.declared.types.WindowSet.{WindowSet}
-use Rattle.jackson.proofs.Sums.{le-or-lt, same-cases}
-use Rattle.jackson.proofs.Listed.{list-is, list-same, list-at, list-length}
-use Rattle.narrow.specs.Searching.{accepts, withD}
-use Rattle.narrow.specs.Laws.{Formed}
-use Rattle.narrow.specs.Calls.{isWhole, wholeIn}
-use Rattle.narrow.specs.Parts.{Searchable}
+use Rattle.base.proofs.Sums.{le-or-lt, same-cases}
+use Rattle.base.proofs.Listed.{list-is, list-same, list-at, list-length}
+use Rattle.base.specs.Outcomes.{accepts}
 use Rattle.narrow.proofs.OverloadPlanner.{overload-planner}
 use Rattle.narrow.proofs.MirrorSearches.{formed-mirror}
 use Rattle.bounds.specs.Ends.{leastEnd, greatestStart}
 use Rattle.bounds.specs.Calls.{byPlace, boundOf}
-use Rattle.bounds.specs.Parts.{HoldsFormed}
+use Rattle.bounds.specs.Internal.{HoldsFormed}
 use Rattle.bounds.specs.declared.shown.Shown.{Shown}
 use Rattle.bounds.specs.declared.shown.Shown.the-variants.{Early, Late}
 use Rattle.bounds.proofs.EndSearches.{deadline-mono, least-end-whole, least-end-found, least-end-range}

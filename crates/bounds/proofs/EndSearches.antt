@@ -5,17 +5,16 @@ use mathlib.Core.Logic.{_↔_}
 use mathlib.Core.Bool.{Bool, true, false, cond, true≢false}
 use Prim.Native.Nat.{ℕ, _+_, _-_, _<_, _≤_}
 use native.Mathlib.Omega.{arith}
-use Rattle.jackson.specs.Windows.{Windows, Inside, withWindows}
-use Rattle.jackson.specs.Plans.{Plan}
-use Rattle.jackson.specs.Existence.{Plannable}
-use Rattle.jackson.proofs.Sums.{le-or-lt}
-use Rattle.jackson.proofs.Searches.{First, first-below}
+use Rattle.jackson.specs.Windows.{Windows, Inside, withWindows, withD, Formed}
+use Rattle.jackson.specs.Plans.{Plan, Plannable}
+use Rattle.base.proofs.Sums.{le-or-lt}
+use Rattle.base.proofs.Searches.{First, first-below}
 use Rattle.jackson.proofs.PlanFacts.{widen}
-use Rattle.narrow.specs.Searching.{Test, accepts, withD}
-use Rattle.narrow.specs.Laws.{Formed}
+use Rattle.narrow.specs.Searching.{Test}
+use Rattle.base.specs.Outcomes.{accepts}
 use Rattle.narrow.proofs.Planners.{Planner}
 use Rattle.narrow.proofs.Puts.{place-cases, put-back}
-use Rattle.narrow.proofs.Keeping.{formed-inside}
+use Rattle.narrow.proofs.StepsKeep.{formed-inside}
 use Rattle.narrow.proofs.Exact.{accepted-answered}
 use Rattle.bounds.specs.Ends.{spare, failedDeadlines, leastEnd}
 

@@ -7,12 +7,12 @@ use native.Mathlib.Omega.{arith}
 use Rattle.list.specs.Entries.{entryFault}
 use Rattle.list.specs.Checks.{headerFault, entriesFault, checkOf}
 use Rattle.format.specs.Reading.{readOf, bodyOf, entriesFrom}
-use Rattle.jackson.specs.Counting.{sum, same, firstBelow, best, listOf}
+use Rattle.base.specs.Counting.{sum, same, firstBelow, best, listOf}
 use Rattle.jackson.specs.Windows.{windowsOf}
 use Rattle.jackson.specs.Plans.{Plan, IsEnd, IsStart, placesIn}
 use Rattle.jackson.specs.Intervals.{work, leftEnd, rightEnd, overloadOf}
 use Rattle.jackson.specs.Minutes.{chosen, minuteOf, later, schedule}
-use Rattle.jackson.proofs.Sums.{le-or-lt, same-cases, same-ne}
+use Rattle.base.proofs.Sums.{le-or-lt, same-cases, same-ne}
 use Rattle.narrow.specs.Searching.{failedStarts, failedEnds, leastStart, greatestEnd}
 use Rattle.narrow.specs.Rounds.{narrowSide, visit, visits, rounds, narrowing}
 use Rattle.narrow.specs.Calls.{entriesWith, listWith, settleOf, roundOf}

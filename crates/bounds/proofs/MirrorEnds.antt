@@ -4,15 +4,15 @@ use mathlib.Core.Path.{_≡_, sym, ap, _∙_}
 use mathlib.Core.Bool.{Bool, true, false, cond}
 use Prim.Native.Nat.{ℕ, _+_, _-_, _<_, _≤_}
 use native.Mathlib.Omega.{arith}
-use Rattle.jackson.specs.Windows.{Windows}
+use Rattle.jackson.specs.Windows.{Windows, withR, withD, Formed}
 use Rattle.jackson.specs.Mirrors.{mirror, mirrorBytes}
 use Rattle.jackson.specs.Minutes.{schedule}
-use Rattle.jackson.proofs.Searches.{first-cong}
-use Rattle.narrow.specs.Searching.{Test, accepts, withR, withD}
-use Rattle.narrow.specs.Laws.{Formed}
+use Rattle.base.proofs.Searches.{first-cong}
+use Rattle.narrow.specs.Searching.{Test}
+use Rattle.base.specs.Outcomes.{accepts}
 use Rattle.narrow.proofs.Planners.{Planner}
 use Rattle.narrow.proofs.MirrorSearches.{with-r-mirror, planner-in-mirror}
-use Rattle.narrow.proofs.Keeping.{keeps-r}
+use Rattle.narrow.proofs.StepsKeep.{keeps-r}
 use Rattle.narrow.proofs.Exact.{in-mirror}
 use Rattle.bounds.specs.Ends.{spare, failedDeadlines, failedReleases, leastEnd, greatestStart}
 use Rattle.bounds.specs.ShownPlans.{earlyPlan, latePlan}

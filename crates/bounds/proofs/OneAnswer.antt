@@ -7,14 +7,14 @@ use mathlib.Core.List.{List}
 use Prim.Native.Nat.{ℕ, _<_}
 use native.Mathlib.Omega.{arith}
 use lib.ListN.{length}
-use Rattle.list.specs.Outcomes.{Outcome, answered}
+use Rattle.base.specs.Outcomes.{Outcome, answered}
 use Rattle.list.specs.DayLists.{SameList}
 use Rattle.list.specs.declared.types.DayList.{DayList}
 use Rattle.jackson.specs.Windows.{Windows}
 use Rattle.narrow.specs.Rounds.{Narrowed}
 use Rattle.narrow.specs.Calls.{listed, narrowAnswerOf, standing, AnswersAs}
 use Rattle.narrow.specs.declared.types.NarrowAnswer.{NarrowAnswer}
-use Rattle.list.proofs.OneVerdict.{one-verdict}
+use Rattle.list.proofs.Verdicts.{one-verdict}
 use Rattle.narrow.proofs.OneOutcome.{one-outcome}
 use Rattle.narrow.proofs.Alike.{same-times}
 use Rattle.bounds.specs.ShownPlans.{earlyPlan, latePlan}
@@ -23,8 +23,7 @@ use Rattle.bounds.specs.Calls.{PlansDay, Shows}
 use Rattle.bounds.specs.declared.types.PlanAnswer.{PlanAnswer}
 use Rattle.bounds.specs.declared.types.ShownAnswer.{ShownAnswer}
 use Rattle.bounds.specs.declared.shown.Shown.{Shown}
-use Rattle.bounds.proofs.Alike.{times-ends, times-starts, times-broken, times-plan, times-bound, times-shown-plan}
-use Rattle.bounds.proofs.Alike.{same-planned, same-shown}
+use Rattle.bounds.proofs.Alike.{times-ends, times-starts, times-broken, times-plan, times-bound, times-shown-plan, same-planned, same-shown}
 
 -- Two answers of which demand 3 holds.
 module _ {whole : ℕ → Bool} {w : Windows} (s t : Told) (a : Demand3 whole w s) (b : Demand3 whole w t) where

@@ -9,25 +9,22 @@ use borrow.Author.Tests.{le-ltb}
 use lib.ListN.{length, getD, set, drop, length-set, List·getD-append}
 use lib.Seq.{getD-set-same, getD-set-other, getD-append-add, getD-drop, ext-getD, length-take-le, length-front, drop-at}
 use Rattle.list.specs.declared.types.Verdict.{Verdict}
-use Rattle.jackson.specs.Windows.{Windows, windowsIn}
+use Rattle.jackson.specs.Windows.{Windows, windowsIn, withD, Formed, Searchable}
 use Rattle.jackson.specs.Plans.{idle, placesIn}
 use Rattle.jackson.specs.Mirrors.{mirror, mirrorBytes, MirrorOf}
 use Rattle.jackson.specs.Intervals.{overloadOf}
 use Rattle.jackson.specs.Minutes.{schedule}
-use Rattle.jackson.specs.Planning.{FillsWindows}
+use Rattle.jackson.specs.Calls.{FillsWindows}
 use Rattle.jackson.specs.declared.types.WindowSet.{WindowSet}
-use Rattle.jackson.proofs.Sums.{le-or-lt, same-cases}
-use Rattle.jackson.proofs.Listed.{list-same, list-length}
+use Rattle.base.proofs.Sums.{le-or-lt, same-cases}
+use Rattle.base.proofs.Listed.{list-same, list-length}
 use Rattle.jackson.proofs.PlanFacts.{place-read, mirror-at}
-use Rattle.narrow.specs.Searching.{withD}
-use Rattle.narrow.specs.Laws.{Formed}
-use Rattle.narrow.specs.Parts.{Searchable}
 use Rattle.narrow.proofs.OverloadPlanner.{overload-planner}
 use Rattle.narrow.proofs.MirrorSearches.{formed-mirror}
 use Rattle.bounds.specs.Ends.{leastEnd, greatestStart}
 use Rattle.bounds.specs.ShownPlans.{earlyPlan, latePlan}
 use Rattle.bounds.specs.Calls.{lateOf, shownPlan}
-use Rattle.bounds.specs.Parts.{Stores}
+use Rattle.bounds.specs.Internal.{Stores}
 use Rattle.bounds.specs.declared.shown.Shown.{Shown}
 use Rattle.bounds.specs.declared.shown.Shown.the-variants.{Early, Late}
 use Rattle.bounds.proofs.EndCases.{bound-kind}

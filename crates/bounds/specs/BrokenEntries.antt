@@ -3,7 +3,7 @@ use Prim.Native.Nat.{ℕ, _+_}
 use mathlib.Core.Path.{_≡_}
 use mathlib.Core.Bool.{Bool, true, cond, not, _&&_}
 use lib.Dec.{eqb}
-use Rattle.jackson.specs.Counting.{sum}
+use Rattle.base.specs.Counting.{sum}
 use Rattle.jackson.specs.Windows.{Windows}
 use Rattle.jackson.specs.Plans.{minutesOf, startOf, endOf}
 use Rattle.narrow.specs.Settling.{Consecutive}

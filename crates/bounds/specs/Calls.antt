@@ -6,18 +6,19 @@ use mathlib.Core.Bool.{Bool, true, cond}
 use mathlib.Core.List.{List, [], _∷_, _++_}
 use lib.ListN.{length, getD, take, drop, replicate}
 use lib.Dec.{eqb, leb, ltb}
-use Rattle.list.specs.Outcomes.{Row, row, Outcome, answered, refused, firstOf, andThen}
+use Rattle.base.specs.Outcomes.{Row, row, Outcome, answered, refused, firstOf, andThen}
 use Rattle.list.specs.Checks.{checkOf}
 use Rattle.list.specs.declared.types.DayList.{DayList}
 use Rattle.list.specs.declared.types.Verdict.the-variants.{Accepted}
-use Rattle.jackson.specs.Counting.{listOf}
+use Rattle.base.specs.Counting.{listOf}
 use Rattle.jackson.specs.Windows.{Windows, windowsOf}
 use Rattle.jackson.specs.Plans.{placesIn, PlanBytes}
 use Rattle.jackson.specs.Intervals.{overloadOf}
 use Rattle.jackson.specs.Minutes.{schedule}
-use Rattle.jackson.specs.Planning.{bufferRow}
+use Rattle.jackson.specs.Calls.{bufferRow}
 use Rattle.narrow.specs.Rounds.{Narrowed, narrowing}
-use Rattle.narrow.specs.Calls.{wholeIn, narrowedIn, AnswersAs, HoldsAnswer}
+use Rattle.list.specs.DayLists.{wholeIn}
+use Rattle.narrow.specs.Calls.{narrowedIn, AnswersAs, HoldsAnswer}
 use Rattle.bounds.specs.Ends.{leastEnd, greatestStart}
 use Rattle.bounds.specs.ShownPlans.{earlyPlan, latePlan}
 use Rattle.bounds.specs.BrokenEntries.{isBroken, brokenIn, Broken}

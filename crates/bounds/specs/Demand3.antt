@@ -3,7 +3,7 @@ use Prim.Native.Nat.{ℕ, _<_, _≤_}
 use mathlib.Core.Path.{_≡_}
 use mathlib.Core.Bool.{Bool}
 use mathlib.Core.List.{List}
-use Rattle.list.specs.Outcomes.{Outcome, answered}
+use Rattle.base.specs.Outcomes.{Outcome, answered}
 use Rattle.jackson.specs.Windows.{Windows}
 use Rattle.jackson.specs.Plans.{IsEnd, IsStart}
 use Rattle.jackson.specs.Intervals.{overloadOf}

@@ -2,10 +2,11 @@
 use Prim.Native.Nat.{ℕ, _+_, _-_}
 use mathlib.Core.Path.{_≡_}
 use mathlib.Core.Bool.{Bool, true, cond}
-use Rattle.jackson.specs.Counting.{firstBelow}
-use Rattle.jackson.specs.Windows.{Windows}
+use Rattle.base.specs.Counting.{firstBelow}
+use Rattle.jackson.specs.Windows.{Windows, withR, withD}
 use Rattle.jackson.specs.Plans.{Plan}
-use Rattle.narrow.specs.Searching.{Test, accepts, withR, withD}
+use Rattle.narrow.specs.Searching.{Test}
+use Rattle.base.specs.Outcomes.{accepts}
 use Rattle.narrow.specs.Settling.{Consecutive}
 
 -- the minutes of its window that entry k does not need

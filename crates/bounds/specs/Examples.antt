@@ -3,8 +3,8 @@ use Prim.Native.Nat.{ℕ, _≤_}
 use mathlib.Core.Path.{_≡_}
 use mathlib.Core.List.{List, [], _∷_, _++_, map}
 use lib.ListN.{getD}
-use Rattle.list.specs.Outcomes.{Outcome, answered, refused, code}
-use Rattle.list.specs.DayLists.{entriesOf, dayList}
+use Rattle.base.specs.Outcomes.{Outcome, answered, refused, code}
+use Rattle.list.specs.DayLists.{entriesOf, dayList, wholeIn}
 use Rattle.format.specs.Reading.{readOf}
 use Rattle.list.specs.declared.types.Seal.the-variants.{Missing}
 use Rattle.list.specs.declared.types.Kind.the-variants.{Pause, Whole}
@@ -14,7 +14,7 @@ use Rattle.jackson.specs.Windows.{Windows, windowsOf}
 use Rattle.jackson.specs.Plans.{Plan, IsEnd, IsStart}
 use Rattle.jackson.specs.Minutes.{schedule}
 use Rattle.narrow.specs.Rounds.{Narrowed}
-use Rattle.narrow.specs.Calls.{wholeIn, settleOf, roundOf, listed}
+use Rattle.narrow.specs.Calls.{settleOf, roundOf, listed}
 use Rattle.bounds.specs.Calls.{settledOr, planOf, leastEnds, greatestStarts}
 
 -- entries without a seal, by serial, r, d and p

@@ -4,4 +4,4 @@ pub mod BrokenEntries
 pub mod Demand3
 pub mod Calls
 pub mod Examples
-pub mod Parts
+pub mod Internal

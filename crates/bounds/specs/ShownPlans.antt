@@ -3,11 +3,10 @@ use Prim.Native.Nat.{ℕ}
 use mathlib.Core.Path.{_≡_}
 use mathlib.Core.Bool.{Bool}
 use mathlib.Core.List.{List}
-use Rattle.jackson.specs.Windows.{Windows}
+use Rattle.jackson.specs.Windows.{Windows, withR, withD}
 use Rattle.jackson.specs.Plans.{IsEnd, IsStart, placesIn, PlanBytes}
 use Rattle.jackson.specs.Mirrors.{mirror, mirrorBytes}
 use Rattle.jackson.specs.Minutes.{schedule}
-use Rattle.narrow.specs.Searching.{withR, withD}
 use Rattle.bounds.specs.Ends.{Keeping}
 
 -- "Early: Jackson's schedule with k's d set to its least end": e

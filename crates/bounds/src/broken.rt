@@ -7,9 +7,9 @@ ghost use Prim.Native.Nat.{_<_, _≤_};
 ghost use lib.ListN.{length, take};
 ghost use Rattle.jackson.specs.Windows.{windowsOf};
 ghost use Rattle.jackson.specs.Plans.{placesIn, startOf, endOf};
-ghost use Rattle.narrow.specs.Calls.{wholeIn};
+ghost use Rattle.list.specs.DayLists.{wholeIn};
 ghost use Rattle.bounds.specs.BrokenEntries.{isBroken, brokenIn};
-ghost use Rattle.bounds.specs.Parts.{HoldsPlan};
+ghost use Rattle.bounds.specs.Internal.{HoldsPlan};
 
 // The first of h minutes that place k has, h for none.
 fn start_in(plan: &[u8], h: usize, k: u8) -> usize

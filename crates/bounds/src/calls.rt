@@ -7,8 +7,8 @@ use crate::shown::Shown;
 use crate::shown::store_shown;
 use crate::types::PlanAnswer;
 use crate::types::ShownAnswer;
-use jackson::untested_schedule;
-use jackson::untested_windows;
+use jackson::unchecked_schedule;
+use jackson::unchecked_windows;
 use jackson::zeros;
 use list::types::DayList;
 use list::types::Refusal;
@@ -16,11 +16,11 @@ use list::types::Verdict;
 use narrow::refused_with;
 use narrow::types::NarrowAnswer;
 ghost use mathlib.Core.Path.{_≡_};
-ghost use Rattle.list.specs.Outcomes.{answered};
+ghost use Rattle.base.specs.Outcomes.{answered};
 ghost use Rattle.list.specs.Refusals.{verdictOf};
 ghost use Rattle.list.specs.Checks.{WellFormed};
 ghost use Rattle.bounds.specs.Calls.{planChecks, shownChecks, PlansDay, Shows, ShowsEarly, ShowsLate};
-ghost use Rattle.bounds.specs.Parts.{NarrowsAfter};
+ghost use Rattle.bounds.specs.Internal.{NarrowsAfter};
 
 // The value check, then row 11.
 fn plan_checks(list: DayList, room: usize) -> Verdict
@@ -77,8 +77,8 @@ pub fn plan_day(list: DayList, plan: &mut [u8]) -> PlanAnswer
         };
     };
     let settled = narrowed.list;
-    let settled_windows = untested_windows(settled);
-    let _filled = untested_schedule(settled_windows, plan);
+    let settled_windows = unchecked_windows(settled);
+    let _filled = unchecked_schedule(settled_windows, plan);
     PlanAnswer {
         narrowed: narrowed,
         broken: broken_in(settled, settled_windows.h as usize, plan),
@@ -104,7 +104,7 @@ fn show_plan(shown: Shown, list: DayList, k: usize, plan: &mut [u8]) -> ShownAns
         narrowed: narrowed,
         bound: store_shown(
             shown,
-            untested_windows(settled),
+            unchecked_windows(settled),
             k,
             whole_at(settled, k),
             plan,

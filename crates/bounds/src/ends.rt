@@ -1,21 +1,20 @@
 // Least ends and greatest starts.
 use jackson::mirrored;
 use jackson::types::WindowSet;
-use jackson::untested_overload;
+use jackson::unchecked_overload;
 use jackson::zeros;
 use list::types::DayList;
 use narrow::is_accepted;
 use narrow::is_whole;
 ghost use mathlib.Core.Path.{_≡_};
 ghost use Prim.Native.Nat.{_<_, _≤_};
-ghost use Rattle.jackson.specs.Windows.{windowsIn};
+ghost use Rattle.jackson.specs.Windows.{windowsIn, withD, Searchable};
 ghost use Rattle.jackson.specs.Intervals.{overloadOf};
-ghost use Rattle.narrow.specs.Searching.{accepts, withD};
-ghost use Rattle.narrow.specs.Calls.{wholeIn};
-ghost use Rattle.narrow.specs.Parts.{Searchable};
+ghost use Rattle.base.specs.Outcomes.{accepts};
+ghost use Rattle.list.specs.DayLists.{wholeIn};
 ghost use Rattle.bounds.specs.Ends.{leastEnd, greatestStart};
 ghost use Rattle.bounds.specs.Calls.{byPlace};
-ghost use Rattle.bounds.specs.Parts.{HoldsFormed};
+ghost use Rattle.bounds.specs.Internal.{HoldsFormed};
 
 // Whether the entry at place k is whole.
 pub(crate) fn whole_at(list: DayList, k: usize) -> bool
@@ -35,7 +34,7 @@ fn has_plan_by(windows: WindowSet, k: usize, e: u16) -> bool
 {
     let mut trial = windows;
     trial.d[k] = e;
-    is_accepted(untested_overload(trial))
+    is_accepted(unchecked_overload(trial))
 }
 
 // The least end of entry k. That of a pause entry is found by halving, since a wider window keeps its plans: all ends below low have no

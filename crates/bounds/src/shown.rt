@@ -2,16 +2,15 @@
 use crate::ends::least_end;
 use jackson::mirrored;
 use jackson::types::WindowSet;
-use jackson::untested_schedule;
+use jackson::unchecked_schedule;
 ghost use mathlib.Core.Path.{_≡_};
 ghost use mathlib.Core.List.{_++_};
 ghost use Prim.Native.Nat.{_≤_};
 ghost use lib.ListN.{length, drop};
-ghost use Rattle.jackson.specs.Windows.{windowsIn};
+ghost use Rattle.jackson.specs.Windows.{windowsIn, Searchable};
 ghost use Rattle.jackson.specs.Mirrors.{mirrorBytes};
-ghost use Rattle.narrow.specs.Parts.{Searchable};
 ghost use Rattle.bounds.specs.declared.shown.Shown.the-variants.{Early};
-ghost use Rattle.bounds.specs.Parts.{Stores};
+ghost use Rattle.bounds.specs.Internal.{Stores};
 
 // Which of a place's two plans is shown.
 pub(crate) enum Shown {
@@ -28,7 +27,7 @@ fn store_early(windows: WindowSet, k: usize, whole: bool, plan: &mut [u8]) -> u1
     let end = least_end(windows, k, whole);
     let mut shown = windows;
     shown.d[k] = end;
-    let _filled = untested_schedule(shown, plan);
+    let _filled = unchecked_schedule(shown, plan);
     end
 }
 

@@ -4,9 +4,9 @@
 use list::types::Refusal;
 ghost use mathlib.Core.Path.{_≡_};
 ghost use mathlib.Core.List.{[], _∷_};
-ghost use Rattle.list.specs.Outcomes.{code};
+ghost use Rattle.base.specs.Outcomes.{code};
 ghost use Rattle.list.specs.Refusals.{codeOf};
-ghost use Rattle.codes.specs.Numbers.{numbersOf};
+ghost use Rattle.codes.specs.Codes.{numbersOf};
 
 // A refusal as numbers: its number, and three values: those that it carries, 0 where there are fewer.
 pub struct RefusalCode {

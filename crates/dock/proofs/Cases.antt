@@ -7,20 +7,20 @@ use native.Mathlib.Omega.{arith}
 use borrow.Author.Tests.{le-ltb}
 use lib.ListN.{length, take, length-take}
 use lib.Seq.{take-append-seam}
-use Rattle.list.specs.Outcomes.{Outcome, answered, refused}
+use Rattle.base.specs.Outcomes.{Outcome, answered, refused}
 use Rattle.list.specs.Refusals.{codeOf, writeAnswerOf}
 use Rattle.format.specs.Writing.{storing}
 use Rattle.list.specs.declared.types.Refusal.{Refusal}
 use Rattle.list.specs.declared.types.WriteAnswer.{WriteAnswer}
 use Rattle.list.specs.declared.types.WriteAnswer.the-variants.{Written, NotWritten}
-use Rattle.list.proofs.Inversion.{answered-refused, answered-same, refused-same}
+use Rattle.base.proofs.Inversion.{answered-refused, answered-same, refused-same}
 use Rattle.format.proofs.RoundTrip.{longest, longest-reached}
-use Rattle.codes.specs.Numbers.{numbersOf}
+use Rattle.codes.specs.Codes.{numbersOf}
 use Rattle.codes.specs.declared.RefusalCode.{RefusalCode}
 use Rattle.report.specs.Reports.{refusalLine, reportOf, printed, printedOf}
 use Rattle.report.specs.Calls.{StoresText, enough, Reports, lineOf, lineEnough, StoresLine}
 use Rattle.report.proofs.FirstBytes.{same-report}
-use Rattle.dock.specs.Texts.{InputLimit, Holds, Prints}
+use Rattle.dock.specs.Calls.{InputLimit, Holds, Prints}
 
 -- The limit: more than the 963 bytes of a longest list.
 pub limit-is : (limit : ℕ) → 963 < limit → limit ≤ 964 → InputLimit limit

@@ -13,7 +13,7 @@ ghost use lib.ListN.{length};
 ghost use Rattle.list.specs.Refusals.{codeOf};
 ghost use Rattle.report.specs.Reports.{refusalLine};
 ghost use Rattle.report.specs.Calls.{enough, lineEnough};
-ghost use Rattle.dock.specs.Texts.{InputLimit, Holds, Prints};
+ghost use Rattle.dock.specs.Calls.{InputLimit, Holds, Prints};
 
 // "it takes 964 bytes at most; a longest list has 963"
 const INPUT_BYTES: usize = 964;

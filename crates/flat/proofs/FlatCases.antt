@@ -15,7 +15,7 @@ use Rattle.format.specs.EntryFields.{sealOf}
 use Rattle.format.specs.Maps.{kindOf}
 use Rattle.list.specs.declared.types.Entry.{Entry}
 use Rattle.list.specs.declared.types.DayList.{DayList}
-use Rattle.format.proofs.Stores.{sets-append}
+use Rattle.base.proofs.Stores.{sets-append}
 use Rattle.flat.specs.Flat.{flatEntry, flatEntries, flatOf, entryIn, entriesIn}
 
 -- `entryIn`, field by field

@@ -8,7 +8,7 @@ use native.Mathlib.Numerals.{add-one}
 use native.Mathlib.Omega.{arith}
 use lib.ListN.{length, getD, drop, set, length-append, drop-of-length-le}
 use lib.Seq.{drop-cons, sets, sets-eq}
-use Rattle.format.proofs.Stores.{sets-append}
+use Rattle.base.proofs.Stores.{sets-append}
 
 -- i of the numbers xs were stored from place at on, over what was there
 pub record PlacesSoFar (old : List ℕ) (at : ℕ) (xs now : List ℕ) (i : ℕ) : Type 0 where

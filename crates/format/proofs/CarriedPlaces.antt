@@ -4,7 +4,7 @@ use mathlib.Core.Path.{_≡_, refl}
 use mathlib.Core.List.{[], _∷_}
 use Prim.Native.Nat.{ℕ, _<_, _≤_}
 use native.Mathlib.Omega.{arith}
-use Rattle.list.specs.Outcomes.{code}
+use Rattle.base.specs.Outcomes.{code}
 use Rattle.format.specs.Reading.{PlaceIn}
 
 -- the length, and a place inside

@@ -7,9 +7,9 @@ use Prim.Native.Nat.{ℕ, _+_, _≤_, _<_}
 use lib.ListN.{length, getD}
 use lib.Dec.{eqb}
 use borrow.Author.Tests.{lt-ltb, le-ltb, eq-eqb, ne-eqb}
-use Rattle.list.specs.Outcomes.{code, answered, refused, andThen}
+use Rattle.base.specs.Outcomes.{code, answered, refused, andThen}
 use Rattle.list.specs.Refusals.{codeOf, verdictOf}
-use Rattle.format.specs.Numbers.{u16At, u32At}
+use Rattle.format.specs.LittleEndian.{u16At, u32At}
 use Rattle.format.specs.Maps.{rPlace, dPlace, pPlace, sizeOf, mapFields, mapAnswerOf}
 use Rattle.list.specs.Entries.{entryFault}
 use Rattle.format.specs.EntryFields.{defaultR, defaultD, sealOf, entryAt, entryOf, fieldsEntry, defaultWritten}

@@ -10,8 +10,8 @@ use native.Mathlib.Omega.{arith}
 use borrow.Author.Tests.{ltb-false, eqb-true, eqb-false, eq-eqb, not-false}
 use lib.Dec.{eqb, ltb}
 use lib.ListN.{length, getD, drop, length-append}
-use Rattle.list.specs.Outcomes.{code, answered}
-use Rattle.format.specs.Numbers.{u16At, u32At, u16Bytes, u32Bytes}
+use Rattle.base.specs.Outcomes.{code, answered}
+use Rattle.format.specs.LittleEndian.{u16At, u32At, u16Bytes, u32Bytes}
 use Rattle.format.specs.Maps.{legalMap, fieldsOf, mapOf, rPlace, dPlace, pPlace, sizeOf, mapFields}
 use Rattle.list.specs.Entries.{entryFault}
 use Rattle.format.specs.EntryFields.{defaultR, defaultD, sealOf, entryAt, entryOf, fieldsEntry, defaultWritten}
@@ -28,7 +28,7 @@ use Rattle.format.specs.declared.map.MapAnswer.the-variants.{Follow}
 use Rattle.format.proofs.Places.{p-place-small}
 use Rattle.format.proofs.FieldTrip.{past-field, u16-read, u32-read, u32-small, byte-stands, u16-stands, u32-stands}
 use Rattle.format.proofs.MapBytes.{map-form, map-back}
-use Rattle.list.proofs.Inversion.{Says, by-row, by-step, neither}
+use Rattle.base.proofs.Inversion.{Says, by-row, by-step, neither}
 use Rattle.format.proofs.CarriedPlaces.{at-end, at-place}
 use Rattle.list.proofs.Sound.{Sound, fault-says, faultless}
 use Rattle.format.proofs.FormCases.{seal-length, minute-length, entry-length}

@@ -9,7 +9,7 @@ use native.Mathlib.Omega.{arith}
 use lib.ListN.{length, getD, drop}
 use lib.Seq.{drop-cons, drop-drop, drop-at, getD-drop}
 use Rattle.list.specs.Machine.{Bytes}
-use Rattle.format.specs.Numbers.{u16At, u32At, u16Bytes, u32Bytes}
+use Rattle.format.specs.LittleEndian.{u16At, u32At, u16Bytes, u32Bytes}
 
 pub bytes-drop : (bs : List ℕ) (k : ℕ) → Bytes bs → Bytes (drop k bs)
 bytes-drop bs k h i = rw getD-drop (h (k + i))

@@ -10,7 +10,7 @@ use borrow.Author.Tests.{lt-ltb, le-ltb, ne-eqb, leb-true, leb-false}
 use lib.Dec.{leb}
 use lib.ListN.{length, getD, take, drop, length-take, length-drop}
 use lib.Seq.{take-all, getD-take, getD-drop}
-use Rattle.format.specs.Numbers.{u16At, u32At}
+use Rattle.format.specs.LittleEndian.{u16At, u32At}
 use Rattle.format.specs.Maps.{rPlace, dPlace, pPlace, sizeOf}
 use Rattle.format.specs.EntryFields.{entryAt, fieldsEntry, entryOf}
 use Rattle.list.specs.Checks.{headerFault}
@@ -18,7 +18,7 @@ use Rattle.format.specs.Reading.{entriesFrom, frameOf, countOf, bodyOf, 
 use Rattle.list.specs.declared.types.Frame.{Frame}
 use Rattle.format.specs.declared.map.Fields.{Fields}
 use Rattle.format.proofs.Places.{r-place-small, d-place-small, p-place-small}
-use Rattle.list.proofs.Inversion.{Anything, same-after}
+use Rattle.base.proofs.Inversion.{Anything, same-after}
 use Rattle.list.proofs.Sound.{Header, header-says}
 use Rattle.format.proofs.EntryTrip.{TakenEntry, entry-says}
 use Rattle.format.proofs.ListTrip.{TakenEntries, entries-say}

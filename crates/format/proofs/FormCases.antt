@@ -6,17 +6,17 @@ use mathlib.Core.List.{List, [], _∷_, _++_}
 use Prim.Native.Nat.{ℕ, _+_, _≤_}
 use native.Mathlib.Omega.{arith}
 use lib.ListN.{length, set, length-append}
-use Rattle.format.specs.Numbers.{u16Bytes, u32Bytes}
+use Rattle.format.specs.LittleEndian.{u16Bytes, u32Bytes}
 use Rattle.format.specs.Maps.{mapOf, sizeOf}
 use Rattle.format.specs.Forms.{sealed, fieldsIn, sealBytes, minuteBytes, timesBytes, entryBytes}
-use Rattle.format.specs.Parts.{Wrote}
+use Rattle.base.specs.Storing.{Wrote}
 use Rattle.list.specs.declared.types.Seal.{Seal}
 use Rattle.list.specs.declared.types.Seal.the-variants.{Missing, Number}
 use Rattle.list.specs.declared.types.Entry.{Entry}
 use Rattle.list.specs.declared.types.Frame.{Frame}
 use Rattle.format.specs.declared.map.Fields.{Fields}
 use Rattle.format.proofs.Places.{p-place-small}
-use Rattle.format.proofs.Stores.{wrote-one, wrote-then}
+use Rattle.base.proofs.Stores.{wrote-one, wrote-then}
 
 pub seal-length : (s : Seal) → length (sealBytes s) ≡ cond (sealed s) 4 0
 seal-length Missing = refl

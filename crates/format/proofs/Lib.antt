@@ -1,6 +1,5 @@
--- What the crates above may cite: the round trips, that the first 964 bytes decide how an input is read, and laws on runs of stores. The
--- rest serves this crate alone.
-mod Table
+-- What the crates above may cite: the round trips, and that the first 964 bytes decide how an input is read. The rest serves this crate
+-- alone.
 mod MapBytes
 mod Places
 mod CarriedPlaces
@@ -12,6 +11,5 @@ mod FieldTrip
 mod EntryTrip
 mod ListTrip
 mod Promised
-pub mod Stores
 pub mod RoundTrip
 pub mod FirstBytes

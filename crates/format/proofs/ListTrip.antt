@@ -9,7 +9,7 @@ use native.Mathlib.Omega.{arith}
 use lib.ListN.{length, getD, take, drop, replicate, length-append, length-drop}
 use lib.Seq.{drop-append-seam}
 use Rattle.list.specs.Machine.{Bytes}
-use Rattle.list.specs.Outcomes.{answered}
+use Rattle.base.specs.Outcomes.{answered}
 use Rattle.format.specs.EntryFields.{entryOf}
 use Rattle.format.specs.Forms.{entryBytes}
 use Rattle.list.specs.DayLists.{blank}
@@ -17,7 +17,7 @@ use Rattle.format.specs.Reading.{entriesFrom, PlaceIn}
 use Rattle.format.specs.Writing.{bytesOfEntries}
 use Rattle.list.specs.declared.types.Entry.{Entry}
 use Rattle.list.specs.declared.types.Frame.{Frame}
-use Rattle.list.proofs.Inversion.{Says, by-step}
+use Rattle.base.proofs.Inversion.{Says, by-step}
 use Rattle.list.proofs.Sound.{Sound, Every}
 use Rattle.format.proofs.FieldTrip.{bytes-drop}
 use Rattle.format.proofs.EntryTrip.{Fits, TakenEntry, entry-says, entry-reads-back}

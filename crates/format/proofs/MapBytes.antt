@@ -14,7 +14,7 @@ use Rattle.list.specs.declared.types.Kind.the-variants.{Pause, Whole}
 use Rattle.format.specs.declared.map.Fields.{Fields}
 use Rattle.format.specs.declared.map.MapAnswer.{MapAnswer}
 use Rattle.format.specs.declared.map.MapAnswer.the-variants.{Breaks, Follow}
-use Rattle.format.proofs.Table.{at}
+use Rattle.base.proofs.Table.{at}
 
 -- b is k or k + 32 for a k of the list
 among : List ℕ → ℕ → Bool

@@ -8,15 +8,15 @@ use native.Mathlib.Omega.{arith}
 use borrow.Author.Tests.{lt-ltb}
 use lib.ListN.{length, take}
 use lib.Seq.{sets, sets-eq}
-use Rattle.list.specs.Outcomes.{code, answered, refused}
+use Rattle.base.specs.Outcomes.{code, answered, refused}
 use Rattle.list.specs.Refusals.{verdictOf, writeAnswerOf}
 use Rattle.list.specs.DayLists.{SameList}
 use Rattle.list.specs.Checks.{WellFormed, checkOf}
 use Rattle.format.specs.Reading.{readOf}
-use Rattle.format.specs.Parts.{AnswersAs}
+use Rattle.format.specs.Internal.{AnswersAs}
 use Rattle.format.specs.Writing.{bytesOf, writeOf, bufferAfter}
 use Rattle.list.specs.Machine.{Bytes, Typed}
-use Rattle.format.specs.Promises.{Reads, Writes}
+use Rattle.format.specs.Calls.{Reads, Writes}
 use Rattle.list.specs.declared.types.DayList.{DayList}
 use Rattle.list.specs.declared.types.Refusal.{Refusal}
 use Rattle.list.specs.declared.types.Refusal.the-variants.{ListBufferShort}
@@ -25,7 +25,7 @@ use Rattle.list.specs.declared.types.Verdict.the-variants.{Refused}
 use Rattle.list.specs.declared.types.ReadAnswer.{ReadAnswer}
 use Rattle.list.specs.declared.types.WriteAnswer.{WriteAnswer}
 use Rattle.list.specs.declared.types.WriteAnswer.the-variants.{Written, NotWritten}
-use Rattle.list.proofs.Inversion.{by-refused}
+use Rattle.list.proofs.Verdicts.{by-refused}
 use Rattle.format.proofs.WriteCases.{list-written}
 use Rattle.format.proofs.RoundTrip.{written-reads-back, read-well-formed, read-one-form}
 

@@ -10,13 +10,13 @@ use borrow.Author.Tests.{lt-ltb, le-ltb}
 use lib.Dec.{ltb}
 use lib.ListN.{length, take, drop, set, replicate, length-take, length-drop, length-set}
 use lib.Seq.{take-all, take-suc-set, drop-drop}
-use Rattle.list.specs.Outcomes.{Code, code, Outcome, answered, refused, row, firstOf, andThen}
+use Rattle.base.specs.Outcomes.{Code, code, Outcome, answered, refused, row, firstOf, andThen}
 use Rattle.list.specs.Refusals.{codeOf, verdictOf}
 use Rattle.format.specs.EntryFields.{entryOf, entryAnswerOf}
 use Rattle.list.specs.DayLists.{blank, dayList, emptyList}
 use Rattle.list.specs.Checks.{headerFault}
 use Rattle.format.specs.Reading.{entriesFrom, frameOf, countOf, bodyOf, readOf}
-use Rattle.format.specs.Parts.{AnswersAs}
+use Rattle.format.specs.Internal.{AnswersAs}
 use Rattle.list.specs.declared.types.Entry.{Entry}
 use Rattle.list.specs.declared.types.Frame.{Frame}
 use Rattle.list.specs.declared.types.DayList.{DayList}

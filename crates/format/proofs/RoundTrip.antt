@@ -10,7 +10,7 @@ use lib.Dec.{ltb}
 use lib.ListN.{length, getD, take, drop, replicate, length-append, length-take, length-drop, length-replicate, drop-of-length-le}
 use lib.Seq.{take-append-seam, take-at}
 use Rattle.list.specs.Machine.{Bytes, Typed}
-use Rattle.list.specs.Outcomes.{Code, Outcome, answered, refused}
+use Rattle.base.specs.Outcomes.{Code, Outcome, answered, refused}
 use Rattle.list.specs.Entries.{entryFault}
 use Rattle.format.specs.Forms.{entryBytes}
 use Rattle.list.specs.DayLists.{entriesOf, blank, dayList, SameList}
@@ -23,7 +23,7 @@ use Rattle.list.specs.declared.types.Entry.{Entry}
 use Rattle.list.specs.declared.types.Frame.{Frame}
 use Rattle.list.specs.declared.types.DayList.{DayList}
 use Rattle.list.specs.declared.types.Verdict.the-variants.{Accepted}
-use Rattle.list.proofs.Inversion.{Says, by-row, by-step, Anything}
+use Rattle.base.proofs.Inversion.{Says, by-row, by-step, Anything}
 use Rattle.format.proofs.CarriedPlaces.{at-end, at-place}
 use Rattle.list.proofs.Sound.{Header, header-says, header-passes, SoundList, check-says, sound-list, well-formed}
 use Rattle.format.proofs.FieldTrip.{bytes-drop, u16-back, u16-stands, byte-stands}

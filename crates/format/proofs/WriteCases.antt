@@ -7,22 +7,22 @@ use native.Mathlib.Omega.{arith}
 use borrow.Author.Tests.{le-ltb}
 use lib.ListN.{length, getD, drop, set, length-append, length-set, length-take}
 use lib.Seq.{sets}
-use Rattle.list.specs.Outcomes.{answered}
-use Rattle.format.specs.Numbers.{u16Bytes}
+use Rattle.base.specs.Outcomes.{answered}
+use Rattle.format.specs.LittleEndian.{u16Bytes}
 use Rattle.format.specs.Maps.{sizeOf}
 use Rattle.format.specs.Forms.{fieldsIn, entryBytes}
 use Rattle.list.specs.DayLists.{entriesOf}
 use Rattle.list.specs.Checks.{WellFormed}
 use Rattle.format.specs.Writing.{bytesOfEntries, bytesOf, writeOf}
-use Rattle.format.specs.Parts.{Wrote}
+use Rattle.base.specs.Storing.{Wrote}
 use Rattle.list.specs.declared.types.Entry.{Entry}
 use Rattle.list.specs.declared.types.Frame.{Frame}
 use Rattle.list.specs.declared.types.DayList.{DayList}
 use Rattle.format.specs.declared.map.Fields.{Fields}
 use Rattle.list.proofs.Sound.{sound-list}
-use Rattle.format.proofs.Stores.{wrote-length, wrote-more, room-first, room-after}
+use Rattle.base.proofs.Stores.{wrote-length, wrote-more, room-first, room-after}
 use Rattle.format.proofs.FormCases.{entry-length, entry-short}
-use Rattle.list.proofs.Walk.{walk-next, walk-done}
+use Rattle.base.proofs.Walk.{walk-next, walk-done}
 
 -- the bytes of the entries from place i on
 abbrev pub restBytes : DayList → ℕ → List ℕ

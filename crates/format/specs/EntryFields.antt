@@ -4,9 +4,9 @@ use mathlib.Core.Bool.{Bool, true, false, cond, _&&_, _||_}
 use mathlib.Core.List.{List, [], _∷_}
 use lib.ListN.{length, getD}
 use lib.Dec.{eqb, ltb}
-use Rattle.list.specs.Outcomes.{Outcome, answered, refused, Row, row, firstOf, andThen}
+use Rattle.base.specs.Outcomes.{Outcome, answered, refused, Row, row, firstOf, andThen}
 use Rattle.list.specs.Refusals.{codeOf}
-use Rattle.format.specs.Numbers.{u16At, u32At}
+use Rattle.format.specs.LittleEndian.{u16At, u32At}
 use Rattle.list.specs.Entries.{entryFault}
 use Rattle.format.specs.Maps.{mapFields, rPlace, dPlace, pPlace, sizeOf}
 use Rattle.list.specs.declared.types.Seal.{Seal}

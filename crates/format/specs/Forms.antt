@@ -3,7 +3,7 @@ use Prim.Native.Nat.{ℕ}
 use mathlib.Core.Bool.{Bool, true, false, cond, not}
 use mathlib.Core.List.{List, [], _∷_, _++_}
 use lib.Dec.{eqb}
-use Rattle.format.specs.Numbers.{u16Bytes, u32Bytes}
+use Rattle.format.specs.LittleEndian.{u16Bytes, u32Bytes}
 use Rattle.format.specs.Maps.{mapOf}
 use Rattle.format.specs.EntryFields.{defaultR, defaultD}
 use Rattle.list.specs.declared.types.Seal.{Seal}

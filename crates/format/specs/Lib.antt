@@ -1,8 +1,8 @@
-pub mod Numbers
+pub mod LittleEndian
 pub mod Maps
 pub mod EntryFields
 pub mod Reading
 pub mod Forms
 pub mod Writing
-pub mod Promises
-pub mod Parts
+pub mod Calls
+pub mod Internal

@@ -3,7 +3,7 @@ use Prim.Native.Nat.{ℕ, _+_, _/_, _%_, _^_}
 use mathlib.Core.Bool.{Bool, true, false, cond, not, _&&_}
 use mathlib.Core.List.{[], _∷_}
 use lib.Dec.{eqb}
-use Rattle.list.specs.Outcomes.{code, Outcome, answered, refused, row, firstOf}
+use Rattle.base.specs.Outcomes.{code, Outcome, answered, refused, row, firstOf}
 use Rattle.list.specs.declared.types.Kind.{Kind}
 use Rattle.list.specs.declared.types.Kind.the-variants.{Pause, Whole}
 use Rattle.format.specs.declared.map.Fields.{Fields}

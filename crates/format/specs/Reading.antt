@@ -4,8 +4,8 @@ use mathlib.Core.Path.{_≡_}
 use mathlib.Core.List.{List, [], _∷_}
 use lib.ListN.{length, getD, drop}
 use lib.Dec.{ltb}
-use Rattle.list.specs.Outcomes.{Code, Outcome, answered, refused, row, firstOf, andThen}
-use Rattle.format.specs.Numbers.{u16At}
+use Rattle.base.specs.Outcomes.{Code, Outcome, answered, refused, row, firstOf, andThen}
+use Rattle.format.specs.LittleEndian.{u16At}
 use Rattle.format.specs.EntryFields.{entryOf}
 use Rattle.list.specs.DayLists.{dayList, emptyList}
 use Rattle.list.specs.Checks.{headerFault}

@@ -3,8 +3,8 @@ use Prim.Native.Nat.{ℕ}
 use mathlib.Core.List.{List, [], _∷_, _++_}
 use lib.ListN.{length, drop}
 use lib.Dec.{ltb}
-use Rattle.list.specs.Outcomes.{Outcome, answered, refused, row, firstOf, andThen}
-use Rattle.format.specs.Numbers.{u16Bytes}
+use Rattle.base.specs.Outcomes.{Outcome, answered, refused, row, firstOf, andThen}
+use Rattle.format.specs.LittleEndian.{u16Bytes}
 use Rattle.format.specs.Forms.{entryBytes}
 use Rattle.list.specs.DayLists.{entriesOf}
 use Rattle.list.specs.Checks.{checkOf}

@@ -2,8 +2,8 @@
 ghost use mathlib.Core.Path.{_≡_};
 ghost use Prim.Native.Nat.{_+_, _<_, _≤_};
 ghost use lib.ListN.{length};
-ghost use Rattle.format.specs.Numbers.{u16At, u32At, u16Bytes, u32Bytes};
-ghost use Rattle.format.specs.Parts.{Wrote};
+ghost use Rattle.format.specs.LittleEndian.{u16At, u32At, u16Bytes, u32Bytes};
+ghost use Rattle.base.specs.Storing.{Wrote};
 
 pub(crate) fn u16_at(s: &[u8], i: usize) -> u16
     requires { ⌜ i + 1 < length (now s) ⌝ }

@@ -19,7 +19,7 @@ ghost use mathlib.Core.Bool.{cond, _&&_};
 ghost use Prim.Native.Nat.{_+_, _<_, _≤_, _^_};
 ghost use lib.ListN.{length};
 ghost use lib.Dec.{eqb};
-ghost use Rattle.format.specs.Numbers.{u16At, u32At};
+ghost use Rattle.format.specs.LittleEndian.{u16At, u32At};
 ghost use Rattle.format.specs.Maps.{sizeOf};
 ghost use Rattle.format.specs.EntryFields.{defaultR, defaultD, sealOf, entryAt, defaultWritten, fieldsEntry, entryOf, entryAnswerOf};
 

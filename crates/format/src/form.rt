@@ -12,7 +12,7 @@ ghost use mathlib.Core.Path.{_≡_};
 ghost use Prim.Native.Nat.{_+_, _≤_};
 ghost use lib.ListN.{length};
 ghost use Rattle.format.specs.Forms.{sealed, fieldsIn, sealBytes, minuteBytes, timesBytes, entryBytes};
-ghost use Rattle.format.specs.Parts.{Wrote};
+ghost use Rattle.base.specs.Storing.{Wrote};
 
 fn has_number(seal: Seal) -> bool
     ensures { λ b. ⌜ b ≡ sealed seal ⌝ }

@@ -14,8 +14,8 @@ ghost use Prim.Native.Nat.{_≤_};
 ghost use lib.ListN.{length};
 ghost use Rattle.list.specs.DayLists.{emptyList};
 ghost use Rattle.format.specs.Reading.{frameOf, countOf, bodyOf};
-ghost use Rattle.format.specs.Parts.{AnswersAs};
-ghost use Rattle.format.specs.Promises.{Reads};
+ghost use Rattle.format.specs.Internal.{AnswersAs};
+ghost use Rattle.format.specs.Calls.{Reads};
 
 // A refusal, with the empty list beside it.
 fn refused_with(x: Refusal) -> ReadAnswer

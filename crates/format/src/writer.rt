@@ -13,7 +13,7 @@ ghost use Prim.Native.Nat.{_≤_};
 ghost use lib.ListN.{length};
 ghost use lib.Seq.{sets};
 ghost use Rattle.format.specs.Writing.{bytesOf};
-ghost use Rattle.format.specs.Promises.{Writes};
+ghost use Rattle.format.specs.Calls.{Writes};
 
 // The bytes of a list's one form.
 fn list_size(list: DayList) -> usize

@@ -4,7 +4,7 @@ use mathlib.Core.Path.{_≡_, refl, sym, ap, _∙_}
 use mathlib.Core.List.{List, [], _∷_, _++_, map}
 use Prim.Native.Nat.{ℕ, _+_}
 use lib.ListN.{length, getD, drop, length-map, List·getD-map}
-use Rattle.list.specs.Outcomes.{Outcome, answered, refused, firstOf, andThen}
+use Rattle.base.specs.Outcomes.{Outcome, answered, refused, firstOf, andThen}
 use Rattle.list.specs.Entries.{entryFault}
 use Rattle.list.specs.Checks.{headerFault, entriesFault, checkOf}
 use Rattle.list.specs.DayLists.{entriesOf, blank, SameList}
@@ -14,8 +14,7 @@ use Rattle.list.specs.declared.types.DayList.{DayList}
 use Rattle.jackson.specs.Windows.{Windows, windowsOf, plain, SameWindows}
 use Rattle.jackson.specs.Minutes.{dayStart, schedule}
 use Rattle.jackson.specs.Intervals.{overloadOf}
-use Rattle.jackson.specs.Testing.{testOf}
-use Rattle.jackson.specs.Planning.{listBeside, bufferRow, fillOf, planAfter}
+use Rattle.jackson.specs.Calls.{testOf, listBeside, bufferRow, fillOf, planAfter}
 
 -- the value check reads H, n, r, d and p only
 plain-checked : (f : Frame) (i : ℕ) (es : List Entry) → entriesFault f i es ≡ entriesFault f i (map plain es)

@@ -8,7 +8,7 @@ use native.Mathlib.Omega.{arith}
 use borrow.Author.Tests.{lt-ltb, le-ltb}
 use lib.ListN.{length, getD, set, take, drop}
 use lib.Seq.{take-at, drop-cons, set-at, append-snoc, length-front, length-take-le}
-use Rattle.list.specs.Outcomes.{answered, refused}
+use Rattle.base.specs.Outcomes.{answered, refused}
 use Rattle.list.specs.Refusals.{codeOf, verdictOf}
 use Rattle.list.specs.Checks.{checkOf}
 use Rattle.list.specs.DayLists.{emptyList}
@@ -17,19 +17,18 @@ use Rattle.list.specs.declared.types.Refusal.the-variants.{PlanBufferShort}
 use Rattle.list.specs.declared.types.Verdict.{Verdict}
 use Rattle.list.specs.declared.types.Verdict.the-variants.{Accepted, Refused}
 use Rattle.list.specs.declared.types.DayList.{DayList}
-use Rattle.list.proofs.Inversion.{by-accepted, by-refused}
-use Rattle.jackson.specs.Counting.{listOf}
+use Rattle.list.proofs.Verdicts.{by-accepted, by-refused}
+use Rattle.base.specs.Counting.{listOf}
 use Rattle.jackson.specs.Windows.{Windows, windowsOf, windowsIn}
 use Rattle.jackson.specs.Minutes.{State, stateOf, dayStart, chosen, minuteOf, later, placeAt, schedule}
 use Rattle.jackson.specs.Intervals.{overloadOf}
 use Rattle.jackson.specs.Plans.{PlanBytes}
-use Rattle.jackson.specs.Testing.{Holds, Tests, testOf}
-use Rattle.jackson.specs.Planning.{Advances, Starts, Fills, FillsWindows, listBeside, fillOf, planAfter}
-use Rattle.jackson.specs.Parts.{IsAfter}
+use Rattle.jackson.specs.Calls.{Holds, Tests, testOf, Advances, Starts, Fills, FillsWindows, listBeside, fillOf, planAfter}
+use Rattle.jackson.specs.Internal.{IsAfter}
 use Rattle.jackson.specs.declared.types.WindowSet.{WindowSet}
 use Rattle.jackson.specs.declared.types.Day.{Day}
 use Rattle.jackson.specs.declared.types.DayAnswer.{DayAnswer}
-use Rattle.jackson.proofs.Listed.{list-length}
+use Rattle.base.proofs.Listed.{list-length}
 use Rattle.jackson.proofs.Schedules.{minute-on, minute-over}
 use Rattle.jackson.proofs.ListLaws.{test-decides, fill-decides, fill-plans}
 

@@ -8,11 +8,11 @@ use native.Mathlib.Nat.{le-antisymm}
 use native.Mathlib.Decide.{decLt, ℕ-discrete}
 use borrow.Author.Tests.{leb-true, ltb-true, ltb-false, le-leb, le-ltb, lt-ltb, not-true}
 use lib.Dec.{leb, ltb}
-use Rattle.jackson.specs.Counting.{smaller}
+use Rattle.base.specs.Counting.{smaller}
 use Rattle.jackson.specs.Plans.{idle}
 use Rattle.jackson.specs.Minutes.{State, isReady, earliestDeadline, goesOn, chosen}
 use Rattle.jackson.specs.Rules.{Ready, Takes}
-use Rattle.jackson.proofs.Scans.{Best, smaller-ranks, best-cases, best-some, best-smallest}
+use Rattle.base.proofs.Scans.{Best, smaller-ranks, best-cases, best-some, best-smallest}
 
 module _ (s : State) where
   -- the algorithm's test of a place, and the rule's words for it

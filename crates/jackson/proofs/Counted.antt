@@ -5,10 +5,10 @@ use mathlib.Core.Bool.{cond, _&&_}
 use Prim.Native.Nat.{ℕ, _≤_, _<_}
 use native.Mathlib.Omega.{arith}
 use lib.Dec.{leb}
-use Rattle.jackson.specs.Counting.{sum}
+use Rattle.base.specs.Counting.{sum}
 use Rattle.jackson.specs.Windows.{Windows}
 use Rattle.jackson.specs.Intervals.{work}
-use Rattle.jackson.proofs.Sums.{between-is, between-le, between-in, sum-le, term-le}
+use Rattle.base.proofs.Sums.{between-is, between-le, between-in, sum-le, term-le}
 
 module _ (w : Windows) (a b : ℕ) where
   -- what the entry at place i adds to the work of [a, b)

@@ -7,11 +7,11 @@ use Prim.Native.Nat.{ℕ, _+_, _-_, _≤_, _<_}
 use native.Mathlib.Omega.{arith}
 use borrow.Author.Tests.{ltb-true, lt-ltb}
 use lib.Dec.{ltb}
-use Rattle.jackson.specs.Counting.{smaller, larger}
+use Rattle.base.specs.Counting.{smaller, larger}
 use Rattle.jackson.specs.Windows.{Windows}
 use Rattle.jackson.specs.Intervals.{work, Fits, Overloaded, NoOverload}
-use Rattle.jackson.proofs.Scans.{Best, smaller-ranks, larger-ranks, best-some, best-smallest, best-largest}
-use Rattle.jackson.proofs.Sums.{le-or-lt, some-term}
+use Rattle.base.proofs.Scans.{Best, smaller-ranks, larger-ranks, best-some, best-smallest, best-largest}
+use Rattle.base.proofs.Sums.{le-or-lt, some-term}
 use Rattle.jackson.proofs.Counted.{counted, counted-is, counted-le, counted-in, work-under}
 
 pub fits-none : (w : Windows) → Fits w → NoOverload w

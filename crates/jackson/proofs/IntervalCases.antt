@@ -9,13 +9,13 @@ use native.Mathlib.Omega.{arith}
 use borrow.Author.Tests.{le-leb, lt-leb, lt-ltb, le-ltb}
 use lib.Dec.{leb, ltb}
 use lib.ListN.{getD}
-use Rattle.list.specs.Outcomes.{code, answered, refused}
-use Rattle.jackson.specs.Counting.{sum, better, smaller, larger}
+use Rattle.base.specs.Outcomes.{code, answered, refused}
+use Rattle.base.specs.Counting.{sum, better, smaller, larger}
 use Rattle.jackson.specs.Windows.{Windows, columns, windowsIn}
 use Rattle.jackson.specs.Intervals.{work, isOverloaded, leftOf, leftEnd, rightOf, rightEnd, overloadOf}
 use Rattle.jackson.specs.declared.types.WindowSet.{WindowSet}
 use Rattle.jackson.proofs.ShownInterval.{right-found}
-use Rattle.jackson.proofs.ScanSteps.{unfit, first, wins, stays}
+use Rattle.jackson.proofs.ScanCases.{unfit, first, wins, stays}
 
 module _ (a b r d p : ℕ) where
   -- an entry sticks out to the left, or to the right, or is counted

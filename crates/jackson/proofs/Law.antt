@@ -3,13 +3,12 @@
 use mathlib.Core.Path.{_≡_, refl}
 use Prim.Native.Nat.{ℕ, _≤_}
 use native.Mathlib.Omega.{arith}
-use Rattle.list.specs.Outcomes.{Code, Outcome, answered, refused}
+use Rattle.base.specs.Outcomes.{Code, Outcome, answered, refused}
 use Rattle.jackson.specs.Windows.{Windows, Roomy}
-use Rattle.jackson.specs.Plans.{PlanBytes, placesIn}
+use Rattle.jackson.specs.Plans.{PlanBytes, placesIn, Plannable}
 use Rattle.jackson.specs.Intervals.{NoOverload, overloadOf}
-use Rattle.jackson.specs.Existence.{Plannable, PlanLaw}
+use Rattle.jackson.specs.Laws.{PlanLaw, ScheduleLaw}
 use Rattle.jackson.specs.Minutes.{schedule}
-use Rattle.jackson.specs.Rules.{ScheduleLaw}
 use Rattle.jackson.proofs.PlanWork.{plan-fits}
 use Rattle.jackson.proofs.Endpoints.{fits-none, none-fits}
 use Rattle.jackson.proofs.ShownInterval.{accepted-none, none-accepted, refused-shown}

@@ -6,21 +6,19 @@ use Prim.Native.Nat.{ℕ, zero, suc, _<_, _≤_}
 use native.Mathlib.Omega.{arith}
 use lib.Dec.{ltb}
 use lib.ListN.{length, getD, length-take}
-use Rattle.list.specs.Outcomes.{Code, Outcome, answered, refused, andThen}
+use Rattle.base.specs.Outcomes.{Code, Outcome, answered, refused, andThen}
 use Rattle.list.specs.Checks.{checkOf, WellFormed}
 use Rattle.list.specs.DayLists.{entriesOf, blank}
 use Rattle.list.specs.declared.types.Entry.{Entry}
 use Rattle.list.specs.declared.types.DayList.{DayList}
-use Rattle.list.proofs.Inversion.{Says, by-row}
+use Rattle.base.proofs.Inversion.{Says, by-row}
 use Rattle.list.proofs.Sound.{Sound, Every, SoundList, check-says, sound-list}
 use Rattle.jackson.specs.Windows.{windowsOf, Roomy}
-use Rattle.jackson.specs.Plans.{PlanBytes, placesIn}
+use Rattle.jackson.specs.Plans.{PlanBytes, placesIn, Plannable}
 use Rattle.jackson.specs.Intervals.{ShowsOverload, overloadOf}
-use Rattle.jackson.specs.Existence.{Plannable, PlanLaw}
+use Rattle.jackson.specs.Laws.{PlanLaw, ScheduleLaw}
 use Rattle.jackson.specs.Minutes.{schedule}
-use Rattle.jackson.specs.Rules.{ScheduleLaw}
-use Rattle.jackson.specs.Testing.{testOf, Decides}
-use Rattle.jackson.specs.Planning.{fillOf}
+use Rattle.jackson.specs.Calls.{testOf, Decides, fillOf}
 use Rattle.jackson.proofs.Law.{plan-law, schedule-law}
 
 -- what holds of every entry holds of the one at any place

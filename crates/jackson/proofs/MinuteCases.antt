@@ -9,16 +9,16 @@ use borrow.Author.Tests.{le-leb, lt-leb, lt-ltb, le-ltb, not-true, not-false}
 use lib.Dec.{leb, ltb}
 use lib.ListN.{length, getD, set, List·getD-eq-default}
 use lib.Seq.{set-out, getD-set-same, getD-set-other}
-use Rattle.jackson.specs.Counting.{same, better, smaller}
+use Rattle.base.specs.Counting.{same, better, smaller}
 use Rattle.jackson.specs.Windows.{withLeft, windowsIn}
 use Rattle.jackson.specs.Plans.{idle}
 use Rattle.jackson.specs.Minutes.{State, isReady, earliestDeadline, chosen}
-use Rattle.jackson.specs.Parts.{stateAt, IsAfter}
+use Rattle.jackson.specs.Internal.{stateAt, IsAfter}
 use Rattle.jackson.specs.declared.types.WindowSet.{WindowSet}
 use Rattle.jackson.specs.declared.types.Day.{Day}
-use Rattle.jackson.proofs.Sums.{le-or-lt, same-cases}
-use Rattle.jackson.proofs.Scans.{smaller-ranks, best-some}
-use Rattle.jackson.proofs.ScanSteps.{unfit, first, wins, stays}
+use Rattle.base.proofs.Sums.{le-or-lt, same-cases}
+use Rattle.base.proofs.Scans.{smaller-ranks, best-some}
+use Rattle.jackson.proofs.ScanCases.{unfit, first, wins, stays}
 
 module _ (t r left : ℕ) where
   pub released : r ≤ t → ltb 0 left ≡ leb r t && ltb 0 left

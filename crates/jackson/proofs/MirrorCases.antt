@@ -9,9 +9,9 @@ use lib.Dec.{ltb}
 use lib.ListN.{length, getD, set, length-set}
 use lib.Seq.{getD-set-same, getD-set-other}
 use Rattle.jackson.specs.Mirrors.{MirrorOf}
-use Rattle.jackson.specs.Parts.{MirroredSide}
+use Rattle.jackson.specs.Internal.{MirroredSide}
 use Rattle.jackson.specs.declared.types.WindowSet.{WindowSet}
-use Rattle.jackson.proofs.Sums.{le-or-lt, same-cases}
+use Rattle.base.proofs.Sums.{le-or-lt, same-cases}
 use Rattle.jackson.proofs.HeldWindows.{held}
 
 -- both sides mirrored

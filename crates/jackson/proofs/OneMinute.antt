@@ -3,11 +3,11 @@
 -- Assumes nothing.
 use Prim.Native.Nat.{ℕ, suc, _-_, _≤_, _<_}
 use native.Mathlib.Omega.{arith}
-use Rattle.jackson.specs.Counting.{same}
+use Rattle.base.specs.Counting.{same}
 use Rattle.jackson.specs.Windows.{Windows, withLeft, restFrom}
 use Rattle.jackson.specs.Intervals.{work, Fits}
 use Rattle.jackson.specs.Rules.{Ready, EarliestDeadlineFirst}
-use Rattle.jackson.proofs.Sums.{le-or-lt, same-refl, sum-lt}
+use Rattle.base.proofs.Sums.{le-or-lt, same-refl, sum-lt}
 use Rattle.jackson.proofs.Counted.{counted, counted-is, counted-le, work-under}
 
 module _ (w : Windows) (p : ℕ → ℕ) (t k : ℕ) where

@@ -8,14 +8,13 @@ use native.Mathlib.Omega.{arith}
 use borrow.Author.Tests.{eqb-true, eq-eqb, lt-ltb, le-ltb}
 use lib.Dec.{eqb, leb, ltb}
 use lib.ListN.{length, getD}
-use Rattle.jackson.specs.Counting.{same}
+use Rattle.base.specs.Counting.{same}
 use Rattle.jackson.specs.Windows.{Windows, Inside, withWindows}
 use Rattle.jackson.specs.Plans.{minutesOf, Plan, startOf, endOf, IsStart, IsEnd, idle, placesIn, PlanBytes}
 use Rattle.jackson.specs.Mirrors.{mirror, mirrorPlan, mirrorBytes}
-use Rattle.jackson.proofs.Sums.{le-or-lt, same-cases, same-ne, between-is}
-use Rattle.jackson.proofs.Sums.{sum-le, sum-lt, sum-cong, sum-zero, sum-reverse, count-between}
-use Rattle.jackson.proofs.Listed.{list-length, list-at}
-use Rattle.jackson.proofs.Searches.{First, first-below, last-within, first-last, reverse-twice}
+use Rattle.base.proofs.Sums.{le-or-lt, same-cases, same-ne, between-is, sum-le, sum-lt, sum-cong, sum-zero, sum-reverse, count-between}
+use Rattle.base.proofs.Listed.{list-length, list-at}
+use Rattle.base.proofs.Searches.{First, first-below, last-within, first-last, reverse-twice}
 
 -- Mirrors.
 

@@ -4,11 +4,11 @@ use mathlib.Core.Bool.{cond, _&&_}
 use Prim.Native.Nat.{ℕ, suc, _≤_, _<_}
 use native.Mathlib.Omega.{arith}
 use lib.Dec.{leb, ltb}
-use Rattle.jackson.specs.Counting.{sum, same}
+use Rattle.base.specs.Counting.{sum, same}
 use Rattle.jackson.specs.Windows.{Windows}
 use Rattle.jackson.specs.Plans.{Plan}
 use Rattle.jackson.specs.Intervals.{Fits}
-use Rattle.jackson.proofs.Sums.{same-cases, between-is, between-le, sum-le, sum-swap, sum-guard, sum-same-le, count-between}
+use Rattle.base.proofs.Sums.{same-cases, between-is, between-le, sum-le, sum-swap, sum-guard, sum-same-le, count-between}
 use Rattle.jackson.proofs.Counted.{work-under}
 
 module _ (w : Windows) (m : ℕ → ℕ) (plan : Plan w m) where

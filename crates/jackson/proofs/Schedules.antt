@@ -8,17 +8,17 @@ use Prim.Native.Nat.{ℕ, zero, suc, _+_, _-_, _<_, _≤_}
 use native.Mathlib.Omega.{arith}
 use borrow.Author.Tests.{lt-ltb, le-ltb}
 use lib.Dec.{ltb}
-use Rattle.jackson.specs.Counting.{same, listOf}
+use Rattle.base.specs.Counting.{same, listOf}
 use Rattle.jackson.specs.Windows.{Windows, withLeft, restFrom}
 use Rattle.jackson.specs.Plans.{Plan, PlanBytes, idle, placesIn}
 use Rattle.jackson.specs.Minutes.{State, dayStart, chosen, after, minuteOf, later, placeAt, schedule}
 use Rattle.jackson.specs.Rules.{EarliestDeadlineFirst, Takes, Follows}
 use Rattle.jackson.specs.Intervals.{Fits}
-use Rattle.jackson.proofs.Sums.{le-or-lt}
-use Rattle.jackson.proofs.Listed.{list-length, list-at}
+use Rattle.base.proofs.Sums.{le-or-lt}
+use Rattle.base.proofs.Listed.{list-length, list-at}
 use Rattle.jackson.proofs.PlanFacts.{plan-same}
 use Rattle.jackson.proofs.Choices.{chosen-takes}
-use Rattle.jackson.proofs.Runs.{rest-of-day, run-plan}
+use Rattle.jackson.proofs.RunningDays.{rest-of-day, run-plan}
 
 -- One minute.
 

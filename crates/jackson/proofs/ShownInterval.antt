@@ -6,11 +6,11 @@ use Prim.Native.Nat.{ℕ, _-_, _<_, _≤_}
 use native.Mathlib.Omega.{arith}
 use borrow.Author.Tests.{ltb-true, ltb-false, lt-ltb}
 use lib.Dec.{ltb}
-use Rattle.list.specs.Outcomes.{Code, Outcome, answered, refused}
-use Rattle.list.proofs.Inversion.{Says, by-row}
+use Rattle.base.specs.Outcomes.{Code, Outcome, answered, refused}
+use Rattle.base.proofs.Inversion.{Says, by-row}
 use Rattle.jackson.specs.Windows.{Windows}
 use Rattle.jackson.specs.Intervals.{work, Overloaded, Shown, NoOverload, ShowsOverload, isOverloaded, leftOf, leftEnd, rightOf, rightEnd, overloadOf}
-use Rattle.jackson.proofs.Scans.{smaller-ranks, larger-ranks, best-below, best-some, best-smallest, best-largest}
+use Rattle.base.proofs.Scans.{smaller-ranks, larger-ranks, best-below, best-some, best-smallest, best-largest}
 
 -- what the overload test says by its answer, and by a refusal
 abbrev Row9 : Windows → Outcome (Unit {0}) → Type 0

@@ -10,8 +10,8 @@ use Rattle.list.specs.DayLists.{blank, entriesOf, emptyList}
 use Rattle.list.specs.declared.types.Entry.{Entry}
 use Rattle.list.specs.declared.types.DayList.{DayList}
 use Rattle.jackson.specs.Windows.{windowsOf, columns}
-use Rattle.jackson.specs.Testing.{Holds}
-use Rattle.jackson.proofs.Sums.{le-or-lt, same-cases}
+use Rattle.jackson.specs.Calls.{Holds}
+use Rattle.base.proofs.Sums.{le-or-lt, same-cases}
 
 -- an array of 64 numbers holds a field of the first i entries, and 0 after them
 pub record Column (field : Entry → ℕ) (es : List Entry) (xs : List ℕ) (i : ℕ) : Type 0 where

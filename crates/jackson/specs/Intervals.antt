@@ -4,8 +4,8 @@ use mathlib.Core.Path.{_≡_}
 use mathlib.Core.Bool.{Bool, cond, _&&_}
 use mathlib.Core.List.{[], _∷_}
 use lib.Dec.{leb, ltb}
-use Rattle.list.specs.Outcomes.{Code, code, Outcome, answered, firstOf}
-use Rattle.jackson.specs.Counting.{sum, best, smaller, larger}
+use Rattle.base.specs.Outcomes.{Code, code, Outcome, answered, firstOf}
+use Rattle.base.specs.Counting.{sum, best, smaller, larger}
 use Rattle.jackson.specs.Windows.{Windows}
 
 -- "the work of [a, b) is the sum of p over entries with r at least a and d at most b"

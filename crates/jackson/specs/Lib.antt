@@ -1,11 +1,9 @@
-pub mod Counting
 pub mod Windows
 pub mod Plans
 pub mod Mirrors
 pub mod Intervals
-pub mod Existence
 pub mod Minutes
 pub mod Rules
-pub mod Testing
-pub mod Planning
-pub mod Parts
+pub mod Laws
+pub mod Calls
+pub mod Internal

@@ -3,7 +3,7 @@ use Prim.Native.Nat.{ℕ, zero, suc, _+_, _-_}
 use mathlib.Core.Bool.{Bool, cond, not, _&&_}
 use mathlib.Core.List.{List}
 use lib.Dec.{leb, ltb}
-use Rattle.jackson.specs.Counting.{same, best, smaller, listOf}
+use Rattle.base.specs.Counting.{same, best, smaller, listOf}
 use Rattle.jackson.specs.Windows.{Windows, withLeft, windowsIn}
 use Rattle.jackson.specs.Plans.{idle}
 use Rattle.jackson.specs.declared.types.Day.{Day}

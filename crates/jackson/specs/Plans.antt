@@ -5,7 +5,7 @@ use mathlib.Core.Logic.{_⊎_}
 use mathlib.Core.List.{List}
 use lib.ListN.{length, getD}
 use lib.Dec.{eqb}
-use Rattle.jackson.specs.Counting.{sum, same, firstBelow, lastBelow}
+use Rattle.base.specs.Counting.{sum, same, firstBelow, lastBelow}
 use Rattle.jackson.specs.Windows.{Windows}
 
 -- how many of the minutes below h m gives to place i
@@ -18,6 +18,10 @@ minutesOf h m i = sum h (λ t. same (m t) i)
 pub record Plan (w : Windows) (m : ℕ → ℕ) : Type 0 where
   pub exact : (i : ℕ) → i < w .n → minutesOf (w .h) m i ≡ w .p i
   pub inside : (i t : ℕ) → i < w .n → t < w .h → m t ≡ i → (w .r i ≤ t) × (t < w .d i)
+
+-- there is a plan
+abbrev pub Plannable : Windows → Type 0
+Plannable w = (m : ℕ → ℕ) × Plan w m
 
 -- The searches that find an entry's end and its start: of one without minutes the end is 0 and the start h.
 abbrev pub endOf : ℕ → (ℕ → ℕ) → ℕ → ℕ

@@ -1,12 +1,10 @@
 -- Jackson's rule as facts about the place chosen, beside the algorithm of Minutes.antt.
 use Prim.Native.Nat.{ℕ, suc, _-_, _<_, _≤_}
 use mathlib.Core.Path.{_≡_}
-use mathlib.Core.Logic.{_↔_}
-use Rattle.jackson.specs.Counting.{same}
+use Rattle.base.specs.Counting.{same}
 use Rattle.jackson.specs.Windows.{Windows, withLeft}
-use Rattle.jackson.specs.Plans.{idle, PlanBytes}
-use Rattle.jackson.specs.Existence.{Plannable}
-use Rattle.jackson.specs.Minutes.{State, dayStart, later, placeAt, schedule}
+use Rattle.jackson.specs.Plans.{idle}
+use Rattle.jackson.specs.Minutes.{State}
 
 -- the entry at place i has its r reached at minute t, and has minutes left
 pub record Ready (w : Windows) (t i : ℕ) : Type 0 where
@@ -42,9 +40,3 @@ pub record Follows (w : Windows) (t₀ : ℕ) (m : ℕ → ℕ) (left : ℕ → 
   pub start : (i : ℕ) → i < w .n → left t₀ i ≡ w .p i
   pub next : (t i : ℕ) → t₀ ≤ t → t < w .h → i < w .n → left (suc t) i ≡ left t i - same (m t) i
   pub takes : (t : ℕ) → t₀ ≤ t → t < w .h → EarliestDeadlineFirst (withLeft w (left t)) t (m t)
-
--- the law of Jackson's preemptive schedule, for at most 255 windows that have room: it is a plan exactly if there is one, and each of
--- its minutes has the place that the rule takes
-pub record ScheduleLaw (w : Windows) : Type 0 where
-  pub plan : Plannable w ↔ PlanBytes w (schedule w)
-  pub takes : (t : ℕ) → t < w .h → Takes (later t (dayStart w)) (placeAt (dayStart w) t)

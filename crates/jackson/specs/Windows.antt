@@ -1,8 +1,10 @@
 -- "A set of windows has one for each entry." The rules speak of windows by the entry's place, as functions of it.
-use Prim.Native.Nat.{ℕ, _+_, _<_, _≤_, min, max}
+use Prim.Native.Nat.{ℕ, _+_, _-_, _<_, _≤_, min, max}
 use mathlib.Core.Path.{_≡_}
+use mathlib.Core.Bool.{cond}
 use mathlib.Core.List.{List, map}
 use lib.ListN.{length, getD}
+use lib.Dec.{eqb}
 use Rattle.list.specs.DayLists.{entriesOf, blank}
 use Rattle.list.specs.declared.types.Seal.the-variants.{Missing}
 use Rattle.list.specs.declared.types.Kind.the-variants.{Pause}
@@ -52,6 +54,19 @@ pub record Roomy (w : Windows) : Type 0 where
   pub in-day : (i : ℕ) → i < w .n → 1 ≤ w .p i → w .d i ≤ w .h
   pub room : (i : ℕ) → i < w .n → 1 ≤ w .p i → w .r i + w .p i ≤ w .d i
 
+-- What the laws ask of windows: at most 255 entries, since a byte names no more, each of which needs a minute and has room in the day.
+-- The windows of a list that passes the value check have this.
+pub record Formed (w : Windows) : Type 0 where
+  pub few : w .n ≤ 255
+  pub minutes : (i : ℕ) → i < w .n → 1 ≤ w .p i
+  pub in-day : (i : ℕ) → i < w .n → w .d i ≤ w .h
+  pub room : (i : ℕ) → i < w .n → w .r i + w .p i ≤ w .d i
+
+-- arrays with windows that have room, and an entry
+pub record Searchable (s : WindowSet) (k : ℕ) : Type 0 where
+  pub formed : Formed (windowsIn s)
+  pub place : k < windowsIn s .n
+
 -- "It lies inside another if each of its r is at least, and each of its d at most, the other's."
 pub record Inside (v w : Windows) : Type 0 where
   pub r : (i : ℕ) → i < w .n → w .r i ≤ v .r i
@@ -60,6 +75,29 @@ pub record Inside (v w : Windows) : Type 0 where
 -- the same entries with other windows
 abbrev pub withWindows : Windows → (ℕ → ℕ) → (ℕ → ℕ) → Windows
 withWindows w r d = record { h = w .h; n = w .n; r = r; d = d; p = w .p }
+
+-- f, but x at place k
+abbrev pub put : ℕ → ℕ → (ℕ → ℕ) → ℕ → ℕ
+put k x f i = cond (eqb i k) x (f i)
+
+-- the windows with another r, with another d of entry k
+abbrev pub withR : Windows → ℕ → ℕ → Windows
+withR w k s = withWindows w (put k s (w .r)) (w .d)
+
+abbrev pub withD : Windows → ℕ → ℕ → Windows
+withD w k e = withWindows w (w .r) (put k e (w .d))
+
+-- the windows with [s, e) as that of entry k
+abbrev pub withWindow : Windows → ℕ → ℕ → ℕ → Windows
+withWindow w k s e = withWindows w (put k s (w .r)) (put k e (w .d))
+
+-- the windows "when its window is [s, s + p) and the others keep theirs"
+abbrev pub fixedAt : Windows → ℕ → ℕ → Windows
+fixedAt w k s = withWindow w k s (s + w .p k)
+
+-- the windows "when its window is [e - p, e) and the others keep theirs"
+abbrev pub fixedUpTo : Windows → ℕ → ℕ → Windows
+fixedUpTo w k e = withWindow w k (e - w .p k) e
 
 -- the same windows with other minutes needed: in a running day, those left
 abbrev pub withLeft : Windows → (ℕ → ℕ) → Windows

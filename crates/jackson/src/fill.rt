@@ -1,10 +1,10 @@
 // Starting a day and filling a plan buffer.
-use crate::interval::untested_overload;
+use crate::interval::unchecked_overload;
 use crate::types::Day;
 use crate::types::DayAnswer;
 use crate::types::WindowSet;
 use crate::window_set::no_windows;
-use crate::window_set::untested_windows;
+use crate::window_set::unchecked_windows;
 use list::types::DayList;
 use list::types::Refusal;
 use list::types::Verdict;
@@ -12,11 +12,11 @@ ghost use mathlib.Core.Path.{_≡_};
 ghost use mathlib.Core.List.{_++_};
 ghost use Prim.Native.Nat.{_≤_};
 ghost use lib.ListN.{length, drop};
-ghost use Rattle.jackson.specs.Counting.{listOf};
+ghost use Rattle.base.specs.Counting.{listOf};
 ghost use Rattle.jackson.specs.Windows.{windowsIn};
 ghost use Rattle.jackson.specs.Plans.{idle};
 ghost use Rattle.jackson.specs.Minutes.{stateOf, placeAt};
-ghost use Rattle.jackson.specs.Planning.{Starts, Fills, FillsWindows};
+ghost use Rattle.jackson.specs.Calls.{Starts, Fills, FillsWindows};
 
 // A day's first state.
 fn day_start(windows: WindowSet) -> Day
@@ -42,7 +42,7 @@ pub fn start_day(list: DayList) -> DayAnswer
     };
     DayAnswer {
         verdict: verdict,
-        day: day_start(untested_windows(list)),
+        day: day_start(unchecked_windows(list)),
     }
 }
 
@@ -75,7 +75,7 @@ pub fn schedule(list: DayList, plan: &mut [u8]) -> Verdict
     if plan.len() < h {
         return Verdict::Refused(Refusal::PlanBufferShort(h));
     }
-    let test = untested_overload(day.windows);
+    let test = unchecked_overload(day.windows);
     let Verdict::Accepted = test else {
         return test;
     };
@@ -84,7 +84,7 @@ pub fn schedule(list: DayList, plan: &mut [u8]) -> Verdict
 }
 
 // Fills a plan buffer with Jackson's schedule of windows, whatever they are: of the rows only 11 is tested.
-pub fn untested_schedule(windows: WindowSet, plan: &mut [u8]) -> Verdict
+pub fn unchecked_schedule(windows: WindowSet, plan: &mut [u8]) -> Verdict
     ensures { λ v. ⌜ FillsWindows (windowsIn windows) (now (plan .entry)) v (now (plan .exit)) ⌝ }
 {
     let h = windows.h as usize;

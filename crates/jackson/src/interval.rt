@@ -1,7 +1,7 @@
 // Overloaded intervals.
 use crate::types::WindowSet;
 use crate::window_set::places_held;
-use crate::window_set::untested_windows;
+use crate::window_set::unchecked_windows;
 use list::types::DayList;
 use list::types::Refusal;
 use list::types::Verdict;
@@ -11,10 +11,10 @@ ghost use Prim.Native.Nat.{_<_, _≤_};
 ghost use lib.Dec.{leb};
 ghost use lib.ListN.{getD};
 ghost use Rattle.list.specs.Refusals.{verdictOf};
-ghost use Rattle.jackson.specs.Counting.{better, smaller, larger};
+ghost use Rattle.base.specs.Counting.{better, smaller, larger};
 ghost use Rattle.jackson.specs.Windows.{columns, windowsIn};
 ghost use Rattle.jackson.specs.Intervals.{work, isOverloaded, leftOf, leftEnd, rightOf, rightEnd, overloadOf};
-ghost use Rattle.jackson.specs.Testing.{Tests};
+ghost use Rattle.jackson.specs.Calls.{Tests};
 
 // An entry's part in the work of [a, b).
 fn share(a: u16, b: u16, r: u16, d: u16, p: u16) -> u16
@@ -136,7 +136,7 @@ fn right_end(count: usize, r: &[u16; 64], d: &[u16; 64], p: &[u16; 64]) -> usize
 }
 
 // Row 9 for windows, whatever they are: the overloaded interval with the smallest b, and with it the largest a, and its work.
-pub fn untested_overload(windows: WindowSet) -> Verdict
+pub fn unchecked_overload(windows: WindowSet) -> Verdict
     ensures { λ v. ⌜ verdictOf v ≡ overloadOf (windowsIn windows) ⌝ }
 {
     let count = places_held(windows.n);
@@ -162,5 +162,5 @@ pub fn overload(list: DayList) -> Verdict
     let Verdict::Accepted = verdict else {
         return verdict;
     };
-    untested_overload(untested_windows(list))
+    unchecked_overload(unchecked_windows(list))
 }

@@ -8,12 +8,12 @@ ghost use mathlib.Core.Bool.{_&&_};
 ghost use Prim.Native.Nat.{_-_, _<_, _≤_};
 ghost use lib.Dec.{leb, ltb};
 ghost use lib.ListN.{getD};
-ghost use Rattle.jackson.specs.Counting.{better, smaller};
+ghost use Rattle.base.specs.Counting.{better, smaller};
 ghost use Rattle.jackson.specs.Windows.{windowsIn};
 ghost use Rattle.jackson.specs.Plans.{idle};
 ghost use Rattle.jackson.specs.Minutes.{isReady, earliestDeadline, chosen};
-ghost use Rattle.jackson.specs.Planning.{Advances};
-ghost use Rattle.jackson.specs.Parts.{stateAt, IsAfter};
+ghost use Rattle.jackson.specs.Calls.{Advances};
+ghost use Rattle.jackson.specs.Internal.{stateAt, IsAfter};
 
 // An entry has its r reached and minutes left.
 fn is_ready(t: u16, r: u16, left: u16) -> bool

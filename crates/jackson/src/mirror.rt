@@ -4,7 +4,7 @@ use crate::window_set::places_held;
 ghost use mathlib.Core.Path.{_≡_};
 ghost use Prim.Native.Nat.{_-_, _≤_};
 ghost use Rattle.jackson.specs.Mirrors.{MirrorOf};
-ghost use Rattle.jackson.specs.Parts.{MirroredSide};
+ghost use Rattle.jackson.specs.Internal.{MirroredSide};
 
 // The minutes from x to the day's end.
 fn minutes_after(h: u16, x: u16) -> u16

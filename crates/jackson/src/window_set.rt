@@ -5,7 +5,7 @@ ghost use mathlib.Core.Path.{_≡_};
 ghost use Prim.Native.Nat.{min};
 ghost use lib.ListN.{replicate};
 ghost use Rattle.list.specs.DayLists.{emptyList};
-ghost use Rattle.jackson.specs.Testing.{Holds};
+ghost use Rattle.jackson.specs.Calls.{Holds};
 
 // How many of n places the arrays have.
 pub fn places_held(n: u8) -> usize
@@ -35,7 +35,7 @@ pub(crate) fn no_windows() -> WindowSet
 }
 
 // The windows of a list value, which is not tested. Places from n on are 0.
-pub fn untested_windows(list: DayList) -> WindowSet
+pub fn unchecked_windows(list: DayList) -> WindowSet
     ensures { λ w. ⌜ Holds list w ⌝ }
 {
     let n = list.n;

@@ -5,7 +5,7 @@ use mathlib.Core.List.{[], _∷_}
 use Prim.Native.Nat.{ℕ, _+_, _≤_, _<_}
 use borrow.Author.Tests.{eq-eqb, ne-eqb, lt-ltb, le-ltb}
 use lib.ListN.{length, getD, drop}
-use Rattle.list.specs.Outcomes.{answered, andThen, code, refused}
+use Rattle.base.specs.Outcomes.{answered, andThen, code, refused}
 use Rattle.list.specs.Refusals.{verdictOf}
 use Rattle.list.specs.Entries.{entryFault}
 use Rattle.list.specs.DayLists.{entriesOf}
@@ -16,7 +16,7 @@ use Rattle.list.specs.declared.types.DayList.{DayList}
 use Rattle.list.specs.declared.types.Refusal.{Refusal}
 use Rattle.list.specs.declared.types.Verdict.{Verdict}
 use Rattle.list.specs.declared.types.Verdict.the-variants.{Accepted, Refused}
-use Rattle.list.proofs.Walk.{walk-next, walk-done}
+use Rattle.base.proofs.Walk.{walk-next, walk-done}
 
 -- rows 2 and 3, each from the tests that led to it
 module _ (place : ℕ) (f : Frame) (n : ℕ) where

@@ -7,14 +7,14 @@ use Prim.Native.Nat.{ℕ, _+_, _≤_}
 use native.Mathlib.Omega.{arith}
 use borrow.Author.Tests.{ltb-false, eqb-false, le-ltb, ne-eqb}
 use lib.Dec.{eqb, ltb}
-use Rattle.list.specs.Outcomes.{Code, code, answered}
+use Rattle.base.specs.Outcomes.{Code, code, answered}
 use Rattle.list.specs.Entries.{entryFault}
 use Rattle.list.specs.DayLists.{entriesOf}
 use Rattle.list.specs.Checks.{headerFault, entriesFault, checkOf, WellFormed}
 use Rattle.list.specs.declared.types.Entry.{Entry}
 use Rattle.list.specs.declared.types.Frame.{Frame}
 use Rattle.list.specs.declared.types.DayList.{DayList}
-use Rattle.list.proofs.Inversion.{Says, by-row, by-step, Anything, neither}
+use Rattle.base.proofs.Inversion.{Says, by-row, by-step, Anything, neither}
 
 -- what rows 2 and 3 leave
 pub record Header (f : Frame) (n : ℕ) : Type 0 where

@@ -4,7 +4,7 @@ use mathlib.Core.Path.{_≡_}
 use mathlib.Core.Bool.{_||_}
 use mathlib.Core.List.{List, [], _∷_}
 use lib.Dec.{eqb, ltb}
-use Rattle.list.specs.Outcomes.{Outcome, answered, Row, row, firstOf, andThen}
+use Rattle.base.specs.Outcomes.{Outcome, answered, Row, row, firstOf, andThen}
 use Rattle.list.specs.Entries.{entryFault}
 use Rattle.list.specs.DayLists.{entriesOf}
 use Rattle.list.specs.declared.types.Entry.{Entry}

@@ -1,10 +1,12 @@
 -- List values: what counts in one, and what stands where nothing counts.
-use Prim.Native.Nat.{_-_}
+use Prim.Native.Nat.{ℕ, _-_}
 use mathlib.Core.Path.{_≡_}
+use mathlib.Core.Bool.{Bool, true, false}
 use mathlib.Core.List.{List, [], _++_}
-use lib.ListN.{length, take, replicate}
+use lib.ListN.{length, take, replicate, getD}
 use Rattle.list.specs.declared.types.Seal.the-variants.{Missing}
-use Rattle.list.specs.declared.types.Kind.the-variants.{Pause}
+use Rattle.list.specs.declared.types.Kind.{Kind}
+use Rattle.list.specs.declared.types.Kind.the-variants.{Pause, Whole}
 use Rattle.list.specs.declared.types.Entry.{Entry}
 use Rattle.list.specs.declared.types.Frame.{Frame}
 use Rattle.list.specs.declared.types.DayList.{DayList}
@@ -16,6 +18,15 @@ entriesOf l = take (l .n) (l .entries)
 -- what stands at every place from n on in a list that is answered
 abbrev pub blank : Entry
 blank = record { serial = 0; seal = Missing; r = 0; d = 0; p = 0; kind = Pause }
+
+-- "the entry is whole (unpausable)"
+abbrev pub isWhole : Kind → Bool
+isWhole Pause = false
+isWhole Whole = true
+
+-- whether the entry at a place of the list is whole
+abbrev pub wholeIn : DayList → ℕ → Bool
+wholeIn l i = isWhole (getD (entriesOf l) i blank .kind)
 
 -- the list value with these entries
 abbrev pub dayList : Frame → List Entry → DayList

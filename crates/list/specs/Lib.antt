@@ -1,4 +1,3 @@
-pub mod Outcomes
 pub mod Refusals
 pub mod Entries
 pub mod DayLists

@@ -1,7 +1,7 @@
 -- The number and the carried values of each case of an answer, as "Where a list is turned back" has them.
 use Prim.Native.Nat.{ℕ}
 use mathlib.Core.List.{[], _∷_}
-use Rattle.list.specs.Outcomes.{Code, code, Outcome, answered, refused}
+use Rattle.base.specs.Outcomes.{Code, code, Outcome, answered, refused}
 use Rattle.list.specs.declared.types.Refusal.{Refusal}
 use Rattle.list.specs.declared.types.Refusal.the-variants.{BytesMissing, BadDayLength, TooManyEntries, BadMapByte, DefaultWritten, NoMinutes, BadWindow, BytesLeftOver, Overloaded, NoPlace, PlanBufferShort, ListBufferShort, UnknownPlace}
 use Rattle.list.specs.declared.types.Verdict.{Verdict}

@@ -7,15 +7,15 @@ use Prim.Native.Nat.{ℕ, zero, suc, _+_, _<_}
 use native.Mathlib.Omega.{arith}
 use lib.ListN.{length, getD, List·getD-map}
 use lib.Seq.{take-append-seam}
-use Rattle.list.specs.Outcomes.{Outcome, answered, andThen}
-use Rattle.list.specs.DayLists.{entriesOf, blank, dayList, SameList}
+use Rattle.base.specs.Outcomes.{Outcome, answered, andThen}
+use Rattle.list.specs.DayLists.{entriesOf, blank, dayList, SameList, isWhole, wholeIn}
 use Rattle.list.specs.declared.types.Entry.{Entry}
 use Rattle.list.specs.declared.types.DayList.{DayList}
 use Rattle.jackson.specs.Windows.{Windows, plain, SameWindows}
 use Rattle.jackson.specs.Intervals.{overloadOf}
 use Rattle.jackson.proofs.Alike.{alike-windows, alike-checked}
 use Rattle.narrow.specs.Rounds.{Narrowed, unmoved, round, narrowing}
-use Rattle.narrow.specs.Calls.{isWhole, wholeIn, bare, SameTimes, entryWith, entriesWith, listWith, settleOf, roundOf, listed}
+use Rattle.narrow.specs.Calls.{bare, SameTimes, entryWith, entriesWith, listWith, settleOf, roundOf, listed}
 
 -- lists that are equal have the same numbers and kinds
 pub same-times : {a b : DayList} → SameList a b → SameTimes a b

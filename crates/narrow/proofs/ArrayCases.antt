@@ -6,11 +6,10 @@ use Prim.Native.Nat.{ℕ, _+_, _<_, min}
 use borrow.Author.Tests.{eq-eqb, ne-eqb}
 use lib.ListN.{length, getD, set}
 use lib.Seq.{getD-set-same, getD-set-other}
-use Rattle.jackson.specs.Windows.{columns, windowsIn}
+use Rattle.jackson.specs.Windows.{columns, windowsIn, put, withR, withD, fixedAt}
 use Rattle.jackson.specs.declared.types.WindowSet.{WindowSet}
-use Rattle.jackson.proofs.Sums.{same-cases}
+use Rattle.base.proofs.Sums.{same-cases}
 use Rattle.jackson.proofs.HeldWindows.{held}
-use Rattle.narrow.specs.Searching.{put, withR, withD, fixedAt}
 
 -- an array in which one number was stored
 pub set-put : (xs : List ℕ) (k x : ℕ) → k < length xs → (i : ℕ) → getD (set xs k x) i 0 ≡ put k x (λ j. getD xs j 0) i

@@ -6,29 +6,30 @@ use Prim.Native.Nat.{ℕ, suc, _+_, _-_, _<_, _≤_}
 use native.Mathlib.Omega.{arith}
 use lib.ListN.{length}
 use lib.Seq.{length-take-le}
-use Rattle.list.specs.Outcomes.{Outcome, answered, refused, andThen}
+use Rattle.base.specs.Outcomes.{Outcome, answered, refused, andThen}
 use Rattle.list.specs.Refusals.{codeOf, verdictOf, outcomeOf}
-use Rattle.list.specs.DayLists.{emptyList}
+use Rattle.list.specs.DayLists.{emptyList, wholeIn}
 use Rattle.list.specs.Checks.{checkOf, WellFormed}
 use Rattle.list.specs.declared.types.DayList.{DayList}
 use Rattle.list.specs.declared.types.Refusal.{Refusal}
 use Rattle.list.specs.declared.types.Verdict.{Verdict}
 use Rattle.list.specs.declared.types.Verdict.the-variants.{Accepted, Refused}
 use Rattle.list.proofs.Sound.{SoundList, sound-list}
-use Rattle.list.proofs.Inversion.{answered-refused, refused-same, by-accepted, by-refused}
-use Rattle.jackson.specs.Windows.{Windows, windowsOf, windowsIn}
+use Rattle.base.proofs.Inversion.{answered-refused, refused-same}
+use Rattle.list.proofs.Verdicts.{by-accepted, by-refused}
+use Rattle.jackson.specs.Windows.{Windows, windowsOf, windowsIn, Formed}
 use Rattle.jackson.specs.Intervals.{overloadOf}
-use Rattle.jackson.specs.Testing.{Holds}
+use Rattle.jackson.specs.Calls.{Holds}
 use Rattle.jackson.specs.declared.types.WindowSet.{WindowSet}
-use Rattle.jackson.proofs.Sums.{sum-most}
+use Rattle.base.proofs.Sums.{sum-most}
 use Rattle.jackson.proofs.ListLaws.{list-roomy, list-few, list-minutes}
 use Rattle.narrow.specs.Rounds.{Narrowed, unmoved, round, rounds, narrowing, slack}
-use Rattle.narrow.specs.Laws.{Formed, RoundLaw, NarrowLaw}
-use Rattle.narrow.specs.Calls.{wholeIn, listWith, settleOf, roundOf, listed, AnswersAs, HoldsAnswer, Settles, MakesRound}
-use Rattle.narrow.specs.Parts.{stateOf, narrowedOf, Countable}
+use Rattle.narrow.specs.Laws.{RoundLaw, NarrowLaw}
+use Rattle.narrow.specs.Calls.{listWith, settleOf, roundOf, listed, AnswersAs, HoldsAnswer, Settles, MakesRound}
+use Rattle.narrow.specs.Internal.{stateOf, narrowedOf, Countable}
 use Rattle.narrow.specs.declared.types.NarrowAnswer.{NarrowAnswer}
 use Rattle.narrow.specs.declared.rounds.VisitAnswer.{VisitAnswer}
-use Rattle.narrow.proofs.Keeping.{Keeps}
+use Rattle.narrow.proofs.StepsKeep.{Keeps}
 use Rattle.narrow.proofs.Costs.{round-cost, rounds-cost}
 use Rattle.narrow.proofs.NarrowLaws.{round-law, narrow-law}
 use Rattle.narrow.proofs.OverloadPlanner.{overload-planner}

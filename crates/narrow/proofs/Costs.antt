@@ -6,17 +6,16 @@ use Prim.Native.Nat.{ℕ, zero, suc, _+_, _-_, _<_, _≤_}
 use native.Mathlib.Omega.{arith}
 use borrow.Author.Tests.{eq-eqb}
 use lib.Dec.{eqb}
-use Rattle.list.specs.Outcomes.{Code, Outcome, answered, refused, andThen}
-use Rattle.list.proofs.Inversion.{Says, by-step}
-use Rattle.jackson.specs.Windows.{Windows}
-use Rattle.jackson.proofs.Sums.{sum-le, sum-add, term-le}
+use Rattle.base.specs.Outcomes.{Code, Outcome, answered, refused, andThen}
+use Rattle.base.proofs.Inversion.{Says, by-step}
+use Rattle.jackson.specs.Windows.{Windows, Formed}
+use Rattle.base.proofs.Sums.{sum-le, sum-add, term-le}
 use Rattle.narrow.specs.Searching.{Test}
 use Rattle.narrow.specs.Settling.{minutesCut}
-use Rattle.narrow.specs.Rounds.{Side, earliest, latest, step, Narrowed, moved, movesOf, counted, narrowSide, visit, visits, round}
-use Rattle.narrow.specs.Rounds.{rounds, slack}
-use Rattle.narrow.specs.Laws.{Formed, WholeRefused}
+use Rattle.narrow.specs.Rounds.{Side, earliest, latest, step, Narrowed, moved, movesOf, counted, narrowSide, visit, visits, round, rounds, slack}
+use Rattle.narrow.specs.Laws.{WholeRefused}
 use Rattle.narrow.proofs.Puts.{place-cases}
-use Rattle.narrow.proofs.Keeping.{Keeps, keeps-same, keeps-n, keeps-p, keeps-trans, RefusedAt, step-says}
+use Rattle.narrow.proofs.StepsKeep.{Keeps, keeps-same, keeps-n, keeps-p, keeps-trans, RefusedAt, step-says}
 
 -- from s to v: windows are kept, and each move takes one of the minutes that can be cut and is one of the minutes cut
 pub record Costs (whole : ℕ → Bool) (s v : Narrowed) : Type 0 where

@@ -8,20 +8,17 @@ use Prim.Native.Nat.{ℕ, _+_, _-_, _<_, _≤_}
 use native.Mathlib.Omega.{arith}
 use borrow.Author.Tests.{eqb-true, eqb-false}
 use lib.Dec.{eqb}
-use Rattle.list.specs.Outcomes.{code, Outcome, answered, refused, andThen}
-use Rattle.list.proofs.Inversion.{Says, by-row}
-use Rattle.jackson.specs.Windows.{Windows}
-use Rattle.jackson.specs.Existence.{Plannable}
+use Rattle.base.specs.Outcomes.{code, Outcome, answered, refused, andThen, accepts}
+use Rattle.base.proofs.Inversion.{Says, by-row}
+use Rattle.jackson.specs.Windows.{Windows, fixedAt, fixedUpTo, Formed}
+use Rattle.jackson.specs.Plans.{Plannable}
 use Rattle.jackson.specs.Mirrors.{mirror}
-use Rattle.jackson.proofs.Sums.{le-or-lt}
-use Rattle.jackson.proofs.Searches.{First, first-below}
-use Rattle.narrow.specs.Searching.{Test, accepts, fixedAt, fixedUpTo, trials, failedStarts, leastStart, greatestEnd}
-use Rattle.narrow.specs.Searching.{IsLeastStart, NoStart, IsGreatestEnd, NoEnd, SearchLaw}
-use Rattle.narrow.specs.Laws.{Formed}
+use Rattle.base.proofs.Sums.{le-or-lt}
+use Rattle.base.proofs.Searches.{First, first-below}
+use Rattle.narrow.specs.Searching.{Test, trials, failedStarts, leastStart, greatestEnd, IsLeastStart, NoStart, IsGreatestEnd, NoEnd, SearchLaw}
 use Rattle.narrow.proofs.Planners.{Planner}
 use Rattle.narrow.proofs.Puts.{fixed-formed, up-to-formed}
-use Rattle.narrow.proofs.MirrorSearches.{plannable-mirror, mirror-plannable, formed-mirror, mirror-r, mirror-d}
-use Rattle.narrow.proofs.MirrorSearches.{fixed-at-mirror, end-by-mirror}
+use Rattle.narrow.proofs.MirrorSearches.{plannable-mirror, mirror-plannable, formed-mirror, mirror-r, mirror-d, fixed-at-mirror, end-by-mirror}
 
 -- Outcomes of a search.
 

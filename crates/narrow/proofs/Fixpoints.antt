@@ -4,16 +4,15 @@ use mathlib.Core.Path.{_≡_, refl, sym, ap, _∙_, fun-ext}
 use mathlib.Core.Bool.{Bool, true, false, cond, false≢true}
 use Prim.Native.Nat.{ℕ, zero, suc, _<_, _≤_}
 use native.Mathlib.Omega.{arith}
-use Rattle.list.specs.Outcomes.{Outcome, answered, refused, andThen}
-use Rattle.list.proofs.Inversion.{Says, by-step, Anything}
-use Rattle.jackson.specs.Windows.{Windows, withWindows}
-use Rattle.jackson.specs.Existence.{Plannable}
-use Rattle.jackson.proofs.Sums.{le-or-lt, below-suc}
-use Rattle.narrow.specs.Searching.{Test, withR, withD, withWindow, leastStart, greatestEnd}
+use Rattle.base.specs.Outcomes.{Outcome, answered, refused, andThen}
+use Rattle.base.proofs.Inversion.{Says, by-step, Anything}
+use Rattle.jackson.specs.Windows.{Windows, withWindows, withR, withD, withWindow, Formed}
+use Rattle.jackson.specs.Plans.{Plannable}
+use Rattle.base.proofs.Sums.{le-or-lt, below-suc}
+use Rattle.narrow.specs.Searching.{Test, leastStart, greatestEnd}
 use Rattle.narrow.specs.Settling.{Settled, SettledInside, Widest}
 use Rattle.narrow.specs.Rounds.{Side, earliest, latest, step, Narrowed, moved, movesOf, counted, narrowSide, visit, visits, round, rounds, slack}
 use Rattle.narrow.specs.StepLists.{NothingLeft}
-use Rattle.narrow.specs.Laws.{Formed}
 use Rattle.narrow.proofs.Planners.{Planner}
 use Rattle.narrow.proofs.RoundsEnd.{rounds-by}
 use Rattle.narrow.proofs.Puts.{place-cases, put-same, put-back, with-r, with-d}

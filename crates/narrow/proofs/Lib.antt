@@ -4,7 +4,7 @@ pub mod OverloadPlanner
 -- Windows with one value changed, the mirror, what steps keep, what moves cost, that rounds end, and single rounds.
 pub mod Puts
 pub mod MirrorSearches
-pub mod Keeping
+pub mod StepsKeep
 pub mod Costs
 mod RoundsEnd
 mod SingleRounds

@@ -7,16 +7,16 @@ use native.Mathlib.Numerals.{add-one}
 use native.Mathlib.Omega.{arith}
 use lib.ListN.{length, getD, take, drop, set, replicate, length-take, length-set, List·getD-eq-default}
 use lib.Seq.{length-take-le, take-suc, take-suc-set}
-use Rattle.list.specs.DayLists.{entriesOf, blank}
+use Rattle.list.specs.DayLists.{entriesOf, blank, isWhole, wholeIn}
 use Rattle.list.specs.Checks.{WellFormed}
 use Rattle.list.specs.declared.types.Entry.{Entry}
 use Rattle.list.specs.declared.types.DayList.{DayList}
 use Rattle.list.proofs.Sound.{Sound, Every, sound-list, well-formed}
 use Rattle.list.proofs.Filling.{blank-after, filled-list}
 use Rattle.jackson.specs.Windows.{Windows, windowsOf}
-use Rattle.jackson.proofs.Sums.{le-or-lt}
-use Rattle.narrow.specs.Calls.{isWhole, wholeIn, entryWith, entriesWith, listWith}
-use Rattle.narrow.proofs.Keeping.{Keeps, keeps-h, keeps-n, keeps-p}
+use Rattle.base.proofs.Sums.{le-or-lt}
+use Rattle.narrow.specs.Calls.{entryWith, entriesWith, listWith}
+use Rattle.narrow.proofs.StepsKeep.{Keeps, keeps-h, keeps-n, keeps-p}
 use Rattle.narrow.proofs.Alike.{with-length, listed-entries, listed-entry, listed-count}
 
 module _ (w : Windows) where

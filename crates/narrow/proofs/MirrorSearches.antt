@@ -7,15 +7,14 @@ use Prim.Native.Nat.{ℕ, _+_, _-_, _<_, _≤_}
 use native.Mathlib.Omega.{arith}
 use borrow.Author.Tests.{lt-ltb}
 use lib.Dec.{eqb, ltb}
-use Rattle.list.specs.Outcomes.{Outcome, answered, refused, andThen, row, firstOf}
-use Rattle.jackson.specs.Windows.{Windows, withWindows}
-use Rattle.jackson.specs.Existence.{Plannable}
+use Rattle.base.specs.Outcomes.{Outcome, answered, refused, andThen, row, firstOf, accepts}
+use Rattle.jackson.specs.Windows.{Windows, withWindows, put, withR, withD, withWindow, fixedAt, fixedUpTo, Formed}
+use Rattle.jackson.specs.Plans.{Plannable}
 use Rattle.jackson.specs.Mirrors.{mirror, mirrorPlan}
 use Rattle.jackson.proofs.PlanFacts.{mirror-plan, mirror-mirror}
-use Rattle.jackson.proofs.Searches.{first-cong}
-use Rattle.narrow.specs.Searching.{Test, accepts, put, withR, withD, withWindow, fixedAt, fixedUpTo, trials, failedStarts, failedEnds, leastStart, greatestEnd}
+use Rattle.base.proofs.Searches.{first-cong}
+use Rattle.narrow.specs.Searching.{Test, trials, failedStarts, failedEnds, leastStart, greatestEnd}
 use Rattle.narrow.specs.Rounds.{earliest, latest, step}
-use Rattle.narrow.specs.Laws.{Formed}
 use Rattle.narrow.proofs.Planners.{Planner}
 use Rattle.narrow.proofs.Puts.{place-cases, with-r, with-d, up-to-formed}
 

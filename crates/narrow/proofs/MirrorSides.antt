@@ -5,17 +5,16 @@ use mathlib.Core.Bool.{cond}
 use Prim.Native.Nat.{ℕ, _+_, _-_, _<_, _≤_}
 use native.Mathlib.Omega.{arith}
 use borrow.Author.Tests.{eq-eqb, ne-eqb}
-use Rattle.list.specs.Outcomes.{Outcome, answered, refused, andThen}
-use Rattle.list.proofs.Inversion.{Says}
-use Rattle.jackson.specs.Windows.{Windows}
+use Rattle.base.specs.Outcomes.{Outcome, answered, refused, andThen}
+use Rattle.base.proofs.Inversion.{Says}
+use Rattle.jackson.specs.Windows.{Windows, Formed}
 use Rattle.jackson.specs.Mirrors.{mirror}
 use Rattle.narrow.specs.Searching.{Test}
 use Rattle.narrow.specs.Rounds.{earliest, latest, step, Narrowed, moved, movesOf, counted, narrowSide}
-use Rattle.narrow.specs.Laws.{Formed}
 use Rattle.narrow.proofs.Planners.{Planner}
 use Rattle.narrow.proofs.Puts.{place-cases}
 use Rattle.narrow.proofs.MirrorSearches.{formed-mirror, mirror-back, mirror-r, mirror-d, planner-in-mirror, step-mirror}
-use Rattle.narrow.proofs.Keeping.{Keeps, keeps-h, keeps-n, RefusedAt, step-says}
+use Rattle.narrow.proofs.StepsKeep.{Keeps, keeps-h, keeps-n, RefusedAt, step-says}
 
 -- the windows mirrored, and the moves as they are
 abbrev pub mirrorState : Narrowed → Narrowed

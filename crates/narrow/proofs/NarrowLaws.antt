@@ -6,18 +6,18 @@ use mathlib.Core.Bool.{Bool, true}
 use mathlib.Core.List.{List, [], _∷_}
 use Prim.Native.Nat.{ℕ, suc, _<_, _≤_}
 use native.Mathlib.Omega.{arith}
-use Rattle.list.specs.Outcomes.{Code, code, Outcome, answered, refused, andThen}
-use Rattle.list.proofs.Inversion.{Says, Anything}
-use Rattle.jackson.specs.Windows.{Windows, withWindows}
-use Rattle.jackson.specs.Existence.{Plannable}
+use Rattle.base.specs.Outcomes.{Code, code, Outcome, answered, refused, andThen}
+use Rattle.base.proofs.Inversion.{Says, Anything}
+use Rattle.jackson.specs.Windows.{Windows, withWindows, Formed}
+use Rattle.jackson.specs.Plans.{Plannable}
 use Rattle.narrow.specs.Searching.{Test, SearchLaw}
 use Rattle.narrow.specs.Settling.{SettledInside, NoneSettled, Widest, minutesCut}
 use Rattle.narrow.specs.Rounds.{Narrowed, unmoved, round, rounds, slack, narrowing}
 use Rattle.narrow.specs.StepLists.{Step, NamesWhole, stepsLeave, someRefused, NothingLeft, Completes}
 use Rattle.narrow.specs.RoundsByPlans.{RoundsGive, roundsSteps}
-use Rattle.narrow.specs.Laws.{Formed, RoomInside, Reason, FromSteps, RoundLaw, NarrowLaw}
+use Rattle.narrow.specs.Laws.{RoomInside, Reason, FromSteps, RoundLaw, NarrowLaw}
 use Rattle.narrow.proofs.Planners.{Planner}
-use Rattle.narrow.proofs.Keeping.{Keeps, formed-inside, keeps-n, keeps-p}
+use Rattle.narrow.proofs.StepsKeep.{Keeps, formed-inside, keeps-n, keeps-p}
 use Rattle.narrow.proofs.Costs.{CostsOr, round-cost, round-refused, rounds-says}
 use Rattle.narrow.proofs.Exact.{search-law}
 use Rattle.narrow.proofs.SettledSteps.{Narrows, NarrowsOr, plannable-widen, round-narrows, rounds-narrow, steps-narrow, steps-none}

@@ -1,9 +1,8 @@
 -- The overload test is a planner's test: the one place where narrowing cites the law that a plan exists exactly without overload.
 -- Assumes nothing.
-use Rattle.jackson.specs.Windows.{Windows, Roomy}
+use Rattle.jackson.specs.Windows.{Windows, Roomy, Formed}
 use Rattle.jackson.specs.Intervals.{overloadOf}
 use Rattle.jackson.proofs.Law.{plan-law}
-use Rattle.narrow.specs.Laws.{Formed}
 use Rattle.narrow.proofs.Planners.{Planner}
 
 pub formed-roomy : (w : Windows) → Formed w → Roomy w

@@ -2,12 +2,11 @@
 -- Assumes nothing.
 use mathlib.Core.Path.{_≡_}
 use mathlib.Core.Logic.{_↔_}
-use Rattle.list.specs.Outcomes.{Code, answered, refused}
-use Rattle.jackson.specs.Windows.{Windows}
+use Rattle.base.specs.Outcomes.{Code, answered, refused}
+use Rattle.jackson.specs.Windows.{Windows, Formed}
 use Rattle.jackson.specs.Intervals.{ShowsOverload}
-use Rattle.jackson.specs.Existence.{Plannable}
+use Rattle.jackson.specs.Plans.{Plannable}
 use Rattle.narrow.specs.Searching.{Test}
-use Rattle.narrow.specs.Laws.{Formed}
 
 -- a test that accepts windows with room exactly when a plan exists, and else shows the interval of row 9
 pub record Planner (test : Test) : Type 0 where

@@ -6,12 +6,10 @@ use Prim.Native.Nat.{ℕ, _+_, _-_, _<_, _≤_}
 use native.Mathlib.Omega.{arith}
 use borrow.Author.Tests.{eqb-true, eqb-false, eq-eqb, ne-eqb}
 use lib.Dec.{eqb}
-use Rattle.jackson.specs.Windows.{Windows, Inside, withWindows}
+use Rattle.jackson.specs.Windows.{Windows, Inside, withWindows, put, withR, withD, withWindow, fixedAt, fixedUpTo, Formed}
 use Rattle.jackson.specs.Plans.{Plan}
 use Rattle.jackson.proofs.PlanFacts.{other-windows, filled}
-use Rattle.narrow.specs.Searching.{put, withR, withD, withWindow, fixedAt, fixedUpTo}
 use Rattle.narrow.specs.Settling.{Consecutive}
-use Rattle.narrow.specs.Laws.{Formed}
 
 -- a place is k or another; for what depends on several functions put at k
 pub place-cases : (P : Bool → Type 0) (i k : ℕ) → (i ≡ k → P true) → ((i ≡ k → ⊥) → P false) → P (eqb i k)

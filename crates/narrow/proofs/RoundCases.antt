@@ -5,18 +5,18 @@ use Prim.Native.Nat.{ℕ, _+_, _<_, _≤_, min}
 use native.Mathlib.Omega.{arith}
 use borrow.Author.Tests.{eq-eqb, ne-eqb}
 use lib.ListN.{length, getD, set}
-use Rattle.list.specs.Outcomes.{Code, answered, refused}
+use Rattle.base.specs.Outcomes.{Code, answered, refused}
 use Rattle.list.specs.Refusals.{outcomeOf}
 use Rattle.list.specs.declared.types.Verdict.{Verdict}
 use Rattle.list.specs.declared.types.Verdict.the-variants.{Accepted, Refused}
-use Rattle.jackson.specs.Windows.{Windows, columns, windowsIn}
+use Rattle.jackson.specs.Windows.{Windows, columns, windowsIn, withR, Searchable}
 use Rattle.jackson.specs.Mirrors.{mirror}
 use Rattle.jackson.specs.Intervals.{overloadOf}
 use Rattle.jackson.specs.declared.types.WindowSet.{WindowSet}
-use Rattle.jackson.proofs.Sums.{same-cases}
-use Rattle.narrow.specs.Searching.{Test, withR, leastStart}
+use Rattle.base.proofs.Sums.{same-cases}
+use Rattle.narrow.specs.Searching.{Test, leastStart}
 use Rattle.narrow.specs.Rounds.{earliest, latest, Narrowed, moved, movesOf, narrowSide}
-use Rattle.narrow.specs.Parts.{stateOf, narrowedOf, Searchable}
+use Rattle.narrow.specs.Internal.{stateOf, narrowedOf}
 use Rattle.narrow.specs.declared.rounds.VisitAnswer.{VisitAnswer}
 use Rattle.narrow.proofs.OverloadPlanner.{overload-planner}
 use Rattle.narrow.proofs.Puts.{put-same}

@@ -5,17 +5,15 @@ use mathlib.Core.Bool.{Bool, true, false, cond, not, _||_, false≢true}
 use mathlib.Core.List.{List, [], _∷_, _++_}
 use Prim.Native.Nat.{ℕ, zero, suc, _<_, _≤_}
 use native.Mathlib.Omega.{arith}
-use Rattle.list.specs.Outcomes.{Code, Outcome, answered, refused, andThen}
-use Rattle.list.proofs.Inversion.{Says, answered-same, refused-same, answered-refused}
-use Rattle.jackson.specs.Windows.{Windows}
-use Rattle.narrow.specs.Searching.{Test, accepts, withR, withD, leastStart, greatestEnd, IsLeastStart, NoStart, IsGreatestEnd, NoEnd}
+use Rattle.base.specs.Outcomes.{Code, Outcome, answered, refused, andThen, accepts}
+use Rattle.base.proofs.Inversion.{Says, answered-same, refused-same, answered-refused}
+use Rattle.jackson.specs.Windows.{Windows, withR, withD, Formed}
+use Rattle.narrow.specs.Searching.{Test, leastStart, greatestEnd, IsLeastStart, NoStart, IsGreatestEnd, NoEnd}
 use Rattle.narrow.specs.Rounds.{Side, earliest, latest, step, Narrowed, counted, narrowSide, visit, visits, round, rounds, slack}
 use Rattle.narrow.specs.StepLists.{Step, NamesWhole, stepsLeave, someRefused}
-use Rattle.narrow.specs.RoundsByPlans.{StepGives, start, no-start, end, no-end, StepsGive, done, found, none, visitSteps, roundSteps, RoundGives}
-use Rattle.narrow.specs.RoundsByPlans.{RoundsGive, last, next, stopped, roundsSteps}
-use Rattle.narrow.specs.Laws.{Formed}
+use Rattle.narrow.specs.RoundsByPlans.{StepGives, start, no-start, end, no-end, StepsGive, done, found, none, visitSteps, roundSteps, RoundGives, RoundsGive, last, next, stopped, roundsSteps}
 use Rattle.narrow.proofs.Planners.{Planner}
-use Rattle.narrow.proofs.Keeping.{keeps-n}
+use Rattle.narrow.proofs.StepsKeep.{keeps-n}
 use Rattle.narrow.proofs.Costs.{Costs, CostsOr, side-says, visits-says, round-cost}
 use Rattle.narrow.proofs.RoundsEnd.{rounds-by}
 use Rattle.narrow.proofs.Exact.{SearchSays, one-start, one-end, some-start, some-end, start-searched, end-searched}

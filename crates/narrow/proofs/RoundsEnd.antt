@@ -6,10 +6,10 @@ use Prim.Native.Nat.{ℕ, zero, suc, _<_}
 use native.Mathlib.Omega.{arith}
 use borrow.Author.Tests.{eqb-true, eqb-false}
 use lib.Dec.{eqb}
-use Rattle.list.specs.Outcomes.{Code, Outcome, answered, refused, andThen}
+use Rattle.base.specs.Outcomes.{Code, Outcome, answered, refused, andThen}
 use Rattle.narrow.specs.Searching.{Test}
 use Rattle.narrow.specs.Rounds.{Narrowed, round, rounds, slack}
-use Rattle.narrow.specs.Laws.{Formed}
+use Rattle.jackson.specs.Windows.{Formed}
 use Rattle.narrow.proofs.Costs.{Costs, by-test, round-cost}
 
 module _ (test : Test) (whole : ℕ → Bool) (P : Narrowed → Outcome Narrowed → Type 0)

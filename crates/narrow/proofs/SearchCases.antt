@@ -6,12 +6,12 @@ use mathlib.Core.List.{[], _∷_}
 use Prim.Native.Nat.{ℕ, _+_, _-_, _<_, _≤_}
 use native.Mathlib.Omega.{arith}
 use borrow.Author.Tests.{eq-eqb, ne-eqb}
-use Rattle.list.specs.Outcomes.{code, answered, refused}
-use Rattle.jackson.specs.Counting.{firstBelow}
-use Rattle.jackson.specs.Windows.{Windows}
-use Rattle.jackson.proofs.Sums.{le-or-lt}
-use Rattle.jackson.proofs.Searches.{first-below, one-first}
-use Rattle.narrow.specs.Searching.{Test, accepts, fixedAt, trials, failedStarts, leastStart}
+use Rattle.base.specs.Outcomes.{code, answered, refused, accepts}
+use Rattle.base.specs.Counting.{firstBelow}
+use Rattle.jackson.specs.Windows.{Windows, fixedAt}
+use Rattle.base.proofs.Sums.{le-or-lt}
+use Rattle.base.proofs.Searches.{first-below, one-first}
+use Rattle.narrow.specs.Searching.{Test, trials, failedStarts, leastStart}
 
 -- no start before x has a plan
 pub record Tried (test : Test) (w : Windows) (k x : ℕ) : Type 0 where

@@ -6,22 +6,21 @@ use mathlib.Core.List.{List, [], _∷_}
 use Prim.Native.Nat.{ℕ, zero, suc, _+_, _<_, _≤_}
 use native.Mathlib.Omega.{arith}
 use lib.Dec.{eqb}
-use Rattle.list.specs.Outcomes.{Outcome, answered, refused, andThen}
-use Rattle.list.proofs.Inversion.{Says, by-step}
-use Rattle.jackson.specs.Windows.{Windows, Inside, withWindows}
-use Rattle.jackson.specs.Existence.{Plannable}
+use Rattle.base.specs.Outcomes.{Outcome, answered, refused, andThen, accepts}
+use Rattle.base.proofs.Inversion.{Says, by-step}
+use Rattle.jackson.specs.Windows.{Windows, Inside, withWindows, withR, fixedAt, Formed}
+use Rattle.jackson.specs.Plans.{Plannable}
 use Rattle.jackson.specs.Mirrors.{mirror}
-use Rattle.jackson.proofs.Sums.{le-or-lt}
+use Rattle.base.proofs.Sums.{le-or-lt}
 use Rattle.jackson.proofs.PlanFacts.{widen}
-use Rattle.narrow.specs.Searching.{Test, accepts, withR, fixedAt, leastStart, IsLeastStart, NoStart}
+use Rattle.narrow.specs.Searching.{Test, leastStart, IsLeastStart, NoStart}
 use Rattle.narrow.specs.Settling.{SettledInside, NoneSettled}
 use Rattle.narrow.specs.Rounds.{Side, earliest, latest, step, Narrowed, narrowSide, visit, visits, round, rounds}
 use Rattle.narrow.specs.StepLists.{Step, NamesWhole, leftBy, stepsLeave, someRefused}
-use Rattle.narrow.specs.Laws.{Formed}
 use Rattle.narrow.proofs.Planners.{Planner}
 use Rattle.narrow.proofs.Puts.{put-same, put-under, fixed-consecutive, window-after-r, fixed-inside, consecutive-fixed}
 use Rattle.narrow.proofs.MirrorSearches.{plannable-mirror, formed-mirror, mirror-back, planner-in-mirror, step-mirror}
-use Rattle.narrow.proofs.Keeping.{Keeps, keeps-same, keeps-n, keeps-trans, keeps-mirror, keeps-r}
+use Rattle.narrow.proofs.StepsKeep.{Keeps, keeps-same, keeps-n, keeps-trans, keeps-mirror, keeps-r}
 use Rattle.narrow.proofs.MirrorSettled.{SidePlan, earliest-mirror, set-formed, set-mirror}
 use Rattle.narrow.proofs.Exact.{SearchSays, start-searched}
 

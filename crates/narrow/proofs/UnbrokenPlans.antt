@@ -4,12 +4,11 @@ use mathlib.Core.Path.{_≡_, refl, ap}
 use mathlib.Core.Bool.{Bool, true, false, cond}
 use Prim.Native.Nat.{ℕ, _+_, _-_, _<_, _≤_, min}
 use native.Mathlib.Omega.{arith}
-use Rattle.jackson.specs.Windows.{Windows, withWindows}
+use Rattle.jackson.specs.Windows.{Windows, withWindows, Formed}
 use Rattle.jackson.specs.Plans.{Plan, startOf}
-use Rattle.jackson.proofs.Sums.{le-or-lt}
+use Rattle.base.proofs.Sums.{le-or-lt}
 use Rattle.jackson.proofs.PlanFacts.{minutes-within, other-windows, widen, plan-start, start-released}
 use Rattle.narrow.specs.Settling.{Consecutive, SettledInside, NoneSettled, Widest, Unbroken}
-use Rattle.narrow.specs.Laws.{Formed}
 
 module _ (whole : ℕ → Bool) (w : Windows) (formed : Formed w) (m : ℕ → ℕ) (plan : Plan w m) (unbroken : Unbroken whole w m) where
   -- an entry's first minute

@@ -9,23 +9,22 @@ use borrow.Author.Tests.{eq-eqb, ne-eqb}
 use lib.Dec.{eqb}
 use lib.ListN.{length, getD}
 use lib.Seq.{getD-take}
-use Rattle.list.specs.Outcomes.{Code, Outcome, answered, refused, andThen}
+use Rattle.base.specs.Outcomes.{Code, Outcome, answered, refused, andThen}
 use Rattle.list.specs.Refusals.{codeOf}
-use Rattle.list.specs.DayLists.{blank}
+use Rattle.list.specs.DayLists.{blank, isWhole, wholeIn}
 use Rattle.list.specs.declared.types.DayList.{DayList}
 use Rattle.list.specs.declared.types.Refusal.{Refusal}
 use Rattle.list.specs.declared.types.Verdict.the-variants.{Accepted, Refused}
-use Rattle.list.proofs.Inversion.{Says}
-use Rattle.jackson.specs.Windows.{Windows, windowsIn}
+use Rattle.base.proofs.Inversion.{Says}
+use Rattle.jackson.specs.Windows.{Windows, windowsIn, Searchable}
 use Rattle.jackson.specs.Intervals.{overloadOf}
 use Rattle.jackson.specs.declared.types.WindowSet.{WindowSet}
-use Rattle.jackson.proofs.Sums.{le-or-lt}
+use Rattle.base.proofs.Sums.{le-or-lt}
 use Rattle.narrow.specs.Searching.{Test}
 use Rattle.narrow.specs.Rounds.{Side, earliest, latest, Narrowed, unmoved, step, counted, narrowSide, visit, visits, round, rounds, slack}
-use Rattle.narrow.specs.Calls.{isWhole, wholeIn}
-use Rattle.narrow.specs.Parts.{stateOf, narrowedOf, Searchable, Countable}
+use Rattle.narrow.specs.Internal.{stateOf, narrowedOf, Countable}
 use Rattle.narrow.specs.declared.rounds.VisitAnswer.{VisitAnswer}
-use Rattle.narrow.proofs.Keeping.{keeps-n}
+use Rattle.narrow.proofs.StepsKeep.{keeps-n}
 use Rattle.narrow.proofs.Costs.{Costs, side-cost, visits-cost, round-cost}
 use Rattle.narrow.proofs.RoundCases.{moved-one}
 

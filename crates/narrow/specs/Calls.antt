@@ -1,16 +1,12 @@
 -- Narrowing a list: what the calls answer.
 use Prim.Native.Nat.{ℕ, _+_}
 use mathlib.Core.Path.{_≡_}
-use mathlib.Core.Bool.{Bool, true, false}
 use mathlib.Core.List.{List, [], _∷_, map}
-use lib.ListN.{getD}
-use Rattle.list.specs.Outcomes.{Outcome, answered, refused, andThen}
+use Rattle.base.specs.Outcomes.{Outcome, answered, refused, andThen}
 use Rattle.list.specs.Refusals.{outcomeOf}
-use Rattle.list.specs.DayLists.{entriesOf, blank, dayList, emptyList}
+use Rattle.list.specs.DayLists.{entriesOf, dayList, emptyList, wholeIn}
 use Rattle.list.specs.Checks.{checkOf, WellFormed}
 use Rattle.list.specs.declared.types.Seal.the-variants.{Missing}
-use Rattle.list.specs.declared.types.Kind.{Kind}
-use Rattle.list.specs.declared.types.Kind.the-variants.{Pause, Whole}
 use Rattle.list.specs.declared.types.Entry.{Entry}
 use Rattle.list.specs.declared.types.DayList.{DayList}
 use Rattle.list.specs.declared.types.Verdict.the-variants.{Accepted}
@@ -19,15 +15,6 @@ use Rattle.jackson.specs.Intervals.{overloadOf}
 use Rattle.narrow.specs.Rounds.{Narrowed, unmoved, round, narrowing}
 use Rattle.narrow.specs.Laws.{RoundLaw, NarrowLaw}
 use Rattle.narrow.specs.declared.types.NarrowAnswer.{NarrowAnswer}
-
--- "the entry is whole (unpausable)"
-abbrev pub isWhole : Kind → Bool
-isWhole Pause = false
-isWhole Whole = true
-
--- whether the entry at a place of the list is whole
-abbrev pub wholeIn : DayList → ℕ → Bool
-wholeIn l i = isWhole (getD (entriesOf l) i blank .kind)
 
 -- an entry without its serial and seal
 abbrev pub bare : Entry → Entry
@@ -95,7 +82,7 @@ pub record Settles (l : DayList) (a : NarrowAnswer) : Type 0 where
   -- the law, for a list that passes the value check, of the windows and moves answered
   pub law : WellFormed l → NarrowLaw overloadOf (wholeIn l) (windowsOf l) (narrowedIn a)
 
--- what `untested_round` answers of the list l
+-- what `unchecked_round` answers of the list l
 pub record MakesRound (l : DayList) (a : NarrowAnswer) : Type 0 where
   pub answers : AnswersAs l (roundOf l) a
   pub holds : HoldsAnswer l (roundOf l) a

@@ -4,24 +4,15 @@ use mathlib.Core.Path.{_≡_}
 use mathlib.Core.Logic.{_↔_, _⊎_}
 use mathlib.Core.Bool.{Bool, true}
 use mathlib.Core.List.{List, [], _∷_}
-use Rattle.list.specs.Outcomes.{Code, code, Outcome, answered, refused}
+use Rattle.base.specs.Outcomes.{Code, code, Outcome, answered, refused}
 use Rattle.jackson.specs.Windows.{Windows, Inside, withWindows}
-use Rattle.jackson.specs.Plans.{Plan}
+use Rattle.jackson.specs.Plans.{Plan, Plannable}
 use Rattle.jackson.specs.Intervals.{ShowsOverload}
-use Rattle.jackson.specs.Existence.{Plannable}
 use Rattle.narrow.specs.Searching.{Test, SearchLaw}
 use Rattle.narrow.specs.Settling.{SettledInside, NoneSettled, Widest, Unbroken, minutesCut}
 use Rattle.narrow.specs.Rounds.{Narrowed, unmoved, movedBefore, slack}
 use Rattle.narrow.specs.StepLists.{Step, NamesWhole, stepsLeave, someRefused, Completes}
 use Rattle.narrow.specs.RoundsByPlans.{RoundGives, RoundsGive, roundsSteps}
-
--- What the laws ask of windows: at most 255 entries, since a byte names no more, each of which needs a minute and has room in the day.
--- The windows of a list that passes the value check have this.
-pub record Formed (w : Windows) : Type 0 where
-  pub few : w .n ≤ 255
-  pub minutes : (i : ℕ) → i < w .n → 1 ≤ w .p i
-  pub in-day : (i : ℕ) → i < w .n → w .d i ≤ w .h
-  pub room : (i : ℕ) → i < w .n → w .r i + w .p i ≤ w .d i
 
 -- windows v of the entries of w, inside w and with room
 pub record RoomInside (w v : Windows) : Type 0 where

@@ -5,4 +5,4 @@ pub mod StepLists
 pub mod RoundsByPlans
 pub mod Laws
 pub mod Calls
-pub mod Parts
+pub mod Internal

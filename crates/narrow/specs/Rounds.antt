@@ -2,10 +2,10 @@
 use Prim.Native.Nat.{ℕ, zero, suc, _+_, _-_}
 use mathlib.Core.Bool.{Bool, cond}
 use lib.Dec.{eqb}
-use Rattle.list.specs.Outcomes.{Outcome, answered, andThen}
-use Rattle.jackson.specs.Counting.{sum}
-use Rattle.jackson.specs.Windows.{Windows}
-use Rattle.narrow.specs.Searching.{Test, withR, withD, leastStart, greatestEnd}
+use Rattle.base.specs.Outcomes.{Outcome, answered, andThen}
+use Rattle.base.specs.Counting.{sum}
+use Rattle.jackson.specs.Windows.{Windows, withR, withD}
+use Rattle.narrow.specs.Searching.{Test, leastStart, greatestEnd}
 
 -- a side of a window: r, its earliest minute, or d, its latest
 pub data Side : Type 0 where

@@ -2,45 +2,16 @@
 use Prim.Native.Nat.{ℕ, suc, _+_, _-_, _<_, _≤_}
 use mathlib.Core.Path.{_≡_}
 use mathlib.Core.Logic.{_↔_}
-use mathlib.Core.Bool.{Bool, true, false, cond}
 use mathlib.Core.List.{[], _∷_}
 use lib.Dec.{eqb}
-use Rattle.list.specs.Outcomes.{code, Outcome, answered, refused, row, firstOf}
-use Rattle.jackson.specs.Counting.{firstBelow}
-use Rattle.jackson.specs.Windows.{Windows, withWindows}
-use Rattle.jackson.specs.Existence.{Plannable}
+use Rattle.base.specs.Outcomes.{code, Outcome, answered, refused, row, firstOf, accepts}
+use Rattle.base.specs.Counting.{firstBelow}
+use Rattle.jackson.specs.Windows.{Windows, fixedAt, fixedUpTo}
+use Rattle.jackson.specs.Plans.{Plannable}
 
 -- a planner's test of windows: searches ask only whether it accepts them; of the windows given its refusal is handed on
 abbrev pub Test : Type 0
 Test = Windows → Outcome (Unit {0})
-
--- whether an outcome is no refusal
-abbrev pub accepts : {A : Type 0} → Outcome A → Bool
-accepts (answered a) = true
-accepts (refused k) = false
-
--- f, but x at place k
-abbrev pub put : ℕ → ℕ → (ℕ → ℕ) → ℕ → ℕ
-put k x f i = cond (eqb i k) x (f i)
-
--- the windows with another r, with another d of entry k
-abbrev pub withR : Windows → ℕ → ℕ → Windows
-withR w k s = withWindows w (put k s (w .r)) (w .d)
-
-abbrev pub withD : Windows → ℕ → ℕ → Windows
-withD w k e = withWindows w (w .r) (put k e (w .d))
-
--- the windows with [s, e) as that of entry k
-abbrev pub withWindow : Windows → ℕ → ℕ → ℕ → Windows
-withWindow w k s e = withWindows w (put k s (w .r)) (put k e (w .d))
-
--- the windows "when its window is [s, s + p) and the others keep theirs"
-abbrev pub fixedAt : Windows → ℕ → ℕ → Windows
-fixedAt w k s = withWindow w k s (s + w .p k)
-
--- the windows "when its window is [e - p, e) and the others keep theirs"
-abbrev pub fixedUpTo : Windows → ℕ → ℕ → Windows
-fixedUpTo w k e = withWindow w k (e - w .p k) e
 
 -- how many starts s, from its r up, have s + p at most its d; as many ends e, from its d down, have r + p at most e
 abbrev pub trials : Windows → ℕ → ℕ

@@ -2,10 +2,9 @@
 use Prim.Native.Nat.{ℕ, _+_, _-_, _<_, _≤_}
 use mathlib.Core.Path.{_≡_}
 use mathlib.Core.Bool.{Bool, true}
-use Rattle.jackson.specs.Counting.{sum}
+use Rattle.base.specs.Counting.{sum}
 use Rattle.jackson.specs.Windows.{Windows, Inside, withWindows}
-use Rattle.jackson.specs.Plans.{Plan}
-use Rattle.jackson.specs.Existence.{Plannable}
+use Rattle.jackson.specs.Plans.{Plan, Plannable}
 
 -- m gives place k every minute of [s, e), and none besides, of a day of h minutes: consecutive minutes
 pub record Consecutive (h : ℕ) (m : ℕ → ℕ) (k s e : ℕ) : Type 0 where

@@ -3,9 +3,9 @@ use Prim.Native.Nat.{ℕ, _<_}
 use mathlib.Core.Path.{_≡_}
 use mathlib.Core.Bool.{Bool, true, false, not, _||_}
 use mathlib.Core.List.{List, [], _∷_}
-use Rattle.list.specs.Outcomes.{Outcome, answered, refused}
+use Rattle.base.specs.Outcomes.{Outcome, answered, refused, accepts}
 use Rattle.jackson.specs.Windows.{Windows}
-use Rattle.narrow.specs.Searching.{Test, accepts}
+use Rattle.narrow.specs.Searching.{Test}
 use Rattle.narrow.specs.Rounds.{Side, step}
 
 -- "A narrowing step .. names a whole entry and a side"

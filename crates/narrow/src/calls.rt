@@ -4,8 +4,8 @@ use crate::rounds::all_rounds;
 use crate::rounds::one_round;
 use crate::types::NarrowAnswer;
 use jackson::types::WindowSet;
-use jackson::untested_overload;
-use jackson::untested_windows;
+use jackson::unchecked_overload;
+use jackson::unchecked_windows;
 use list::types::DayList;
 use list::types::Entry;
 use list::types::Verdict;
@@ -14,7 +14,7 @@ ghost use Prim.Native.Nat.{_≤_};
 ghost use Rattle.list.specs.DayLists.{emptyList};
 ghost use Rattle.jackson.specs.Windows.{windowsIn};
 ghost use Rattle.narrow.specs.Calls.{entryWith, listWith, AnswersAs, Settles, MakesRound};
-ghost use Rattle.narrow.specs.Parts.{narrowedOf};
+ghost use Rattle.narrow.specs.Internal.{narrowedOf};
 
 // An entry with another window.
 fn entry_with(e: Entry, r: u16, d: u16) -> Entry
@@ -81,8 +81,8 @@ pub fn settle(list: DayList) -> NarrowAnswer
     let Verdict::Accepted = verdict else {
         return refused_with(verdict);
     };
-    let windows = untested_windows(list);
-    let test = untested_overload(windows);
+    let windows = unchecked_windows(list);
+    let test = unchecked_overload(windows);
     let Verdict::Accepted = test else {
         return refused_with(test);
     };
@@ -91,12 +91,12 @@ pub fn settle(list: DayList) -> NarrowAnswer
 
 // Makes one round of a list from its windows as given, for a caller that has tested them: the value check, then the round and row 10. Row 9
 // is not tested, so an overloaded list may be answered.
-pub fn untested_round(list: DayList) -> NarrowAnswer
+pub fn unchecked_round(list: DayList) -> NarrowAnswer
     ensures { λ a. ⌜ MakesRound list a ⌝ }
 {
     let verdict = list::check(list);
     let Verdict::Accepted = verdict else {
         return refused_with(verdict);
     };
-    answer_with(list, one_round(list, untested_windows(list), 0))
+    answer_with(list, one_round(list, unchecked_windows(list), 0))
 }

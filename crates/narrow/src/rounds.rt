@@ -10,12 +10,12 @@ use list::types::Verdict;
 ghost use mathlib.Core.Path.{_≡_};
 ghost use mathlib.Core.List.{[], _∷_};
 ghost use Prim.Native.Nat.{suc, _<_};
-ghost use Rattle.list.specs.Outcomes.{code, refused};
-ghost use Rattle.jackson.specs.Windows.{windowsIn};
+ghost use Rattle.base.specs.Outcomes.{code, refused};
+ghost use Rattle.jackson.specs.Windows.{windowsIn, Searchable};
 ghost use Rattle.jackson.specs.Intervals.{overloadOf};
 ghost use Rattle.narrow.specs.Rounds.{earliest, latest, moved, narrowSide, visit, unmoved, round, rounds, slack};
-ghost use Rattle.narrow.specs.Calls.{isWhole, wholeIn};
-ghost use Rattle.narrow.specs.Parts.{Searchable, Countable, stateOf, narrowedOf};
+ghost use Rattle.list.specs.DayLists.{isWhole, wholeIn};
+ghost use Rattle.narrow.specs.Internal.{Countable, stateOf, narrowedOf};
 
 // The windows and the moves made so far, or a refusal.
 pub(crate) struct VisitAnswer {

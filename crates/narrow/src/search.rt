@@ -1,15 +1,16 @@
 // A visit's search for an entry's r; that for its d is this one in the mirror (rounds.rt).
 use jackson::types::WindowSet;
-use jackson::untested_overload;
+use jackson::unchecked_overload;
 use list::types::Verdict;
 ghost use mathlib.Core.Path.{_≡_};
 ghost use Prim.Native.Nat.{_+_, _≤_};
 ghost use lib.ListN.{getD};
 ghost use Rattle.list.specs.Refusals.{verdictOf};
-ghost use Rattle.jackson.specs.Windows.{windowsIn};
+ghost use Rattle.jackson.specs.Windows.{windowsIn, fixedAt, Searchable};
 ghost use Rattle.jackson.specs.Intervals.{overloadOf};
-ghost use Rattle.narrow.specs.Searching.{accepts, fixedAt, leastStart};
-ghost use Rattle.narrow.specs.Parts.{foundOf, Searchable};
+ghost use Rattle.base.specs.Outcomes.{accepts};
+ghost use Rattle.narrow.specs.Searching.{leastStart};
+ghost use Rattle.narrow.specs.Internal.{foundOf};
 
 // What a search answers.
 pub(crate) enum Found {
@@ -36,7 +37,7 @@ fn has_plan_at(windows: WindowSet, k: usize, s: u16) -> bool
     let mut trial = windows;
     trial.r[k] = s;
     trial.d[k] = s + windows.p[k];
-    is_accepted(untested_overload(trial))
+    is_accepted(unchecked_overload(trial))
 }
 
 // The least start of entry k, from its r up: "the search ends at the first start that has a plan".

@@ -7,7 +7,7 @@ use Prim.Native.Nat.{ℕ, _<_}
 use lib.Dec.{eqb}
 use lib.ListN.{length, getD}
 use lib.Seq.{getD-take}
-use Rattle.list.specs.Outcomes.{code}
+use Rattle.base.specs.Outcomes.{code}
 use Rattle.list.specs.DayLists.{blank}
 use Rattle.list.specs.declared.types.Entry.{Entry}
 use Rattle.list.specs.declared.types.DayList.{DayList}
@@ -18,7 +18,7 @@ use Rattle.report.specs.Text.{ascii, decimal, line}
 use Rattle.report.specs.Runs.{beginsRun, runEnd}
 use Rattle.report.specs.Reports.{entryLine, entryLineAt, runLine, runLineAt, refusalLine}
 use Rattle.report.specs.Calls.{lineOf}
-use Rattle.report.specs.Parts.{Puts, timesText, carriedText}
+use Rattle.report.specs.Internal.{Puts, timesText, carriedText}
 use Rattle.report.proofs.Steps.{puts-nothing, puts-then}
 
 -- A refusal's line: its number, what it carries, and the newline.

@@ -7,12 +7,12 @@ use native.Mathlib.Omega.{arith}
 use borrow.Author.Tests.{le-ltb}
 use lib.ListN.{length, getD, take, length-take}
 use lib.Seq.{take-append-seam}
-use Rattle.list.specs.Outcomes.{Outcome, answered, refused}
+use Rattle.base.specs.Outcomes.{Outcome, answered, refused}
 use Rattle.list.specs.Refusals.{codeOf, outcomeOf}
-use Rattle.list.specs.DayLists.{entriesOf}
+use Rattle.list.specs.DayLists.{entriesOf, wholeIn}
 use Rattle.list.specs.Checks.{WellFormed}
 use Rattle.format.specs.Reading.{readOf}
-use Rattle.format.specs.Promises.{Reads}
+use Rattle.format.specs.Calls.{Reads}
 use Rattle.list.specs.declared.types.Entry.{Entry}
 use Rattle.list.specs.declared.types.DayList.{DayList}
 use Rattle.list.specs.declared.types.Refusal.{Refusal}
@@ -28,14 +28,14 @@ use Rattle.jackson.specs.Intervals.{overloadOf}
 use Rattle.jackson.specs.Plans.{placesIn}
 use Rattle.jackson.specs.Minutes.{schedule}
 use Rattle.narrow.specs.Rounds.{Narrowed, narrowing}
-use Rattle.narrow.specs.Calls.{wholeIn, listed, standing, entriesWith, listWith}
+use Rattle.narrow.specs.Calls.{listed, standing, entriesWith, listWith}
 use Rattle.bounds.specs.Ends.{leastEnd, greatestStart}
 use Rattle.bounds.specs.BrokenEntries.{brokenIn}
 use Rattle.bounds.specs.Calls.{planChecks, planOf, leastEnds, greatestStarts, brokenOf, PlansDay}
 use Rattle.bounds.specs.declared.types.PlanAnswer.{PlanAnswer}
 use Rattle.bounds.proofs.EndCases.{by-place}
 use Rattle.report.specs.Reports.{headLine, entryLines, runLines, dayText, plannedText, reportOf}
-use Rattle.report.specs.Parts.{Puts, PutsOr, answerText}
+use Rattle.report.specs.Internal.{Puts, PutsOr, answerText}
 use Rattle.report.proofs.Texts.{texts-same}
 
 -- entries' lines look at the bounds of the list's own places alone

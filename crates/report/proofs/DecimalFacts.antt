@@ -6,7 +6,7 @@ use Prim.Native.Nat.{ℕ, zero, suc, _+_, _*_, _-_, _/_, _%_, _<_, _≤_}
 use native.Mathlib.Omega.{arith}
 use lib.ListN.{length, getD, length-append, List·getD-append}
 use lib.Seq.{getD-append-seam}
-use Rattle.jackson.proofs.Sums.{le-or-lt, below-suc}
+use Rattle.base.proofs.Sums.{le-or-lt, below-suc}
 use Rattle.report.specs.Text.{decimal, saysAfter, IsDecimal}
 use Rattle.report.proofs.Texts.{decimal-one, decimal-more}
 

@@ -5,7 +5,7 @@ use Rattle.list.specs.Entries.{entryFault}
 use Rattle.format.specs.EntryFields.{entryAt, fieldsEntry, entryOf}
 use Rattle.list.specs.Checks.{headerFault}
 use Rattle.format.specs.Reading.{entriesFrom, bodyOf, readOf}
-use Rattle.jackson.specs.Counting.{sum, firstBelow, lastBelow, best, listOf}
+use Rattle.base.specs.Counting.{sum, firstBelow, lastBelow, best, listOf}
 use Rattle.jackson.specs.Intervals.{work, leftEnd, rightEnd, overloadOf}
 use Rattle.jackson.specs.Minutes.{chosen, minuteOf, later, schedule}
 use Rattle.narrow.specs.Searching.{failedStarts, failedEnds, leastStart, greatestEnd}

@@ -8,25 +8,25 @@ use Prim.Native.Nat.{ℕ, _+_, _*_, _-_, _<_, _≤_}
 use native.Mathlib.Omega.{arith}
 use lib.ListN.{length, getD, length-append, length-take}
 use lib.Seq.{getD-take}
-use Rattle.list.specs.Outcomes.{Outcome, answered, refused, andThen}
+use Rattle.base.specs.Outcomes.{Outcome, answered, refused, andThen}
 use Rattle.list.specs.Machine.{Bytes, Typed}
-use Rattle.list.specs.DayLists.{entriesOf, blank}
+use Rattle.list.specs.DayLists.{entriesOf, blank, wholeIn}
 use Rattle.list.specs.Checks.{WellFormed}
 use Rattle.format.specs.Reading.{readOf}
 use Rattle.list.specs.declared.types.DayList.{DayList}
-use Rattle.list.proofs.Inversion.{Says, Anything}
+use Rattle.base.proofs.Inversion.{Says, Anything}
 use Rattle.list.proofs.Sound.{sound-list}
 use Rattle.format.proofs.RoundTrip.{read-well-formed, read-typed}
-use Rattle.jackson.specs.Windows.{Windows, windowsOf}
+use Rattle.jackson.specs.Windows.{Windows, windowsOf, Formed}
 use Rattle.jackson.specs.Plans.{idle, placesIn, PlanBytes}
 use Rattle.jackson.specs.Intervals.{overloadOf}
 use Rattle.jackson.specs.Minutes.{schedule}
-use Rattle.jackson.proofs.Sums.{sum-most}
+use Rattle.base.proofs.Sums.{sum-most}
 use Rattle.jackson.proofs.ListLaws.{list-few}
 use Rattle.narrow.specs.Settling.{Settled, Widest, minutesCut}
 use Rattle.narrow.specs.Rounds.{Narrowed, narrowing}
-use Rattle.narrow.specs.Laws.{Formed, NarrowLaw}
-use Rattle.narrow.specs.Calls.{wholeIn, entryWith, listWith}
+use Rattle.narrow.specs.Laws.{NarrowLaw}
+use Rattle.narrow.specs.Calls.{entryWith, listWith}
 use Rattle.narrow.proofs.OverloadPlanner.{overload-planner}
 use Rattle.narrow.proofs.NarrowLaws.{narrow-law}
 use Rattle.narrow.proofs.Costs.{by-test}

@@ -5,14 +5,14 @@ use Prim.Native.Nat.{ℕ, _^_, _<_, _≤_}
 use native.Mathlib.Omega.{arith}
 use borrow.Author.Tests.{ne-eqb}
 use lib.ListN.{length, getD}
-use Rattle.list.specs.Outcomes.{code}
+use Rattle.base.specs.Outcomes.{code}
 use Rattle.list.specs.Machine.{SealFits}
 use Rattle.list.specs.declared.types.Seal.{Seal}
 use Rattle.list.specs.declared.types.Seal.the-variants.{Missing, Number}
 use Rattle.list.specs.declared.types.Kind.{Kind}
 use Rattle.list.specs.declared.types.Kind.the-variants.{Pause, Whole}
 use Rattle.list.specs.declared.types.Entry.{Entry}
-use Rattle.jackson.proofs.Sums.{same-cases}
+use Rattle.base.proofs.Sums.{same-cases}
 use Rattle.report.specs.Text.{ascii, decimal}
 use Rattle.report.specs.Reports.{headLine, sealText, kindText, entryLine, runLine, refusalLine}
 use Rattle.report.specs.Calls.{lineEnough}

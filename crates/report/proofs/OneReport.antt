@@ -3,9 +3,9 @@
 use mathlib.Core.Path.{_≡_, sym, _∙_}
 use mathlib.Core.List.{List}
 use Prim.Native.Nat.{ℕ}
-use Rattle.list.specs.Outcomes.{Outcome}
+use Rattle.base.specs.Outcomes.{Outcome}
 use Rattle.list.specs.declared.types.WriteAnswer.{WriteAnswer}
-use Rattle.list.proofs.OneVerdict.{one-write}
+use Rattle.list.proofs.Verdicts.{one-write}
 use Rattle.report.specs.Calls.{StoresText}
 
 module _ {o : Outcome (List ℕ)} {old : List ℕ} (a b : WriteAnswer) (new other : List ℕ) (x : StoresText o old a new)

@@ -8,9 +8,9 @@ use native.Mathlib.Omega.{arith}
 use borrow.Author.Tests.{lt-ltb, le-ltb}
 use lib.ListN.{length, getD, take}
 use lib.Seq.{sets-eq, take-append-seam, length-sets}
-use Rattle.list.specs.Outcomes.{answered}
+use Rattle.base.specs.Outcomes.{answered}
 use Rattle.list.specs.Machine.{Bytes}
-use Rattle.format.specs.Parts.{Wrote}
+use Rattle.base.specs.Storing.{Wrote}
 use Rattle.format.specs.Writing.{stored}
 use Rattle.list.specs.declared.types.Refusal.{Refusal}
 use Rattle.list.specs.declared.types.Refusal.the-variants.{ListBufferShort}
@@ -19,7 +19,7 @@ use Rattle.list.specs.declared.types.WriteAnswer.the-variants.{Written, NotWrit
 use Rattle.codes.specs.declared.RefusalCode.{RefusalCode}
 use Rattle.report.specs.Reports.{reportOf}
 use Rattle.report.specs.Calls.{StoresText, enough, Reports, lineOf, lineEnough, StoresLine}
-use Rattle.report.specs.Parts.{Puts, PutsOr}
+use Rattle.report.specs.Internal.{Puts, PutsOr}
 use Rattle.report.proofs.LineLengths.{refusal-short}
 use Rattle.report.proofs.Lengths.{report-short}
 use Rattle.report.proofs.FirstBytes.{same-report}

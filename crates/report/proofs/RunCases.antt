@@ -9,9 +9,9 @@ use borrow.Author.Tests.{eq-eqb, ne-eqb, eqb-false, not-true}
 use lib.Dec.{eqb}
 use lib.ListN.{length, getD}
 use Rattle.jackson.specs.Plans.{placesIn}
-use Rattle.jackson.proofs.Sums.{le-or-lt}
+use Rattle.base.proofs.Sums.{le-or-lt}
 use Rattle.jackson.proofs.PlanFacts.{place-read}
-use Rattle.jackson.proofs.Searches.{first-below, one-first}
+use Rattle.base.proofs.Searches.{first-below, one-first}
 use Rattle.report.specs.Runs.{beginsRun, runEnd}
 
 module _ (plan : List ℕ) (t : ℕ) (below : t < length plan) where

@@ -6,10 +6,10 @@ use Prim.Native.Nat.{ℕ, _+_, _-_, _<_, _≤_}
 use native.Mathlib.Omega.{arith}
 use borrow.Author.Tests.{eqb-false, eq-eqb, ne-eqb, not-true}
 use lib.Dec.{eqb}
-use Rattle.jackson.specs.Counting.{firstBelow}
+use Rattle.base.specs.Counting.{firstBelow}
 use Rattle.jackson.specs.Plans.{idle}
-use Rattle.jackson.proofs.Sums.{le-or-lt, same-cases}
-use Rattle.jackson.proofs.Searches.{First, first-below}
+use Rattle.base.proofs.Sums.{le-or-lt, same-cases}
+use Rattle.base.proofs.Searches.{First, first-below}
 use Rattle.report.specs.Runs.{beginsRun, runEnd, Run, RunsAre}
 
 -- Tests.

@@ -7,9 +7,9 @@ use native.Mathlib.Numerals.{add-one}
 use native.Mathlib.Omega.{arith}
 use lib.ListN.{length, getD, take, set}
 use lib.Seq.{take-suc, take-length}
-use Rattle.format.proofs.Stores.{wrote-nothing, wrote-one, wrote-then, room-first, room-after}
+use Rattle.base.proofs.Stores.{wrote-nothing, wrote-one, wrote-then, room-first, room-after}
 use Rattle.report.specs.Text.{decimal, texts}
-use Rattle.report.specs.Parts.{Puts}
+use Rattle.report.specs.Internal.{Puts}
 use Rattle.report.proofs.Texts.{decimal-one, decimal-more}
 
 pub puts-nothing : (old : List ℕ) (at : ℕ) → Puts old at [] old at

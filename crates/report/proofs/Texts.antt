@@ -6,7 +6,7 @@ use Prim.Native.Nat.{ℕ, zero, suc, _+_, _*_, _/_, _%_, _^_, _<_, _≤_}
 use native.Mathlib.Omega.{arith}
 use borrow.Author.Tests.{lt-ltb, le-ltb}
 use lib.ListN.{length, length-append}
-use Rattle.jackson.proofs.Sums.{le-or-lt}
+use Rattle.base.proofs.Sums.{le-or-lt}
 use Rattle.report.specs.Text.{ascii, digits, decimal, line, texts}
 
 -- Numbers.

@@ -3,7 +3,7 @@ use Prim.Native.Nat.{ℕ, _≤_}
 use mathlib.Core.Path.{_≡_}
 use mathlib.Core.List.{List}
 use lib.ListN.{length, take}
-use Rattle.list.specs.Outcomes.{code, Outcome, answered, refused, andThen}
+use Rattle.base.specs.Outcomes.{code, Outcome, answered, refused, andThen}
 use Rattle.list.specs.Refusals.{writeAnswerOf}
 use Rattle.format.specs.Writing.{storing, stored}
 use Rattle.list.specs.declared.types.WriteAnswer.{WriteAnswer}

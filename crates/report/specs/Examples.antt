@@ -2,7 +2,7 @@
 use Prim.Native.Nat.{ℕ}
 use mathlib.Core.Path.{_≡_}
 use mathlib.Core.List.{List, [], _∷_, _++_}
-use Rattle.list.specs.Outcomes.{code, Outcome, answered, refused}
+use Rattle.base.specs.Outcomes.{code, Outcome, answered, refused}
 use Rattle.report.specs.Text.{ascii}
 use Rattle.report.specs.Reports.{reportOf, printedOf}
 

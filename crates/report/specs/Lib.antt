@@ -3,4 +3,4 @@ pub mod Runs
 pub mod Reports
 pub mod Calls
 pub mod Examples
-pub mod Parts
+pub mod Internal

@@ -5,8 +5,8 @@ use mathlib.Core.Bool.{cond}
 use mathlib.Core.List.{List, [], _∷_, _++_}
 use lib.ListN.{getD}
 use lib.Dec.{eqb}
-use Rattle.list.specs.Outcomes.{Code, Outcome, answered, refused, andThen}
-use Rattle.list.specs.DayLists.{entriesOf, blank}
+use Rattle.base.specs.Outcomes.{Code, Outcome, answered, refused, andThen}
+use Rattle.list.specs.DayLists.{entriesOf, blank, wholeIn}
 use Rattle.format.specs.Reading.{readOf}
 use Rattle.list.specs.declared.types.Seal.{Seal}
 use Rattle.list.specs.declared.types.Seal.the-variants.{Missing, Number}
@@ -19,7 +19,7 @@ use Rattle.jackson.specs.Intervals.{overloadOf}
 use Rattle.jackson.specs.Plans.{placesIn}
 use Rattle.jackson.specs.Minutes.{schedule}
 use Rattle.narrow.specs.Rounds.{Narrowed, narrowing}
-use Rattle.narrow.specs.Calls.{wholeIn, listWith}
+use Rattle.narrow.specs.Calls.{listWith}
 use Rattle.bounds.specs.Ends.{leastEnd, greatestStart}
 use Rattle.bounds.specs.BrokenEntries.{brokenIn}
 use Rattle.report.specs.Text.{ascii, decimal, line, texts}

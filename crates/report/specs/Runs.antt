@@ -4,7 +4,7 @@ use mathlib.Core.Path.{_≡_}
 use mathlib.Core.Logic.{_↔_}
 use mathlib.Core.Bool.{Bool, true, not, _&&_, _||_}
 use lib.Dec.{eqb}
-use Rattle.jackson.specs.Counting.{firstBelow}
+use Rattle.base.specs.Counting.{firstBelow}
 use Rattle.jackson.specs.Plans.{idle}
 
 -- a run begins at minute t: an entry has it that did not have the minute before

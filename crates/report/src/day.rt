@@ -11,7 +11,7 @@ ghost use Prim.Native.Nat.{_≤_};
 ghost use lib.ListN.{getD};
 ghost use Rattle.list.specs.Checks.{WellFormed};
 ghost use Rattle.report.specs.Reports.{entryLines, plannedText, reportOf};
-ghost use Rattle.report.specs.Parts.{Puts, PutsOr, answerText};
+ghost use Rattle.report.specs.Internal.{Puts, PutsOr, answerText};
 
 // The entries' lines, with a least end and a greatest start for each place.
 fn put_entries(

@@ -15,7 +15,7 @@ use lines::put_refusal;
 use list::types::Refusal;
 use list::types::WriteAnswer;
 use text::put_bytes;
-ghost use Rattle.list.specs.Outcomes.{answered};
+ghost use Rattle.base.specs.Outcomes.{answered};
 ghost use Rattle.report.specs.Calls.{StoresText, Reports, StoresLine};
 
 // Room for the text of every day.

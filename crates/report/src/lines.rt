@@ -10,7 +10,7 @@ ghost use mathlib.Core.List.{_++_};
 ghost use Rattle.report.specs.Text.{ascii};
 ghost use Rattle.report.specs.Reports.{headLine, sealText, kindText, entryLine, runLine};
 ghost use Rattle.report.specs.Calls.{lineOf};
-ghost use Rattle.report.specs.Parts.{Puts, timesText, carriedText};
+ghost use Rattle.report.specs.Internal.{Puts, timesText, carriedText};
 
 // `day 12 entries 3 moves 1 broken 0`
 pub(crate) fn put_head(out: &mut [u8], at: usize, h: u16, n: u8, moves: u32, broken: u8) -> usize

@@ -6,7 +6,7 @@ ghost use lib.ListN.{length};
 ghost use Rattle.jackson.specs.Plans.{placesIn};
 ghost use Rattle.report.specs.Runs.{beginsRun, runEnd};
 ghost use Rattle.report.specs.Reports.{runLineAt, runLines};
-ghost use Rattle.report.specs.Parts.{Puts};
+ghost use Rattle.report.specs.Internal.{Puts};
 
 // Whether an entry has minute t that did not have the minute before.
 fn begins_run(plan: &[u8], t: usize) -> bool

@@ -2,7 +2,7 @@
 // past the buffer's end it stores nothing.
 ghost use mathlib.Core.List.{[], _∷_, _++_};
 ghost use Rattle.report.specs.Text.{decimal};
-ghost use Rattle.report.specs.Parts.{Puts};
+ghost use Rattle.report.specs.Internal.{Puts};
 
 fn put_byte(out: &mut [u8], at: usize, x: u8) -> usize
     ensures { λ next. ⌜ Puts (now (out .entry)) at (x ∷ []) (now (out .exit)) next ⌝ }

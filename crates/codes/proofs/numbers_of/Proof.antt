@@ -4,9 +4,9 @@ use borrow.Author.Needs.{needs}
 use mathlib.Core.Path.{_≡_, refl}
 use mathlib.Core.List.{[], _∷_}
 use Prim.Native.Nat.{ℕ}
-use Rattle.list.specs.Outcomes.{code}
+use Rattle.base.specs.Outcomes.{code}
 use Rattle.list.specs.Refusals.{codeOf}
-use Rattle.codes.specs.Numbers.{numbersOf}
+use Rattle.codes.specs.Codes.{numbersOf}
 use Rattle.list.specs.declared.types.Refusal.{Refusal}
 use Rattle.list.specs.declared.types.Refusal.the-variants.{Overloaded}
 use Rattle.codes.specs.declared.RefusalCode.{RefusalCode}

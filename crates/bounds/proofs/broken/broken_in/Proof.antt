@@ -4,7 +4,7 @@ use borrow.Author.Needs.{needs}
 use mathlib.Core.Path.{_≡_}
 use Prim.Native.Nat.{_-_}
 use lib.ListN.{length}
-use Rattle.list.proofs.Walk.{length-mapped}
+use Rattle.base.proofs.Walk.{length-mapped}
 use Rattle.bounds.proofs.BrokenCases.{Counted, counted-none, counted-next, counted-all}
 use Rattle.bounds.proofs.broken.broken_in.Statement.{statement}
 use Rattle.bounds.proofs.broken.broken_in.Tie as tie

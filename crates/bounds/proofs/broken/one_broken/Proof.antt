@@ -3,7 +3,7 @@
 use borrow.Author.Needs.{needs}
 use mathlib.Core.Path.{_≡_}
 use lib.ListN.{length}
-use Rattle.list.proofs.Walk.{length-mapped}
+use Rattle.base.proofs.Walk.{length-mapped}
 use Rattle.bounds.proofs.BrokenCases.{minutes-in-day, start-in-day, not-whole, in-one-piece, in-pieces}
 use Rattle.bounds.proofs.broken.one_broken.Statement.{statement}
 use Rattle.bounds.proofs.broken.one_broken.Tie as tie

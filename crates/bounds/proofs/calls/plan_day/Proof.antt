@@ -4,7 +4,7 @@ use borrow.Author.Needs.{needs}
 use mathlib.Core.Path.{sym, _∙_}
 use lib.ListN.{length}
 use Rattle.bounds.specs.Calls.{planChecks}
-use Rattle.bounds.specs.Parts.{NarrowsAfter}
+use Rattle.bounds.specs.Internal.{NarrowsAfter}
 use Rattle.bounds.proofs.CallCases.{plan-formed, Ready, is-ready, ready-formed, plan-held, plan-long}
 use Rattle.bounds.proofs.AnswerCases.{plan-refused, plan-done}
 use Rattle.bounds.proofs.calls.plan_day.Statement.{statement}
@@ -17,13 +17,13 @@ narrowed : (c : tie.After-settled-after)
 narrowed c = rw (c .before .plan-checks .ensures) at (c .settled-after .ensures)
 
 -- where nothing was refused
-ready : (c : tie.After-untested-windows)
+ready : (c : tie.After-unchecked-windows)
     → let args = c .before .before .before .before .before .before .before .args in
     Ready (planChecks (args .list) (length (args .plan .now))) (args .list) (args .plan .now)
-    (c .before .before .before .before .settled-after .result) (c .untested-windows .result)
+    (c .before .before .before .before .settled-after .result) (c .unchecked-windows .result)
 ready c =
     let after = narrowed (c .before .before .before .before) in
-    is-ready after (λ e. e) (c .before .before .enum-told .given .1) (c .untested-windows .ensures)
+    is-ready after (λ e. e) (c .before .before .enum-told .given .1) (c .unchecked-windows .ensures)
 
 plan-checks-requires : tie.Need-plan-checks-requires
 plan-checks-requires c κs = search needs
@@ -51,11 +51,11 @@ returns c =
     plan-refused (narrowed (turned-back .before .before)) (turned-back .enum-told2 .given .1) (c .before .zeros .ensures)
     (c .zeros2 .ensures)
 
-untested-windows-requires : tie.Need-untested-windows-requires
-untested-windows-requires c κs = search needs
+unchecked-windows-requires : tie.Need-unchecked-windows-requires
+unchecked-windows-requires c κs = search needs
 
-untested-schedule-requires : tie.Need-untested-schedule-requires
-untested-schedule-requires c κs = search needs
+unchecked-schedule-requires : tie.Need-unchecked-schedule-requires
+unchecked-schedule-requires c κs = search needs
 
 cast-broken-in : tie.Need-cast-broken-in
 cast-broken-in c = search needs
@@ -63,7 +63,7 @@ cast-broken-in c = search needs
 broken-in-requires : tie.Need-broken-in-requires
 broken-in-requires c κs =
     let filled = c .before .before .before .before in
-    plan-held (ready (filled .before .before)) (filled .untested-schedule .ensures)
+    plan-held (ready (filled .before .before)) (filled .unchecked-schedule .ensures)
 
 least-ends-requires : tie.Need-least-ends-requires
 least-ends-requires c κs = ready-formed (ready (c .before .before .before .before .before .before .before))
@@ -74,12 +74,12 @@ greatest-starts-requires c κs = ready-formed (ready (c .before .before .before 
 same-length : tie.Need-same-length
 same-length c =
     let filled = c .before .before .before .before .before .before .before in
-    plan-long (ready (filled .before .before)) (filled .untested-schedule .ensures)
+    plan-long (ready (filled .before .before)) (filled .unchecked-schedule .ensures)
 
 returns-2 : tie.Need-returns-2
 returns-2 c =
     let filled = c .before .before .before .before .before .before .before in
-    plan-done (ready (filled .before .before)) (filled .untested-schedule .ensures) (c .before .before .broken-in .ensures)
+    plan-done (ready (filled .before .before)) (filled .unchecked-schedule .ensures) (c .before .before .broken-in .ensures)
     (c .before .least-ends .ensures) (c .greatest-starts .ensures)
 
 pub plan-day-spec : {M : Type 1} → statement M
@@ -93,8 +93,8 @@ plan-day-spec =
     zeros-requires
     zeros-requires-2
     returns
-    untested-windows-requires
-    untested-schedule-requires
+    unchecked-windows-requires
+    unchecked-schedule-requires
     cast-broken-in
     broken-in-requires
     least-ends-requires

@@ -3,9 +3,9 @@
 use borrow.Author.Needs.{needs}
 use mathlib.Core.Path.{_≡_, sym, _∙_}
 use lib.ListN.{length}
-use Rattle.list.proofs.Walk.{length-mapped}
+use Rattle.base.proofs.Walk.{length-mapped}
 use Rattle.bounds.specs.Calls.{shownChecks}
-use Rattle.bounds.specs.Parts.{NarrowsAfter}
+use Rattle.bounds.specs.Internal.{NarrowsAfter}
 use Rattle.bounds.proofs.CallCases.{shown-plan, shown-formed, Ready, is-ready, ready-room}
 use Rattle.bounds.proofs.AnswerCases.{shown-refused, shown-place, shown-searchable, shown-done}
 use Rattle.bounds.proofs.calls.show_plan.Statement.{statement}
@@ -22,13 +22,13 @@ narrowed : (c : tie.After-settled-after)
 narrowed c = rw (c .before .shown-checks .ensures) at (c .settled-after .ensures)
 
 -- where nothing was refused
-ready : (c : tie.After-untested-windows)
+ready : (c : tie.After-unchecked-windows)
     → let args = c .before .before .before .before .before .before .before .args in
     Ready (shownChecks (args .list) (args .k) (length (args .plan .now))) (args .list) (args .plan .now)
-    (c .before .before .before .before .settled-after .result) (c .untested-windows .result)
+    (c .before .before .before .before .settled-after .result) (c .unchecked-windows .result)
 ready c =
     let after = narrowed (c .before .before .before .before) in
-    is-ready after (λ e. shown-plan _ _ _ e .1) (c .before .before .enum-told .given .1) (c .untested-windows .ensures)
+    is-ready after (λ e. shown-plan _ _ _ e .1) (c .before .before .enum-told .given .1) (c .unchecked-windows .ensures)
 
 shown-checks-requires : tie.Need-shown-checks-requires
 shown-checks-requires c κs = search needs
@@ -47,8 +47,8 @@ enum-told-2 c = search needs
 returns : tie.Need-returns
 returns c = shown-refused (c .before .before .before .before .before .args .shown) (narrowed (c .before .before)) (c .enum-told2 .given .1)
 
-untested-windows-requires : tie.Need-untested-windows-requires
-untested-windows-requires c κs = search needs
+unchecked-windows-requires : tie.Need-unchecked-windows-requires
+unchecked-windows-requires c κs = search needs
 
 whole-at-requires : tie.Need-whole-at-requires
 whole-at-requires c κs = (shown-place (ready c) (long (c .before .before .before .before .before .before .before)), ready c .settled .few)
@@ -75,7 +75,7 @@ show-plan-spec =
     enum-told
     enum-told-2
     returns
-    untested-windows-requires
+    unchecked-windows-requires
     whole-at-requires
     store-shown-requires
     same-length

@@ -4,8 +4,7 @@ use borrow.Author.Needs.{needs}
 use mathlib.Core.Path.{refl, _∙_}
 use Prim.Native.Nat.{_-_}
 use lib.ListN.{getD}
-use Rattle.bounds.proofs.EndCases.{Placed, placed-none, placed-next, placed-all, formed-few}
-use Rattle.bounds.proofs.EndCases.{formed-in-mirror, mirror-end-in-day, starts-by-mirror}
+use Rattle.bounds.proofs.EndCases.{Placed, placed-none, placed-next, placed-all, formed-few, formed-in-mirror, mirror-end-in-day, starts-by-mirror}
 use Rattle.bounds.proofs.ends.greatest_starts.Statement.{statement}
 use Rattle.bounds.proofs.ends.greatest_starts.Tie as tie
 

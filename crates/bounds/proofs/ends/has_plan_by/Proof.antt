@@ -4,10 +4,9 @@ use borrow.Author.Needs.{needs}
 use mathlib.Core.Path.{_≡_, _∙_, ap}
 use native.Mathlib.Omega.{arith}
 use lib.ListN.{length}
-use Rattle.list.specs.Outcomes.{Outcome}
+use Rattle.base.specs.Outcomes.{Outcome, accepts}
 use Rattle.jackson.specs.Windows.{Windows}
 use Rattle.jackson.specs.Intervals.{overloadOf}
-use Rattle.narrow.specs.Searching.{accepts}
 use Rattle.narrow.proofs.ArrayCases.{held-d}
 use Rattle.bounds.proofs.ends.has_plan_by.Statement.{statement}
 use Rattle.bounds.proofs.ends.has_plan_by.Tie as tie
@@ -18,8 +17,8 @@ mul-trial c = search needs
 element-write-trial : tie.Need-element-write-trial
 element-write-trial c = search needs
 
-untested-overload-requires : tie.Need-untested-overload-requires
-untested-overload-requires c κs = search needs
+unchecked-overload-requires : tie.Need-unchecked-overload-requires
+unchecked-overload-requires c κs = search needs
 
 is-accepted-requires : tie.Need-is-accepted-requires
 is-accepted-requires c κs = search needs
@@ -30,7 +29,7 @@ returns c =
     let long : length (args .windows .d) ≡ 64 = search needs in
     let tried = held-d (args .windows) (args .k) (args .e) (omega (arith, long, c .before .before .pre)) in
     c .is-accepted .ensures
-    ∙ ap (λ (o : Outcome (Unit {0})). accepts o) (c .before .untested-overload .ensures)
+    ∙ ap (λ (o : Outcome (Unit {0})). accepts o) (c .before .unchecked-overload .ensures)
     ∙ ap (λ (w : Windows). accepts (overloadOf w)) tried
 
 pub has-plan-by-spec : {M : Type 1} → statement M
@@ -39,6 +38,6 @@ has-plan-by-spec =
     (tie.spec
     mul-trial
     element-write-trial
-    untested-overload-requires
+    unchecked-overload-requires
     is-accepted-requires
     returns)

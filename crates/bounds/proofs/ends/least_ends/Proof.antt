@@ -5,7 +5,7 @@ use mathlib.Core.Path.{_∙_}
 use Prim.Native.Nat.{_-_}
 use Rattle.jackson.specs.Windows.{windowsIn}
 use Rattle.jackson.specs.Intervals.{overloadOf}
-use Rattle.narrow.specs.Calls.{wholeIn}
+use Rattle.list.specs.DayLists.{wholeIn}
 use Rattle.bounds.specs.Ends.{leastEnd}
 use Rattle.bounds.specs.declared.shown.Shown.the-variants.{Early}
 use Rattle.bounds.proofs.EndCases.{bound-kind, Placed, placed-none, placed-next, placed-all, formed-few, searchable-at}

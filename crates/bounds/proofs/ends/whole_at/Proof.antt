@@ -3,7 +3,7 @@
 use borrow.Author.Needs.{needs}
 use mathlib.Core.Path.{_≡_}
 use lib.ListN.{length}
-use Rattle.list.proofs.Walk.{length-mapped}
+use Rattle.base.proofs.Walk.{length-mapped}
 use Rattle.bounds.proofs.EndCases.{kind-at}
 use Rattle.bounds.proofs.ends.whole_at.Statement.{statement}
 use Rattle.bounds.proofs.ends.whole_at.Tie as tie

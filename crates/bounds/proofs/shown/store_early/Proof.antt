@@ -19,8 +19,8 @@ mul-shown c = search (needs, c .before .before .pre .0 .place)
 element-write-shown : tie.Need-element-write-shown
 element-write-shown c = search (needs, c .before .before .pre .0 .place)
 
-untested-schedule-requires : tie.Need-untested-schedule-requires
-untested-schedule-requires c κs = search needs
+unchecked-schedule-requires : tie.Need-unchecked-schedule-requires
+unchecked-schedule-requires c κs = search needs
 
 same-length : tie.Need-same-length
 same-length c = search needs
@@ -30,7 +30,7 @@ returns c =
     let start = c .before .before .before .before .before .before in
     let args = start .args in
     let found = c .before .before .before .before .least-end in
-    let filled = c .before .before .untested-schedule in
+    let filled = c .before .before .unchecked-schedule in
     let long : length (args .windows .d) ≡ 64 = search needs in
     let same = held-d (args .windows) (args .k) (found .result) (omega (arith, long, start .pre .0 .place)) in
     stored-early (λ _. args .whole) (windowsIn (args .windows)) _ (args .k) (found .result) (args .plan .now) (filled .result) _ same
@@ -43,6 +43,6 @@ store-early-spec =
     least-end-requires
     mul-shown
     element-write-shown
-    untested-schedule-requires
+    unchecked-schedule-requires
     same-length
     returns)

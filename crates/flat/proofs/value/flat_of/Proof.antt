@@ -4,7 +4,7 @@ use borrow.Author.Needs.{needs}
 use mathlib.Core.Path.{_≡_}
 use Prim.Native.Nat.{_-_}
 use lib.ListN.{length}
-use Rattle.list.proofs.Walk.{length-mapped}
+use Rattle.base.proofs.Walk.{length-mapped}
 use Rattle.flat.proofs.FlatCases.{PutSoFar, put-start, put-next, put-done}
 use Rattle.flat.proofs.value.flat_of.Statement.{statement}
 use Rattle.flat.proofs.value.flat_of.Tie as tie

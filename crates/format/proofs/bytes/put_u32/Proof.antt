@@ -1,7 +1,7 @@
 -- `bytes::put_u32` meets its contract: the two halves one after the other.
 -- Assumes nothing.
 use borrow.Author.Needs.{needs}
-use Rattle.format.proofs.Stores.{wrote-then}
+use Rattle.base.proofs.Stores.{wrote-then}
 use Rattle.format.proofs.bytes.put_u32.Statement.{statement}
 use Rattle.format.proofs.bytes.put_u32.Tie as tie
 

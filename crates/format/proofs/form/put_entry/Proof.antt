@@ -4,10 +4,10 @@ use borrow.Author.Needs.{needs}
 use native.Mathlib.Omega.{arith}
 use Prim.Native.Nat.{_+_, _≤_}
 use lib.ListN.{length, set}
-use Rattle.format.specs.Numbers.{u32Bytes}
+use Rattle.format.specs.LittleEndian.{u32Bytes}
 use Rattle.format.specs.Forms.{sealBytes, timesBytes, entryBytes}
-use Rattle.format.specs.Parts.{Wrote}
-use Rattle.format.proofs.Stores.{wrote-one, wrote-length, room-first, room-after}
+use Rattle.base.specs.Storing.{Wrote}
+use Rattle.base.proofs.Stores.{wrote-one, wrote-length, room-first, room-after}
 use Rattle.format.proofs.FormCases.{afterMap, afterSerial, entry-length, entry-room, entry-stored}
 use Rattle.format.proofs.form.put_entry.Statement.{statement}
 use Rattle.format.proofs.form.put_entry.Tie as tie

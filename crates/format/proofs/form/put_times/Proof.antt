@@ -2,9 +2,9 @@
 -- Assumes nothing.
 use borrow.Author.Needs.{needs}
 use mathlib.Core.List.{_++_}
-use Rattle.format.specs.Numbers.{u16Bytes}
+use Rattle.format.specs.LittleEndian.{u16Bytes}
 use Rattle.format.specs.Forms.{minuteBytes}
-use Rattle.format.proofs.Stores.{room-first, room-after}
+use Rattle.base.proofs.Stores.{room-first, room-after}
 use Rattle.format.proofs.FormCases.{times-stored}
 use Rattle.format.proofs.form.put_times.Statement.{statement}
 use Rattle.format.proofs.form.put_times.Tie as tie

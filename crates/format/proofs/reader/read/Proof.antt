@@ -4,7 +4,7 @@ use borrow.Author.Needs.{needs}
 use mathlib.Core.Path.{_≡_, refl, ap}
 use Prim.Native.Nat.{ℕ}
 use Rattle.format.specs.Reading.{frameOf, countOf}
-use Rattle.list.proofs.Inversion.{by-accepted}
+use Rattle.list.proofs.Verdicts.{by-accepted}
 use Rattle.list.proofs.Sound.{header-of}
 use Rattle.format.proofs.ReadCases.{answers-refused, read-short, read-header, read-body}
 use Rattle.format.proofs.Promised.{reads}

@@ -6,7 +6,7 @@ use mathlib.Core.Path.{_≡_}
 use Prim.Native.Nat.{_+_, _≤_, _-_}
 use native.Mathlib.Omega.{arith}
 use lib.ListN.{length}
-use Rattle.list.proofs.Walk.{length-mapped}
+use Rattle.base.proofs.Walk.{length-mapped}
 use Rattle.format.proofs.WriteCases.{Counted, list-short, counted-start, counted-next, counted-done}
 use Rattle.format.proofs.writer.list_size.Statement.{statement}
 use Rattle.format.proofs.writer.list_size.Tie as tie

@@ -6,8 +6,8 @@ use mathlib.Core.Path.{_≡_, _∙_}
 use Prim.Native.Nat.{_≤_, _-_}
 use native.Mathlib.Omega.{arith}
 use lib.ListN.{length, length-set}
-use Rattle.list.proofs.Walk.{length-mapped}
-use Rattle.format.proofs.Stores.{wrote-length}
+use Rattle.base.proofs.Walk.{length-mapped}
+use Rattle.base.proofs.Stores.{wrote-length}
 use Rattle.format.proofs.WriteCases.{StoredSoFar, list-length, list-stored, stored-start, stored-room, stored-next, stored-done}
 use Rattle.format.proofs.writer.put_list.Statement.{statement}
 use Rattle.format.proofs.writer.put_list.Tie as tie

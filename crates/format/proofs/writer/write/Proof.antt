@@ -3,9 +3,9 @@
 use borrow.Author.Needs.{needs}
 use native.Mathlib.Omega.{arith}
 use Rattle.list.specs.Machine.{Typed}
-use Rattle.list.proofs.Walk.{length-mapped}
+use Rattle.base.proofs.Walk.{length-mapped}
 use Rattle.list.proofs.InTypes.{each-serial, each-seal}
-use Rattle.list.proofs.Inversion.{by-accepted}
+use Rattle.list.proofs.Verdicts.{by-accepted}
 use Rattle.format.proofs.WriteCases.{has-room}
 use Rattle.format.proofs.Promised.{write-refused, write-short, write-done}
 use Rattle.format.proofs.writer.write.Statement.{statement}

@@ -30,8 +30,8 @@ returns-2 c =
     let enum-told = c .before .before .before .enum-told in
     too-short (args .list) (args .plan .now) (start-day .result) (start-day .ensures) (enum-told .given .1) (c .if1 .taken)
 
-untested-overload-requires : tie.Need-untested-overload-requires
-untested-overload-requires c κs = search needs
+unchecked-overload-requires : tie.Need-unchecked-overload-requires
+unchecked-overload-requires c κs = search needs
 
 enum-told-3 : tie.Need-enum-told-3
 enum-told-3 c = search needs
@@ -45,9 +45,9 @@ returns-3 c =
     let start-day = c .before .before .before .before .before .before .before .before .start-day in
     let enum-told = c .before .before .before .before .before .before .enum-told in
     let if1 = c .before .before .before .if1 in
-    let untested-overload = c .before .before .untested-overload in
+    let unchecked-overload = c .before .before .unchecked-overload in
     not-planned (args .list) (args .plan .now) (start-day .result) (start-day .ensures) (enum-told .given .1) (if1 .left)
-    (untested-overload .result) (untested-overload .ensures) _ (c .enum-told4 .given .1)
+    (unchecked-overload .result) (unchecked-overload .ensures) _ (c .enum-told4 .given .1)
 
 store-places-requires : tie.Need-store-places-requires
 store-places-requires c κs = search needs
@@ -61,10 +61,10 @@ returns-4 c =
     let start-day = c .before .before .before .before .before .before .before .before .before .before .before .before .start-day in
     let enum-told = c .before .before .before .before .before .before .before .before .before .before .enum-told in
     let if1 = c .before .before .before .before .before .before .before .if1 in
-    let untested-overload = c .before .before .before .before .before .before .untested-overload in
+    let unchecked-overload = c .before .before .before .before .before .before .unchecked-overload in
     let enum-told3 = c .before .before .before .before .enum-told3 in
     planned (args .list) (args .plan .now) (start-day .result) (start-day .ensures) (enum-told .given .1) (if1 .left)
-    (untested-overload .result) (untested-overload .ensures) _ (enum-told3 .given .1) (c .before .before .store-places .ensures)
+    (unchecked-overload .result) (unchecked-overload .ensures) _ (enum-told3 .given .1) (c .before .before .store-places .ensures)
 
 pub schedule-spec : {M : Type 1} → statement M
 schedule-spec =
@@ -76,7 +76,7 @@ schedule-spec =
     returns
     cast-h
     returns-2
-    untested-overload-requires
+    unchecked-overload-requires
     enum-told-3
     enum-told-4
     returns-3

@@ -28,8 +28,8 @@ returns c =
     not-started (args .list) (check .result) (check .ensures) (no-windows .result) (c .day-start .result) (c .day-start .ensures) _
     (c .before .before .enum-told2 .given .1) (no-windows .ensures)
 
-untested-windows-requires : tie.Need-untested-windows-requires
-untested-windows-requires c κs = search needs
+unchecked-windows-requires : tie.Need-unchecked-windows-requires
+unchecked-windows-requires c κs = search needs
 
 day-start-requires-2 : tie.Need-day-start-requires-2
 day-start-requires-2 c κs = search needs
@@ -38,9 +38,9 @@ returns-2 : tie.Need-returns-2
 returns-2 c =
     let args = c .before .before .before .before .before .args in
     let check = c .before .before .before .before .check in
-    let untested-windows = c .before .untested-windows in
-    started (args .list) (check .result) (check .ensures) (untested-windows .result) (c .day-start2 .result) (c .day-start2 .ensures)
-    (c .before .before .enum-told .given .1) (untested-windows .ensures)
+    let unchecked-windows = c .before .unchecked-windows in
+    started (args .list) (check .result) (check .ensures) (unchecked-windows .result) (c .day-start2 .result) (c .day-start2 .ensures)
+    (c .before .before .enum-told .given .1) (unchecked-windows .ensures)
 
 pub start-day-spec : {M : Type 1} → statement M
 start-day-spec =
@@ -52,6 +52,6 @@ start-day-spec =
     no-windows-requires
     day-start-requires
     returns
-    untested-windows-requires
+    unchecked-windows-requires
     day-start-requires-2
     returns-2)

@@ -3,11 +3,11 @@
 use borrow.Author.Needs.{needs}
 use Prim.Native.Nat.{ℕ, _-_}
 use lib.ListN.{getD}
-use Rattle.jackson.specs.Counting.{larger}
+use Rattle.base.specs.Counting.{larger}
 use Rattle.jackson.specs.Windows.{columns}
 use Rattle.jackson.specs.Intervals.{leftOf, leftEnd}
-use Rattle.jackson.proofs.Scans.{larger-ranks}
-use Rattle.jackson.proofs.ScanSteps.{Searched, search-start, search-next, search-done, search-in}
+use Rattle.base.proofs.Scans.{larger-ranks}
+use Rattle.jackson.proofs.ScanCases.{Searched, search-start, search-next, search-done, search-in}
 use Rattle.jackson.proofs.interval.left_end.Statement.{statement}
 use Rattle.jackson.proofs.interval.left_end.Tie as tie
 

@@ -20,19 +20,19 @@ returns c =
     let check = c .before .before .check in
     not-tested (args .list) (check .result) (check .ensures) _ (c .enum-told2 .given .1)
 
-untested-windows-requires : tie.Need-untested-windows-requires
-untested-windows-requires c κs = search needs
+unchecked-windows-requires : tie.Need-unchecked-windows-requires
+unchecked-windows-requires c κs = search needs
 
-untested-overload-requires : tie.Need-untested-overload-requires
-untested-overload-requires c κs = search needs
+unchecked-overload-requires : tie.Need-unchecked-overload-requires
+unchecked-overload-requires c κs = search needs
 
 returns-2 : tie.Need-returns-2
 returns-2 c =
     let args = c .before .before .before .before .before .args in
     let check = c .before .before .before .before .check in
-    let untested-windows = c .before .untested-windows in
-    tested (args .list) (check .result) (check .ensures) (c .untested-overload .result) (untested-windows .result)
-    (c .before .before .enum-told .given .1) (untested-windows .ensures) (c .untested-overload .ensures)
+    let unchecked-windows = c .before .unchecked-windows in
+    tested (args .list) (check .result) (check .ensures) (c .unchecked-overload .result) (unchecked-windows .result)
+    (c .before .before .enum-told .given .1) (unchecked-windows .ensures) (c .unchecked-overload .ensures)
 
 pub overload-spec : {M : Type 1} → statement M
 overload-spec =
@@ -42,6 +42,6 @@ overload-spec =
     enum-told
     enum-told-2
     returns
-    untested-windows-requires
-    untested-overload-requires
+    unchecked-windows-requires
+    unchecked-overload-requires
     returns-2)

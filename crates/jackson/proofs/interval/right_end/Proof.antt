@@ -3,11 +3,11 @@
 use borrow.Author.Needs.{needs}
 use Prim.Native.Nat.{ℕ, _-_}
 use lib.ListN.{getD}
-use Rattle.jackson.specs.Counting.{smaller}
+use Rattle.base.specs.Counting.{smaller}
 use Rattle.jackson.specs.Windows.{columns}
 use Rattle.jackson.specs.Intervals.{rightOf, rightEnd}
-use Rattle.jackson.proofs.Scans.{smaller-ranks}
-use Rattle.jackson.proofs.ScanSteps.{Searched, search-start, search-next, search-done, search-in}
+use Rattle.base.proofs.Scans.{smaller-ranks}
+use Rattle.jackson.proofs.ScanCases.{Searched, search-start, search-next, search-done, search-in}
 use Rattle.jackson.proofs.interval.right_end.Statement.{statement}
 use Rattle.jackson.proofs.interval.right_end.Tie as tie
 

@@ -5,7 +5,7 @@ use mathlib.Core.Logic.{⊎-elim}
 use mathlib.Core.Path.{_≡_}
 use native.Mathlib.Omega.{arith}
 use lib.ListN.{length}
-use Rattle.list.proofs.Walk.{length-mapped}
+use Rattle.base.proofs.Walk.{length-mapped}
 use Rattle.jackson.proofs.MinuteCases.{after-place, after-none}
 use Rattle.jackson.proofs.minute.advanced.Statement.{statement}
 use Rattle.jackson.proofs.minute.advanced.Tie as tie

@@ -4,12 +4,12 @@ use borrow.Author.Needs.{needs}
 use Prim.Native.Nat.{ℕ, _-_}
 use native.Mathlib.Omega.{arith}
 use lib.ListN.{getD}
-use Rattle.jackson.specs.Counting.{smaller}
+use Rattle.base.specs.Counting.{smaller}
 use Rattle.jackson.specs.Plans.{idle}
 use Rattle.jackson.specs.Minutes.{isReady}
-use Rattle.jackson.specs.Parts.{stateAt}
-use Rattle.jackson.proofs.Scans.{smaller-ranks}
-use Rattle.jackson.proofs.ScanSteps.{Searched, search-start, search-next, search-done, search-found}
+use Rattle.jackson.specs.Internal.{stateAt}
+use Rattle.base.proofs.Scans.{smaller-ranks}
+use Rattle.jackson.proofs.ScanCases.{Searched, search-start, search-next, search-done, search-found}
 use Rattle.jackson.proofs.minute.earliest_deadline.Statement.{statement}
 use Rattle.jackson.proofs.minute.earliest_deadline.Tie as tie
 

@@ -8,8 +8,8 @@ use native.Mathlib.Omega.{arith}
 use lib.ListN.{length, drop}
 use Rattle.list.specs.DayLists.{entriesOf}
 use Rattle.list.specs.Checks.{checkOf, entriesFault}
-use Rattle.list.proofs.Walk.{length-mapped}
-use Rattle.list.proofs.Inversion.{by-accepted}
+use Rattle.base.proofs.Walk.{length-mapped}
+use Rattle.list.proofs.Verdicts.{by-accepted}
 use Rattle.list.proofs.Sound.{header-of}
 use Rattle.list.proofs.CheckCases.{check-header, check-entries, check-refused, check-next, check-done}
 use Rattle.list.proofs.checks.check.Statement.{statement}

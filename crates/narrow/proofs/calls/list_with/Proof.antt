@@ -5,7 +5,7 @@ use mathlib.Core.Path.{_≡_, ap}
 use Prim.Native.Nat.{_-_}
 use lib.ListN.{length}
 use Rattle.list.specs.declared.types.DayList.{DayList}
-use Rattle.list.proofs.Walk.{length-mapped}
+use Rattle.base.proofs.Walk.{length-mapped}
 use Rattle.jackson.specs.Windows.{windowsIn}
 use Rattle.narrow.proofs.ListCases.{Filled, filled-none, filled-next, filled-all}
 use Rattle.narrow.proofs.calls.list_with.Statement.{statement}

@@ -3,7 +3,7 @@
 use borrow.Author.Needs.{needs}
 use mathlib.Core.Path.{_≡_}
 use lib.ListN.{length}
-use Rattle.list.proofs.Walk.{length-mapped}
+use Rattle.base.proofs.Walk.{length-mapped}
 use Rattle.narrow.proofs.CallCases.{list-countable, check-passed, check-few, settle-turned, settle-overloaded, settle-found}
 use Rattle.narrow.proofs.calls.settle.Statement.{statement}
 use Rattle.narrow.proofs.calls.settle.Tie as tie
@@ -31,11 +31,11 @@ returns c =
     settle-turned (args .list) (check .result) (check .ensures) (c .refused-with .result) _ (c .before .enum-told2 .given .1)
     (c .refused-with .ensures)
 
-untested-windows-requires : tie.Need-untested-windows-requires
-untested-windows-requires c κs = search needs
+unchecked-windows-requires : tie.Need-unchecked-windows-requires
+unchecked-windows-requires c κs = search needs
 
-untested-overload-requires : tie.Need-untested-overload-requires
-untested-overload-requires c κs = search needs
+unchecked-overload-requires : tie.Need-unchecked-overload-requires
+unchecked-overload-requires c κs = search needs
 
 enum-told-3 : tie.Need-enum-told-3
 enum-told-3 c = search needs
@@ -51,10 +51,10 @@ returns-2 c =
     let args = c .before .before .before .before .before .before .before .before .args in
     let check = c .before .before .before .before .before .before .before .check in
     let enum-told = c .before .before .before .before .before .enum-told in
-    let untested-windows = c .before .before .before .before .untested-windows in
-    let untested-overload = c .before .before .before .untested-overload in
-    settle-overloaded (args .list) (check .result) (check .ensures) (enum-told .given .1) (untested-windows .result)
-    (untested-windows .ensures) (c .refused-with2 .result) (untested-overload .result) (untested-overload .ensures) _
+    let unchecked-windows = c .before .before .before .before .unchecked-windows in
+    let unchecked-overload = c .before .before .before .unchecked-overload in
+    settle-overloaded (args .list) (check .result) (check .ensures) (enum-told .given .1) (unchecked-windows .result)
+    (unchecked-windows .ensures) (c .refused-with2 .result) (unchecked-overload .result) (unchecked-overload .ensures) _
     (c .before .enum-told4 .given .1) (c .refused-with2 .ensures)
 
 all-rounds-requires : tie.Need-all-rounds-requires
@@ -62,8 +62,8 @@ all-rounds-requires c κs =
     let start = c .before .before .before .before .before .before .before in
     let check = c .before .before .before .before .before .before .check in
     let formed = check-passed (start .args .list) _ (check .ensures) (c .before .before .before .before .enum-told .given .1) in
-    let untested-windows = c .before .before .before .untested-windows in
-    list-countable (start .args .list) (untested-windows .result) (long start) formed (untested-windows .ensures)
+    let unchecked-windows = c .before .before .before .unchecked-windows in
+    list-countable (start .args .list) (unchecked-windows .result) (long start) formed (unchecked-windows .ensures)
 
 answer-with-requires : tie.Need-answer-with-requires
 answer-with-requires c κs =
@@ -77,11 +77,11 @@ returns-3 c =
     let args = c .before .before .before .before .before .before .before .before .before .args in
     let check = c .before .before .before .before .before .before .before .before .check in
     let enum-told = c .before .before .before .before .before .before .enum-told in
-    let untested-windows = c .before .before .before .before .before .untested-windows in
-    let untested-overload = c .before .before .before .before .untested-overload in
+    let unchecked-windows = c .before .before .before .before .before .unchecked-windows in
+    let unchecked-overload = c .before .before .before .before .unchecked-overload in
     let all-rounds = c .before .all-rounds in
-    settle-found (args .list) (check .result) (check .ensures) (enum-told .given .1) (untested-windows .result) (untested-windows .ensures)
-    (c .answer-with .result) (untested-overload .result) (untested-overload .ensures) (c .before .before .enum-told3 .given .1)
+    settle-found (args .list) (check .result) (check .ensures) (enum-told .given .1) (unchecked-windows .result) (unchecked-windows .ensures)
+    (c .answer-with .result) (unchecked-overload .result) (unchecked-overload .ensures) (c .before .before .enum-told3 .given .1)
     (all-rounds .result) (all-rounds .ensures) (c .answer-with .ensures)
 
 pub settle-spec : {M : Type 1} → statement M
@@ -93,8 +93,8 @@ settle-spec =
     enum-told-2
     refused-with-requires
     returns
-    untested-windows-requires
-    untested-overload-requires
+    unchecked-windows-requires
+    unchecked-overload-requires
     enum-told-3
     enum-told-4
     refused-with-requires-2

@@ -3,7 +3,7 @@
 use borrow.Author.Needs.{needs}
 use Rattle.jackson.specs.Windows.{windowsIn}
 use Rattle.narrow.specs.Rounds.{slack}
-use Rattle.narrow.specs.Calls.{wholeIn}
+use Rattle.list.specs.DayLists.{wholeIn}
 use Rattle.narrow.proofs.VisitCases.{Rounded, rounded-none, rounded-stopped, rounded-last, rounded-less, rounded-next}
 use Rattle.narrow.proofs.rounds.all_rounds.Statement.{statement}
 use Rattle.narrow.proofs.rounds.all_rounds.Tie as tie

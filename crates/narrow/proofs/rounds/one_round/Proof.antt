@@ -4,8 +4,8 @@ use borrow.Author.Needs.{needs}
 use mathlib.Core.Path.{_≡_}
 use Prim.Native.Nat.{_-_}
 use lib.ListN.{length}
-use Rattle.list.proofs.Walk.{length-mapped}
-use Rattle.narrow.specs.Parts.{stateOf}
+use Rattle.base.proofs.Walk.{length-mapped}
+use Rattle.narrow.specs.Internal.{stateOf}
 use Rattle.narrow.proofs.VisitCases.{Visited, visited-none, next-ready, next-few, visited-next, visited-stopped, visited-all}
 use Rattle.narrow.proofs.rounds.one_round.Statement.{statement}
 use Rattle.narrow.proofs.rounds.one_round.Tie as tie

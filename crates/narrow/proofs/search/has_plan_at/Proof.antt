@@ -4,10 +4,9 @@ use borrow.Author.Needs.{needs}
 use mathlib.Core.Path.{_≡_, _∙_, ap}
 use native.Mathlib.Omega.{arith}
 use lib.ListN.{length}
-use Rattle.list.specs.Outcomes.{Outcome}
+use Rattle.base.specs.Outcomes.{Outcome, accepts}
 use Rattle.jackson.specs.Windows.{Windows}
 use Rattle.jackson.specs.Intervals.{overloadOf}
-use Rattle.narrow.specs.Searching.{accepts}
 use Rattle.narrow.proofs.ArrayCases.{held-fixed}
 use Rattle.narrow.proofs.search.has_plan_at.Statement.{statement}
 use Rattle.narrow.proofs.search.has_plan_at.Tie as tie
@@ -33,8 +32,8 @@ mul-trial-3 c = search needs
 element-write-trial-2 : tie.Need-element-write-trial-2
 element-write-trial-2 c = search needs
 
-untested-overload-requires : tie.Need-untested-overload-requires
-untested-overload-requires c κs = search needs
+unchecked-overload-requires : tie.Need-unchecked-overload-requires
+unchecked-overload-requires c κs = search needs
 
 is-accepted-requires : tie.Need-is-accepted-requires
 is-accepted-requires c κs = search needs
@@ -45,7 +44,7 @@ returns c =
     let args = c .before .before .before .args in
     let a : length (args .t1 .r) ≡ 64 = search needs in
     let b : length (args .t1 .d) ≡ 64 = search needs in
-    c .is-accepted .ensures ∙ ap (λ (o : Outcome (Unit {0})). accepts o) (c .before .untested-overload .ensures) ∙ ap
+    c .is-accepted .ensures ∙ ap (λ (o : Outcome (Unit {0})). accepts o) (c .before .unchecked-overload .ensures) ∙ ap
     (λ (w : Windows). accepts (overloadOf w))
     (held-fixed (args .t1) (args .k) (args .s) (omega (arith, a, pre .0 .place)) (omega (arith, b, pre .0 .place)))
 
@@ -60,6 +59,6 @@ has-plan-at-spec =
     add-trial
     mul-trial-3
     element-write-trial-2
-    untested-overload-requires
+    unchecked-overload-requires
     is-accepted-requires
     returns)

@@ -1,18 +1,25 @@
--- Number and values tell one verdict, and one answer of a writer.
+-- What a verdict tells of the outcome that it says; number and values tell one verdict, and one answer of a writer.
 -- Assumes nothing.
 use mathlib.Core.Path.{_≡_, refl, sym, ap, _∙_}
 use mathlib.Core.Bool.{cond}
 use lib.Dec.{eqb}
 use lib.ListN.{getD}
-use Rattle.list.specs.Outcomes.{Code}
-use Rattle.list.specs.Refusals.{codeOf, outcomeOf, writeAnswerOf}
+use Rattle.base.specs.Outcomes.{Code, Outcome, answered, refused}
+use Rattle.list.specs.Refusals.{codeOf, outcomeOf, verdictOf, writeAnswerOf}
 use Rattle.list.specs.declared.types.Refusal.{Refusal}
 use Rattle.list.specs.declared.types.Refusal.the-variants.{BytesMissing, BadDayLength, TooManyEntries, BadMapByte, DefaultWritten, NoMinutes, BadWindow, BytesLeftOver, Overloaded, NoPlace, PlanBufferShort, ListBufferShort, UnknownPlace}
 use Rattle.list.specs.declared.types.Verdict.{Verdict}
 use Rattle.list.specs.declared.types.Verdict.the-variants.{Accepted, Refused}
 use Rattle.list.specs.declared.types.WriteAnswer.{WriteAnswer}
 use Rattle.list.specs.declared.types.WriteAnswer.the-variants.{Written, NotWritten}
-use Rattle.list.proofs.Inversion.{answered-refused, refused-same}
+use Rattle.base.proofs.Inversion.{answered-refused, refused-same}
+
+-- what a test's verdict tells of the outcome that it says
+pub by-accepted : {o : Outcome (Unit {0})} {v : Verdict} → verdictOf v ≡ o → v ≡ Accepted → o ≡ answered tt
+by-accepted says e = sym says ∙ ap verdictOf e
+
+pub by-refused : {o : Outcome (Unit {0})} {v : Verdict} {x : Refusal} → verdictOf v ≡ o → v ≡ Refused x → o ≡ refused (codeOf x)
+by-refused says e = sym says ∙ ap verdictOf e
 
 -- the refusal with these number and values
 abbrev refusalOf : Code → Refusal

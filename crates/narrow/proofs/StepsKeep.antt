@@ -7,14 +7,13 @@ use Prim.Native.Nat.{ℕ, _+_, _<_, _≤_}
 use native.Mathlib.Omega.{arith}
 use borrow.Author.Tests.{eqb-false, le-ltb}
 use lib.Dec.{eqb}
-use Rattle.list.specs.Outcomes.{Code, code, answered}
-use Rattle.list.proofs.Inversion.{Says, by-row, by-step}
-use Rattle.jackson.specs.Windows.{Windows, Inside, withWindows}
+use Rattle.base.specs.Outcomes.{Code, code, answered}
+use Rattle.base.proofs.Inversion.{Says, by-row, by-step}
+use Rattle.jackson.specs.Windows.{Windows, Inside, withWindows, withR, Formed}
 use Rattle.jackson.specs.Mirrors.{mirror}
-use Rattle.jackson.proofs.Searches.{first-below}
-use Rattle.narrow.specs.Searching.{Test, withR, trials, failedStarts, leastStart}
+use Rattle.base.proofs.Searches.{first-below}
+use Rattle.narrow.specs.Searching.{Test, trials, failedStarts, leastStart}
 use Rattle.narrow.specs.Rounds.{Side, earliest, latest, step}
-use Rattle.narrow.specs.Laws.{Formed}
 use Rattle.narrow.proofs.Puts.{place-cases, put-other}
 use Rattle.narrow.proofs.MirrorSearches.{formed-mirror, mirror-back, mirror-r, mirror-d, mirrorTest, any-in-mirror, step-mirror}
 

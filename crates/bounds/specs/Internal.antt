@@ -4,12 +4,11 @@ use mathlib.Core.Path.{_≡_}
 use mathlib.Core.Bool.{Bool}
 use mathlib.Core.List.{List, _++_}
 use lib.ListN.{length, take, drop}
-use Rattle.list.specs.Outcomes.{Outcome}
+use Rattle.base.specs.Outcomes.{Outcome}
 use Rattle.list.specs.declared.types.DayList.{DayList}
-use Rattle.jackson.specs.Windows.{Windows, windowsOf, windowsIn}
+use Rattle.jackson.specs.Windows.{Windows, windowsOf, windowsIn, Formed}
 use Rattle.jackson.specs.Plans.{Plan, placesIn}
 use Rattle.jackson.specs.declared.types.WindowSet.{WindowSet}
-use Rattle.narrow.specs.Laws.{Formed}
 use Rattle.narrow.specs.Calls.{AnswersAs, HoldsAnswer}
 use Rattle.narrow.specs.declared.types.NarrowAnswer.{NarrowAnswer}
 use Rattle.bounds.specs.declared.shown.Shown.{Shown}

@@ -6,8 +6,8 @@ use Prim.Native.Nat.{ℕ, zero, suc, _<_}
 use native.Mathlib.Omega.{arith}
 use lib.ListN.{length, getD, length-append, List·getD-append}
 use lib.Seq.{getD-append-seam, ext-getD}
-use Rattle.jackson.specs.Counting.{listOf}
-use Rattle.jackson.proofs.Sums.{below-suc}
+use Rattle.base.specs.Counting.{listOf}
+use Rattle.base.proofs.Sums.{below-suc}
 
 -- it has n values
 pub list-length : (n : ℕ) (f : ℕ → ℕ) → length (listOf n f) ≡ n

@@ -4,7 +4,7 @@ use mathlib.Core.Path.{_≡_}
 use mathlib.Core.List.{List}
 use lib.ListN.{length}
 use lib.Seq.{sets}
-use Rattle.list.specs.Outcomes.{Outcome}
+use Rattle.base.specs.Outcomes.{Outcome}
 use Rattle.list.specs.Refusals.{readAnswerOf}
 use Rattle.format.specs.Reading.{listOr}
 use Rattle.list.specs.declared.types.DayList.{DayList}
@@ -14,8 +14,3 @@ use Rattle.list.specs.declared.types.ReadAnswer.{ReadAnswer}
 pub record AnswersAs (o : Outcome DayList) (a : ReadAnswer) : Type 0 where
   pub outcome : readAnswerOf a ≡ o
   pub beside : a .list ≡ listOr o
-
--- A step of the writer: it stores a text from place at on, and answers the place after it.
-pub record Wrote (old : List ℕ) (at : ℕ) (text new : List ℕ) (next : ℕ) : Type 0 where
-  pub place : next ≡ at + length text
-  pub stored : new ≡ sets old at text

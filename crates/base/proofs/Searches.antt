@@ -4,8 +4,8 @@ use mathlib.Core.Path.{_≡_, refl, sym, ap, _∙_}
 use mathlib.Core.Bool.{Bool, true, false, cond, false≢true}
 use Prim.Native.Nat.{ℕ, zero, suc, _-_, _<_, _≤_}
 use native.Mathlib.Omega.{arith}
-use Rattle.jackson.specs.Counting.{firstBelow, lastBelow}
-use Rattle.jackson.proofs.Sums.{le-or-lt}
+use Rattle.base.specs.Counting.{firstBelow, lastBelow}
+use Rattle.base.proofs.Sums.{le-or-lt}
 
 -- t passes and is below n, or is n; nothing below it passes
 pub record First (n : ℕ) (f : ℕ → Bool) (t : ℕ) : Type 0 where

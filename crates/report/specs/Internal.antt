@@ -5,9 +5,9 @@ use mathlib.Core.Bool.{cond}
 use mathlib.Core.List.{List, [], _∷_, _++_}
 use lib.ListN.{length, getD}
 use lib.Dec.{eqb}
-use Rattle.list.specs.Outcomes.{Outcome, answered, refused}
+use Rattle.base.specs.Outcomes.{Outcome, answered, refused}
 use Rattle.list.specs.Refusals.{codeOf}
-use Rattle.format.specs.Parts.{Wrote}
+use Rattle.base.specs.Storing.{Wrote}
 use Rattle.list.specs.declared.types.Entry.{Entry}
 use Rattle.list.specs.declared.types.WriteAnswer.{WriteAnswer}
 use Rattle.list.specs.declared.types.WriteAnswer.the-variants.{Written, NotWritten}

@@ -3,8 +3,8 @@
 use borrow.Author.Needs.{needs}
 use Rattle.jackson.specs.Windows.{windowsIn}
 use Rattle.jackson.proofs.CallCases.{no-room, has-room}
-use Rattle.jackson.proofs.fill.untested_schedule.Statement.{statement}
-use Rattle.jackson.proofs.fill.untested_schedule.Tie as tie
+use Rattle.jackson.proofs.fill.unchecked_schedule.Statement.{statement}
+use Rattle.jackson.proofs.fill.unchecked_schedule.Tie as tie
 
 cast-h : tie.Need-cast-h
 cast-h c = search needs
@@ -29,7 +29,7 @@ returns-2 c =
     has-room (windowsIn (args .windows)) (args .plan .now) _ (if1 .left)
     (rw (day-start .ensures) at (c .before .before .store-places .ensures))
 
-pub untested-schedule-spec : {M : Type 1} → statement M
-untested-schedule-spec =
+pub unchecked-schedule-spec : {M : Type 1} → statement M
+unchecked-schedule-spec =
     tie.close
     (tie.spec cast-h returns day-start-requires store-places-requires same-length returns-2)

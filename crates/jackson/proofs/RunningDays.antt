@@ -5,12 +5,12 @@ use mathlib.Core.Path.{_≡_}
 use Prim.Native.Nat.{ℕ, suc, _+_, _-_, _≤_, _<_}
 use native.Mathlib.Nat.{max-zero}
 use native.Mathlib.Omega.{arith}
-use Rattle.jackson.specs.Counting.{sum, same}
+use Rattle.base.specs.Counting.{sum, same}
 use Rattle.jackson.specs.Windows.{Windows, withLeft, restFrom}
 use Rattle.jackson.specs.Plans.{minutesOf, Plan}
 use Rattle.jackson.specs.Intervals.{work, Fits}
 use Rattle.jackson.specs.Rules.{Ready, Follows}
-use Rattle.jackson.proofs.Sums.{le-or-lt, from-to, same-cases, same-ne, sum-zero}
+use Rattle.base.proofs.Sums.{le-or-lt, from-to, same-cases, same-ne, sum-zero}
 use Rattle.jackson.proofs.Counted.{counted, counted-is, work-over, work-under}
 use Rattle.jackson.proofs.OneMinute.{minute-fits}
 

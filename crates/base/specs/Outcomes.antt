@@ -1,6 +1,6 @@
 -- What a call answers, and how the rows of "Where a list is turned back" are tested.
 use Prim.Native.Nat.{ℕ}
-use mathlib.Core.Bool.{Bool, cond}
+use mathlib.Core.Bool.{Bool, true, false, cond}
 use mathlib.Core.List.{List, [], _∷_}
 
 -- a refusal: its number and the values that it carries
@@ -34,3 +34,8 @@ firstOf (w ∷ ws) a = cond (w .holds) (refused (w .refusal)) (firstOf ws a)
 abbrev pub andThen : {A B : Type 0} → Outcome A → (A → Outcome B) → Outcome B
 andThen (answered a) f = f a
 andThen (refused k) f = refused k
+
+-- whether an outcome is no refusal
+abbrev pub accepts : {A : Type 0} → Outcome A → Bool
+accepts (answered a) = true
+accepts (refused k) = false

@@ -3,7 +3,7 @@ use Prim.Native.Nat.{ℕ}
 use mathlib.Core.Path.{_≡_}
 use mathlib.Core.List.{List}
 use lib.ListN.{length, take}
-use Rattle.list.specs.Outcomes.{answered}
+use Rattle.base.specs.Outcomes.{answered}
 use Rattle.list.specs.Refusals.{readAnswerOf, writeAnswerOf}
 use Rattle.list.specs.DayLists.{SameList}
 use Rattle.list.specs.Checks.{WellFormed}

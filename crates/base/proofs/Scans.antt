@@ -6,8 +6,8 @@ use Prim.Native.Nat.{ℕ, zero, suc, _<_, _≤_}
 use native.Mathlib.Omega.{arith}
 use borrow.Author.Tests.{ltb-true, ltb-false, lt-ltb, eq-eqb, ne-eqb}
 use lib.Dec.{eqb, ltb}
-use Rattle.jackson.specs.Counting.{best, smaller, larger}
-use Rattle.jackson.proofs.Sums.{below-suc}
+use Rattle.base.specs.Counting.{best, smaller, larger}
+use Rattle.base.proofs.Sums.{below-suc}
 
 -- a test that does not pass
 pub not-ltb : (a b : ℕ) → (ltb a b ≡ true → ⊥) → b ≤ a

@@ -3,10 +3,10 @@
 use borrow.Author.Needs.{needs}
 use mathlib.Core.Path.{_≡_}
 use lib.ListN.{length}
-use Rattle.list.proofs.Walk.{length-mapped}
+use Rattle.base.proofs.Walk.{length-mapped}
 use Rattle.narrow.proofs.CallCases.{list-countable, check-passed, check-few, round-turned, round-found}
-use Rattle.narrow.proofs.calls.untested_round.Statement.{statement}
-use Rattle.narrow.proofs.calls.untested_round.Tie as tie
+use Rattle.narrow.proofs.calls.unchecked_round.Statement.{statement}
+use Rattle.narrow.proofs.calls.unchecked_round.Tie as tie
 
 -- the array has 64 entries
 long : (c : tie.Start) → length (c .args .list .entries) ≡ 64
@@ -31,15 +31,15 @@ returns c =
     round-turned (args .list) (check .result) (check .ensures) (c .refused-with .result) _ (c .before .enum-told2 .given .1)
     (c .refused-with .ensures)
 
-untested-windows-requires : tie.Need-untested-windows-requires
-untested-windows-requires c κs = search needs
+unchecked-windows-requires : tie.Need-unchecked-windows-requires
+unchecked-windows-requires c κs = search needs
 
 one-round-requires : tie.Need-one-round-requires
 one-round-requires c κs =
     let start = c .before .before .before .before in
     let check = c .before .before .before .check in
     let formed = check-passed (start .args .list) _ (check .ensures) (c .before .enum-told .given .1) in
-    list-countable (start .args .list) (c .untested-windows .result) (long start) formed (c .untested-windows .ensures)
+    list-countable (start .args .list) (c .unchecked-windows .result) (long start) formed (c .unchecked-windows .ensures)
 
 answer-with-requires : tie.Need-answer-with-requires
 answer-with-requires c κs =
@@ -52,13 +52,13 @@ returns-2 c =
     let args = c .before .before .before .before .before .before .args in
     let check = c .before .before .before .before .before .check in
     let enum-told = c .before .before .before .enum-told in
-    let untested-windows = c .before .before .untested-windows in
+    let unchecked-windows = c .before .before .unchecked-windows in
     let one-round = c .before .one-round in
-    round-found (args .list) (check .result) (check .ensures) (enum-told .given .1) (untested-windows .result) (untested-windows .ensures)
+    round-found (args .list) (check .result) (check .ensures) (enum-told .given .1) (unchecked-windows .result) (unchecked-windows .ensures)
     (c .answer-with .result) (one-round .result) (one-round .ensures) (c .answer-with .ensures)
 
-pub untested-round-spec : {M : Type 1} → statement M
-untested-round-spec =
+pub unchecked-round-spec : {M : Type 1} → statement M
+unchecked-round-spec =
     tie.close
     (tie.spec
     check-requires
@@ -66,7 +66,7 @@ untested-round-spec =
     enum-told-2
     refused-with-requires
     returns
-    untested-windows-requires
+    unchecked-windows-requires
     one-round-requires
     answer-with-requires
     returns-2)

@@ -1,14 +1,10 @@
 -- What an outcome says of the steps that led to it: one fact for the answer and one for the refusal go from step to step.
 -- Assumes nothing.
-use mathlib.Core.Path.{_≡_, refl, sym, ap, _∙_}
+use mathlib.Core.Path.{_≡_, refl}
 use mathlib.Core.Bool.{Bool, true, false, cond, _||_, true≢false}
 use Prim.Native.Nat.{ℕ}
 use native.Mathlib.Omega.{arith}
-use Rattle.list.specs.Outcomes.{Code, Outcome, answered, refused, andThen}
-use Rattle.list.specs.Refusals.{codeOf, verdictOf}
-use Rattle.list.specs.declared.types.Refusal.{Refusal}
-use Rattle.list.specs.declared.types.Verdict.{Verdict}
-use Rattle.list.specs.declared.types.Verdict.the-variants.{Accepted, Refused}
+use Rattle.base.specs.Outcomes.{Code, Outcome, answered, refused, andThen}
 
 -- an outcome answers one thing or refuses by one code, and not both
 pub answered-same : {A : Type 0} {o : Outcome A} {a b : A} → o ≡ answered a → o ≡ answered b → a ≡ b
@@ -19,13 +15,6 @@ refused-same e f = cc (e, f)
 
 pub answered-refused : {A : Type 0} {o : Outcome A} {a : A} {x : Code} → o ≡ answered a → o ≡ refused x → ⊥
 answered-refused e f = let z : _≡_ {A = ℕ} 0 1 = cc (e, f) in omega arith
-
--- what a test's verdict tells of the outcome that it says
-pub by-accepted : {o : Outcome (Unit {0})} {v : Verdict} → verdictOf v ≡ o → v ≡ Accepted → o ≡ answered tt
-by-accepted says e = sym says ∙ ap verdictOf e
-
-pub by-refused : {o : Outcome (Unit {0})} {v : Verdict} {x : Refusal} → verdictOf v ≡ o → v ≡ Refused x → o ≡ refused (codeOf x)
-by-refused says e = sym says ∙ ap verdictOf e
 
 -- P of what is answered, R of a refusal
 abbrev pub Says : {A : Type 0} → (A → Type 0) → (Code → Type 0) → Outcome A → Type 0

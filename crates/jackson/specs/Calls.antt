@@ -1,23 +1,43 @@
--- Planning the windows of a list as they are given: a day's minutes, starting a day, and filling a lent plan buffer.
+-- What the public functions promise: the windows of a list, the overload test, a day's minutes, starting a day, and filling a plan buffer.
 use Prim.Native.Nat.{ℕ}
 use mathlib.Core.Path.{_≡_}
 use mathlib.Core.List.{List, [], _∷_, _++_}
 use lib.ListN.{length, take, drop}
 use lib.Dec.{ltb}
-use Rattle.list.specs.Outcomes.{Outcome, answered, refused, Row, row, firstOf, andThen}
+use Rattle.base.specs.Outcomes.{Code, Outcome, answered, refused, Row, row, firstOf, andThen}
 use Rattle.list.specs.Refusals.{verdictOf}
 use Rattle.list.specs.Checks.{checkOf}
 use Rattle.list.specs.DayLists.{emptyList}
 use Rattle.list.specs.declared.types.DayList.{DayList}
 use Rattle.list.specs.declared.types.Verdict.{Verdict}
-use Rattle.jackson.specs.Windows.{Windows, windowsOf}
-use Rattle.jackson.specs.Plans.{PlanBytes}
-use Rattle.jackson.specs.Intervals.{overloadOf}
+use Rattle.jackson.specs.Windows.{Windows, windowsOf, windowsIn}
+use Rattle.jackson.specs.Plans.{Plannable, PlanBytes}
+use Rattle.jackson.specs.Intervals.{ShowsOverload, overloadOf}
 use Rattle.jackson.specs.Minutes.{stateOf, dayStart, schedule, minuteOf}
-use Rattle.jackson.specs.Testing.{Decides}
+use Rattle.jackson.specs.declared.types.WindowSet.{WindowSet}
 use Rattle.jackson.specs.declared.types.Day.{Day}
 use Rattle.jackson.specs.declared.types.Minute.{Minute}
 use Rattle.jackson.specs.declared.types.DayAnswer.{DayAnswer}
+
+-- arrays that hold the windows of a list, whatever the list is
+pub record Holds (l : DayList) (s : WindowSet) : Type 0 where
+  pub windows : windowsIn s ≡ windowsOf l
+  pub n : s .n ≡ l .n
+
+-- the value check, then row 9
+unfoldable pub testOf : DayList → Outcome (Unit {0})
+testOf l = andThen (checkOf l) (λ _. overloadOf (windowsOf l))
+
+-- "A plan exists exactly when no interval is overloaded": what an answer whose last row tested is 9 says of plans
+pub record Decides (l : DayList) (o : Outcome (Unit {0})) : Type 0 where
+  pub planned : o ≡ answered tt → Plannable (windowsOf l)
+  pub unplanned : (k : Code) → o ≡ refused k → k .number ≡ 9 → Plannable (windowsOf l) → ⊥
+  pub shown : (k : Code) → o ≡ refused k → k .number ≡ 9 → ShowsOverload (windowsOf l) k
+
+-- what the overload test answers
+pub record Tests (l : DayList) (v : Verdict) : Type 0 where
+  pub outcome : verdictOf v ≡ testOf l
+  pub decides : Decides l (verdictOf v)
 
 -- what a minute gives: the place chosen together with the advanced day
 pub record Advances (day : Day) (m : Minute) : Type 0 where

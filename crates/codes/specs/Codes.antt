@@ -2,7 +2,7 @@
 use Prim.Native.Nat.{ℕ}
 use mathlib.Core.List.{List, [], _∷_}
 use lib.ListN.{getD}
-use Rattle.list.specs.Outcomes.{Code}
+use Rattle.base.specs.Outcomes.{Code}
 use Rattle.codes.specs.declared.RefusalCode.{RefusalCode}
 
 -- three values, 0 where there are fewer

@@ -5,10 +5,10 @@ use mathlib.Core.Path.{_≡_}
 use Prim.Native.Nat.{_-_}
 use native.Mathlib.Omega.{arith}
 use lib.ListN.{length}
-use Rattle.list.proofs.Walk.{length-mapped}
+use Rattle.base.proofs.Walk.{length-mapped}
 use Rattle.jackson.proofs.WindowSetCases.{Copied, copy-start, copy-next, copy-done}
-use Rattle.jackson.proofs.window_set.untested_windows.Statement.{statement}
-use Rattle.jackson.proofs.window_set.untested_windows.Tie as tie
+use Rattle.jackson.proofs.window_set.unchecked_windows.Statement.{statement}
+use Rattle.jackson.proofs.window_set.unchecked_windows.Tie as tie
 
 abbrev Inv-loop : tie.InvT-loop
 Inv-loop list n count r₀ d₀ p₀ i₀ r d p i = Copied (list .entries) count r d p i
@@ -86,8 +86,8 @@ returns c =
     let long : length (args .t1 .entries) ≡ 64 = search (needs, length-mapped) in
     copy-done (args .t1) long _ _ _ _ _ (places-held .ensures) (c .before .loop .inv) (c .loop-test .left)
 
-pub untested-windows-spec : {M : Type 1} → statement M
-untested-windows-spec =
+pub unchecked-windows-spec : {M : Type 1} → statement M
+unchecked-windows-spec =
     tie.close
     (tie.spec
     Inv-loop

@@ -1,15 +1,13 @@
--- "A plan exists exactly when no interval is overloaded.": the law that the crates above know of this one. It names no schedule.
-use Prim.Native.Nat.{ℕ}
+-- The law of plans, which names no schedule, and that of Jackson's schedule. The crates above know this crate by them.
+use Prim.Native.Nat.{ℕ, _<_}
 use mathlib.Core.Path.{_≡_}
 use mathlib.Core.Logic.{_↔_}
-use Rattle.list.specs.Outcomes.{Code, answered, refused}
+use Rattle.base.specs.Outcomes.{Code, answered, refused}
 use Rattle.jackson.specs.Windows.{Windows}
-use Rattle.jackson.specs.Plans.{Plan}
+use Rattle.jackson.specs.Plans.{Plannable, PlanBytes}
 use Rattle.jackson.specs.Intervals.{Fits, NoOverload, ShowsOverload, overloadOf}
-
--- there is a plan
-abbrev pub Plannable : Windows → Type 0
-Plannable w = (m : ℕ → ℕ) × Plan w m
+use Rattle.jackson.specs.Minutes.{dayStart, later, placeAt, schedule}
+use Rattle.jackson.specs.Rules.{Takes}
 
 -- the law of at most 255 windows that have room (`Roomy`); its last field holds of all windows
 pub record PlanLaw (w : Windows) : Type 0 where
@@ -23,3 +21,9 @@ pub record PlanLaw (w : Windows) : Type 0 where
   pub turned-back : (Plannable w → ⊥) ↔ (k : Code) × (overloadOf w ≡ refused k)
   -- and that refusal is row 9 with the interval shown and its work
   pub shown : (k : Code) → overloadOf w ≡ refused k → ShowsOverload w k
+
+-- the law of Jackson's preemptive schedule, for at most 255 windows that have room: it is a plan exactly if there is one, and each of
+-- its minutes has the place that the rule takes
+pub record ScheduleLaw (w : Windows) : Type 0 where
+  pub plan : Plannable w ↔ PlanBytes w (schedule w)
+  pub takes : (t : ℕ) → t < w .h → Takes (later t (dayStart w)) (placeAt (dayStart w) t)

@@ -3,8 +3,8 @@
 use borrow.Author.Needs.{needs}
 use Prim.Native.Nat.{_<_}
 use Rattle.jackson.proofs.IntervalCases.{none-overloaded, left-in, overload-shown}
-use Rattle.jackson.proofs.interval.untested_overload.Statement.{statement}
-use Rattle.jackson.proofs.interval.untested_overload.Tie as tie
+use Rattle.jackson.proofs.interval.unchecked_overload.Statement.{statement}
+use Rattle.jackson.proofs.interval.unchecked_overload.Tie as tie
 
 -- the left end found is one of the places
 left-below : (c : tie.After-left-end)
@@ -59,8 +59,8 @@ returns-2 c =
     overload-shown (args .windows) (places-held .result) (places-held .ensures) (right-end .result) (right-end .ensures) (left-end .result)
     (c .work-in .result) (if1 .left) (left-end .ensures) (c .work-in .ensures)
 
-pub untested-overload-spec : {M : Type 1} → statement M
-untested-overload-spec =
+pub unchecked-overload-spec : {M : Type 1} → statement M
+unchecked-overload-spec =
     tie.close
     (tie.spec
     places-held-requires

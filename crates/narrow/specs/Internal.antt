@@ -2,14 +2,13 @@
 use Prim.Native.Nat.{ℕ, _+_, _<_, _≤_}
 use mathlib.Core.Path.{_≡_}
 use mathlib.Core.List.{[], _∷_}
-use Rattle.list.specs.Outcomes.{code, Outcome, answered, refused}
+use Rattle.base.specs.Outcomes.{code, Outcome, answered, refused}
 use Rattle.list.specs.Refusals.{outcomeOf}
 use Rattle.list.specs.declared.types.DayList.{DayList}
-use Rattle.jackson.specs.Windows.{windowsIn}
+use Rattle.jackson.specs.Windows.{windowsIn, Formed}
 use Rattle.jackson.specs.declared.types.WindowSet.{WindowSet}
 use Rattle.narrow.specs.Rounds.{Narrowed, slack}
-use Rattle.narrow.specs.Laws.{Formed}
-use Rattle.narrow.specs.Calls.{wholeIn}
+use Rattle.list.specs.DayLists.{wholeIn}
 use Rattle.narrow.specs.declared.search.Found.{Found}
 use Rattle.narrow.specs.declared.search.Found.the-variants.{Minute, NoMinute}
 use Rattle.narrow.specs.declared.rounds.VisitAnswer.{VisitAnswer}
@@ -26,11 +25,6 @@ stateOf s moves = record { windows = windowsIn s; moves = moves }
 -- the outcome of visits
 abbrev pub narrowedOf : VisitAnswer → Outcome Narrowed
 narrowedOf a = outcomeOf (a .verdict) (stateOf (a .windows) (a .moves))
-
--- arrays with windows that have room, and an entry
-pub record Searchable (s : WindowSet) (k : ℕ) : Type 0 where
-  pub formed : Formed (windowsIn s)
-  pub place : k < windowsIn s .n
 
 -- windows of a list's entries, and moves so few that counting on does not pass 32 bits: with the
 -- minutes that can still be cut they are at most 64 times 1,440

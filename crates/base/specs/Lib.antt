@@ -1,0 +1,3 @@
+pub mod Outcomes
+pub mod Counting
+pub mod Storing
