@@ -1,3 +1,5 @@
+-- Windows that have room, and the test of it.
+pub mod Room
 -- Facts about plans alone: the mirror, other windows, room, starts and ends.
 pub mod PlanFacts
 -- The law that a plan exists exactly without overload: its steps, its form for windows and its form for lists. The crates above are to
@@ -20,5 +22,6 @@ mod ScanCases
 mod MinuteCases
 mod IntervalCases
 mod WindowSetCases
+mod RoomCases
 mod MirrorCases
 mod CallCases

@@ -1,10 +1,12 @@
 -- "A set of windows has one for each entry." The rules speak of windows by the entry's place, as functions of it.
 use Prim.Native.Nat.{ℕ, _+_, _-_, _<_, _≤_, min, max}
 use mathlib.Core.Path.{_≡_}
-use mathlib.Core.Bool.{cond}
-use mathlib.Core.List.{List, map}
+use mathlib.Core.Bool.{Bool, cond, not, _&&_}
+use mathlib.Core.List.{List, [], _∷_, map}
 use lib.ListN.{length, getD}
-use lib.Dec.{eqb}
+use lib.Dec.{eqb, leb, ltb}
+use Rattle.base.specs.Outcomes.{Outcome, answered, row, firstOf}
+use Rattle.base.specs.Counting.{firstBelow}
 use Rattle.list.specs.DayLists.{entriesOf, blank}
 use Rattle.list.specs.declared.types.Seal.the-variants.{Missing}
 use Rattle.list.specs.declared.types.Kind.the-variants.{Pause}
@@ -61,6 +63,16 @@ pub record Formed (w : Windows) : Type 0 where
   pub minutes : (i : ℕ) → i < w .n → 1 ≤ w .p i
   pub in-day : (i : ℕ) → i < w .n → w .d i ≤ w .h
   pub room : (i : ℕ) → i < w .n → w .r i + w .p i ≤ w .d i
+
+-- the test of one entry: it needs a minute, and has room for its p minutes in [r, d) and in a day of h minutes
+abbrev pub roomIn : ℕ → ℕ → ℕ → ℕ → Bool
+roomIn h r d p = leb 1 p && (leb d h && leb (r + p) d)
+
+-- row 7 for windows, the test of `Formed`: it carries the first place without room
+unfoldable pub roomFault : Windows → Outcome (Unit {0})
+roomFault w =
+    let i = firstBelow (w .n) (λ j. not (roomIn (w .h) (w .r j) (w .d j) (w .p j))) in
+    firstOf (row 7 (ltb i (w .n)) i ∷ []) (answered tt)
 
 -- arrays with windows that have room, and an entry
 pub record Searchable (s : WindowSet) (k : ℕ) : Type 0 where

@@ -1,7 +1,7 @@
 // Overloaded intervals.
 use crate::types::WindowSet;
-use crate::window_set::places_held;
 use crate::window_set::unchecked_windows;
+use list::places_held;
 use list::types::DayList;
 use list::types::Refusal;
 use list::types::Verdict;

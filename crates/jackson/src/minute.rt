@@ -2,7 +2,7 @@
 use crate::types::Day;
 use crate::types::Minute;
 use crate::types::WindowSet;
-use crate::window_set::places_held;
+use list::places_held;
 ghost use mathlib.Core.Path.{_≡_};
 ghost use mathlib.Core.Bool.{_&&_};
 ghost use Prim.Native.Nat.{_-_, _<_, _≤_};

@@ -1,6 +1,6 @@
 // The mirror of windows.
 use crate::types::WindowSet;
-use crate::window_set::places_held;
+use list::places_held;
 ghost use mathlib.Core.Path.{_≡_};
 ghost use Prim.Native.Nat.{_-_, _≤_};
 ghost use Rattle.jackson.specs.Mirrors.{MirrorOf};

@@ -1,18 +1,15 @@
-// The windows of a list, in arrays by place.
+// The windows of a list, in arrays by place, and whether windows have room.
 use crate::types::WindowSet;
+use list::places_held;
 use list::types::DayList;
+use list::types::Refusal;
+use list::types::Verdict;
 ghost use mathlib.Core.Path.{_≡_};
-ghost use Prim.Native.Nat.{min};
 ghost use lib.ListN.{replicate};
+ghost use Rattle.list.specs.Refusals.{verdictOf};
 ghost use Rattle.list.specs.DayLists.{emptyList};
+ghost use Rattle.jackson.specs.Windows.{windowsIn, roomIn, roomFault};
 ghost use Rattle.jackson.specs.Calls.{Holds};
-
-// How many of n places the arrays have.
-pub fn places_held(n: u8) -> usize
-    ensures { λ k. ⌜ k ≡ min n 64 ⌝ }
-{
-    if n < 64 { n as usize } else { 64 }
-}
 
 // A 0 for each place.
 pub fn zeros() -> [u16; 64]
@@ -57,4 +54,32 @@ pub fn unchecked_windows(list: DayList) -> WindowSet
         d: d,
         p: p,
     }
+}
+
+// Whether an entry needs a minute and has room for its minutes, in its window and in the day. The sum r + p may pass 65,535.
+fn has_room(h: u16, r: u16, d: u16, p: u16) -> bool
+    ensures { λ b. ⌜ b ≡ roomIn h r d p ⌝ }
+{
+    if p == 0 {
+        return false;
+    }
+    if h < d {
+        return false;
+    }
+    r as u32 + p as u32 <= d as u32
+}
+
+// Row 7 for windows: it carries the first place without room.
+pub fn room_fault(windows: WindowSet) -> Verdict
+    ensures { λ v. ⌜ verdictOf v ≡ roomFault (windowsIn windows) ⌝ }
+{
+    let count = places_held(windows.n);
+    let mut i: usize = 0;
+    while i < count {
+        if !has_room(windows.h, windows.r[i], windows.d[i], windows.p[i]) {
+            return Verdict::Refused(Refusal::BadWindow(i));
+        }
+        i += 1;
+    }
+    Verdict::Accepted
 }

@@ -1,7 +1,9 @@
 -- What the crates above may cite: what a well-formed list is, what a verdict tells and that number and values tell one, what the machine's
--- types say of a list, and lists that are filled from their first place on. The rest serves this crate alone.
+-- types say of a list, lists that are filled from their first place on, and arrays that hold a field of the entries. The rest serves this crate alone.
 mod CheckCases
+mod PlaceCases
 pub mod Verdicts
 pub mod Sound
 pub mod InTypes
 pub mod Filling
+pub mod Columns

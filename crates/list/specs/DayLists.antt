@@ -28,6 +28,10 @@ isWhole Whole = true
 abbrev pub wholeIn : DayList → ℕ → Bool
 wholeIn l i = isWhole (getD (entriesOf l) i blank .kind)
 
+-- the places that an array marks
+abbrev pub marked : List Bool → ℕ → Bool
+marked marks i = getD marks i false
+
 -- the list value with these entries
 abbrev pub dayList : Frame → List Entry → DayList
 dayList f es = record { frame = f; n = length es; entries = es ++ replicate (64 - length es) blank }

@@ -1,10 +1,11 @@
-// The tests of list values: rows 2, 3, 6 and 7.
+// The tests of list values: rows 2, 3, 6 and 7; and whether a verdict is no refusal.
 use crate::types::DayList;
 use crate::types::Entry;
 use crate::types::Frame;
 use crate::types::Refusal;
 use crate::types::Verdict;
 ghost use mathlib.Core.Path.{_≡_};
+ghost use Rattle.base.specs.Outcomes.{accepts};
 ghost use Rattle.list.specs.Refusals.{verdictOf};
 ghost use Rattle.list.specs.Entries.{entryFault};
 ghost use Rattle.list.specs.Checks.{headerFault, checkOf};
@@ -61,4 +62,14 @@ pub fn check(list: DayList) -> Verdict
         i += 1;
     }
     Verdict::Accepted
+}
+
+// Whether a verdict is no refusal.
+pub fn is_accepted(verdict: Verdict) -> bool
+    ensures { λ b. ⌜ b ≡ accepts (verdictOf verdict) ⌝ }
+{
+    match verdict {
+        Verdict::Accepted => true,
+        Verdict::Refused(_) => false,
+    }
 }

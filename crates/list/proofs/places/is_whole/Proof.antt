@@ -2,8 +2,8 @@
 -- Assumes nothing.
 use borrow.Author.Needs.{needs}
 use mathlib.Core.Path.{refl}
-use Rattle.narrow.proofs.rounds.is_whole.Statement.{statement}
-use Rattle.narrow.proofs.rounds.is_whole.Tie as tie
+use Rattle.list.proofs.places.is_whole.Statement.{statement}
+use Rattle.list.proofs.places.is_whole.Tie as tie
 
 enum-told : tie.Need-enum-told
 enum-told c = search needs

@@ -1,0 +1,106 @@
+-- Windows that have room, and the test of it.
+-- Assumes nothing.
+use mathlib.Core.Path.{_≡_, refl, sym, _∙_}
+use mathlib.Core.Bool.{Bool, true, false, not, _&&_, false≢true}
+use mathlib.Core.List.{[], _∷_}
+use Prim.Native.Nat.{ℕ, _+_, _<_, _≤_}
+use native.Mathlib.Omega.{arith}
+use borrow.Author.Tests.{le-leb, lt-leb, lt-ltb, le-ltb}
+use lib.Dec.{leb}
+use Rattle.base.specs.Outcomes.{code, answered, refused}
+use Rattle.base.specs.Counting.{firstBelow}
+use Rattle.base.proofs.Inversion.{answered-refused}
+use Rattle.base.proofs.Sums.{le-or-lt}
+use Rattle.base.proofs.Searches.{First, first-below, one-first}
+use Rattle.jackson.specs.Windows.{Windows, roomIn, roomFault, Formed}
+
+-- an entry with room
+pub record Room (h r d p : ℕ) : Type 0 where
+  pub minutes : 1 ≤ p
+  pub in-day : d ≤ h
+  pub room : r + p ≤ d
+
+module _ (h r d p : ℕ) where
+  pub room-passes : Room h r d p → roomIn h r d p ≡ true
+  room-passes has = rw (le-leb 1 p (has .minutes), le-leb d h (has .in-day), le-leb (r + p) d (has .room))
+
+  pub no-minutes : p < 1 → roomIn h r d p ≡ false
+  no-minutes less = rw (lt-leb 1 p less)
+
+  pub past-day : 1 ≤ p → h < d → roomIn h r d p ≡ false
+  past-day some less = rw (le-leb 1 p some, lt-leb d h less)
+
+  pub too-short : 1 ≤ p → d ≤ h → d < r + p → roomIn h r d p ≡ false
+  too-short some in-day less = rw (le-leb 1 p some, le-leb d h in-day, lt-leb (r + p) d less)
+
+  -- with a minute needed and d in the day, the sum decides
+  pub room-sum : 1 ≤ p → d ≤ h → leb (r + p) d ≡ roomIn h r d p
+  room-sum some in-day = rw (le-leb 1 p some, le-leb d h in-day)
+
+  pub has-room : roomIn h r d p ≡ true → Room h r d p
+  has-room e =
+      le-or-lt 1 p
+      (λ a. le-or-lt d h
+      (λ b. le-or-lt (r + p) d
+      (λ c. record { minutes = a; in-day = b; room = c })
+      (λ c. absurd (false≢true (sym (too-short a b c) ∙ e))))
+      (λ b. absurd (false≢true (sym (past-day a b) ∙ e))))
+      (λ a. absurd (false≢true (sym (no-minutes a) ∙ e)))
+
+-- the entry at a place has none
+abbrev pub lacksRoom : Windows → ℕ → Bool
+lacksRoom w i = not (roomIn (w .h) (w .r i) (w .d i) (w .p i))
+
+module _ (w : Windows) where
+  -- no place, up to the end, lacks room
+  pub all-room : First (w .n) (lacksRoom w) (w .n) → roomFault w ≡ answered tt
+  unfolding roomFault
+  all-room none =
+      let z : firstBelow (w .n) (lacksRoom w) ≡ w .n = one-first (w .n) (lacksRoom w) _ _ (first-below _ _) none in
+      rw (z, le-ltb (w .n) (w .n) (omega arith))
+
+  -- the first that does is carried
+  pub first-lacking : (i : ℕ) → i < w .n → First (w .n) (lacksRoom w) i → roomFault w ≡ refused (code 7 (i ∷ []))
+  unfolding roomFault
+  first-lacking i h first =
+      let z : firstBelow (w .n) (lacksRoom w) ≡ i = one-first (w .n) (lacksRoom w) _ _ (first-below _ _) first in
+      rw (z, lt-ltb i (w .n) h)
+
+  -- so windows pass exactly if they have room
+  pub formed-passes : Formed w → roomFault w ≡ answered tt
+  formed-passes formed =
+      all-room
+      (record {
+        within = omega arith;
+        passes = λ h. absurd (omega arith);
+        none-before =
+            λ i h e.
+            let has : roomIn (w .h) (w .r i) (w .d i) (w .p i) ≡ true =
+            room-passes _ _ _ _ (record { minutes = formed .minutes i h; in-day = formed .in-day i h; room = formed .room i h }) in
+            false≢true (rw has at e);
+      })
+
+  pub passes-formed : w .n ≤ 255 → roomFault w ≡ answered tt → Formed w
+  unfolding roomFault
+  passes-formed few e =
+      record {
+        few = few;
+        minutes = λ i h. each i h .minutes;
+        in-day = λ i h. each i h .in-day;
+        room = λ i h. each i h .room;
+      }
+    where
+      first : First (w .n) (lacksRoom w) (firstBelow (w .n) (lacksRoom w))
+      first = first-below (w .n) (lacksRoom w)
+
+      end : w .n ≤ firstBelow (w .n) (lacksRoom w)
+      end =
+          le-or-lt (w .n) (firstBelow (w .n) (lacksRoom w)) (λ l. l)
+          (λ l. absurd (answered-refused (rw (lt-ltb (firstBelow (w .n) (lacksRoom w)) (w .n) l) at e) refl))
+
+      each : (i : ℕ) → i < w .n → Room (w .h) (w .r i) (w .d i) (w .p i)
+      each i h = go (roomIn (w .h) (w .r i) (w .d i) (w .p i)) refl
+        where
+          go : (b : Bool) → roomIn (w .h) (w .r i) (w .d i) (w .p i) ≡ b → Room (w .h) (w .r i) (w .d i) (w .p i)
+          go true q = has-room _ _ _ _ q
+          go false q = absurd (first .none-before i (omega (arith, end)) (rw q))

@@ -1,0 +1,51 @@
+-- Testing windows for room, place by place, as code does.
+-- Assumes nothing.
+use mathlib.Core.Path.{_≡_, sym, _∙_}
+use mathlib.Core.Bool.{Bool, true, false, false≢true}
+use mathlib.Core.List.{[], _∷_}
+use Prim.Native.Nat.{ℕ, _+_, _<_, _≤_}
+use native.Mathlib.Omega.{arith}
+use Rattle.base.specs.Outcomes.{code, answered, refused}
+use Rattle.base.proofs.Sums.{below-suc}
+use Rattle.jackson.specs.Windows.{Windows, roomIn, roomFault}
+use Rattle.jackson.proofs.Room.{lacksRoom, all-room, first-lacking}
+
+-- the first i of n places have room
+pub record Roomed (w : Windows) (n i : ℕ) : Type 0 where
+  pub count : n ≡ w .n
+  pub held : n ≤ 64
+  pub passed : i ≤ n
+  pub none : (j : ℕ) → j < i → lacksRoom w j ≡ true → ⊥
+
+module _ (w : Windows) (n : ℕ) where
+  pub room-start : n ≡ w .n → n ≤ 64 → Roomed w n 0
+  room-start e h = record { count = e; held = h; passed = omega arith; none = λ j l. absurd (omega arith) }
+
+  module _ (i : ℕ) (so : Roomed w n i) where
+    pub room-done : n ≤ i → answered tt ≡ roomFault w
+    room-done h =
+        sym
+        (all-room w
+        (record {
+          within = omega arith;
+          passes = λ l. absurd (omega arith);
+          none-before = λ j l. so .none j (omega (arith, so .count, so .passed));
+        }))
+
+    module _ (h : i < n) (b : Bool) (is : b ≡ roomIn (w .h) (w .r i) (w .d i) (w .p i)) where
+      pub room-next : b ≡ true → Roomed w n (i + 1)
+      room-next e =
+          record {
+            count = so .count;
+            held = so .held;
+            passed = omega (arith, h);
+            none =
+                λ j l.
+                below-suc i (λ k. lacksRoom w k ≡ true → ⊥) (so .none) (λ q. false≢true (rw (sym is ∙ e) at q)) j (omega arith);
+          }
+
+      pub room-stops : b ≡ false → refused (code 7 (i ∷ [])) ≡ roomFault w
+      room-stops e =
+          sym
+          (first-lacking w i (omega (arith, so .count))
+          (record { within = omega (arith, so .count); passes = λ _. rw (sym is ∙ e); none-before = so .none }))
