@@ -2,33 +2,33 @@
 -- Assumes nothing.
 use mathlib.Core.Path.{_≡_, refl, sym, ap, _∙_}
 use mathlib.Core.Bool.{Bool, true, false, cond}
+use mathlib.Core.List.{List}
 use Prim.Native.Nat.{ℕ, suc, _+_, _-_, _<_, _≤_}
 use native.Mathlib.Omega.{arith}
-use lib.ListN.{length}
-use lib.Seq.{length-take-le}
 use Rattle.base.specs.Outcomes.{Outcome, answered, refused, andThen}
 use Rattle.list.specs.Refusals.{codeOf, verdictOf, outcomeOf}
-use Rattle.list.specs.DayLists.{emptyList, wholeIn}
+use Rattle.list.specs.DayLists.{emptyList, wholeIn, marked}
 use Rattle.list.specs.Checks.{checkOf, WellFormed}
 use Rattle.list.specs.declared.types.DayList.{DayList}
 use Rattle.list.specs.declared.types.Refusal.{Refusal}
 use Rattle.list.specs.declared.types.Verdict.{Verdict}
 use Rattle.list.specs.declared.types.Verdict.the-variants.{Accepted, Refused}
-use Rattle.list.proofs.Sound.{SoundList, sound-list}
 use Rattle.base.proofs.Inversion.{answered-refused, refused-same}
 use Rattle.list.proofs.Verdicts.{by-accepted, by-refused}
-use Rattle.jackson.specs.Windows.{Windows, windowsOf, windowsIn, Formed}
+use Rattle.jackson.specs.Windows.{Windows, windowsOf, windowsIn, roomFault, Formed}
 use Rattle.jackson.specs.Intervals.{overloadOf}
 use Rattle.jackson.specs.Calls.{Holds}
 use Rattle.jackson.specs.declared.types.WindowSet.{WindowSet}
 use Rattle.base.proofs.Sums.{sum-most}
+use Rattle.jackson.proofs.Room.{formed-passes, passes-formed}
 use Rattle.jackson.proofs.ListLaws.{list-roomy, list-few, list-minutes}
-use Rattle.narrow.specs.Rounds.{Narrowed, unmoved, round, rounds, narrowing, slack}
+use Rattle.narrow.specs.Rounds.{Narrowed, unmoved, round, allRounds, narrowing}
 use Rattle.narrow.specs.Laws.{RoundLaw, NarrowLaw}
-use Rattle.narrow.specs.Calls.{listWith, settleOf, roundOf, listed, AnswersAs, HoldsAnswer, Settles, MakesRound}
-use Rattle.narrow.specs.Internal.{stateOf, narrowedOf, Countable}
+use Rattle.narrow.specs.Calls.{listWith, narrowWindows, narrowedOf, settleOf, roundOf, listed}
+use Rattle.narrow.specs.Calls.{AnswersAs, HoldsAnswer, NarrowsWindows, Settles, MakesRound}
+use Rattle.narrow.specs.Internal.{narrowedBy, Countable}
 use Rattle.narrow.specs.declared.types.NarrowAnswer.{NarrowAnswer}
-use Rattle.narrow.specs.declared.rounds.VisitAnswer.{VisitAnswer}
+use Rattle.narrow.specs.declared.types.WindowsAnswer.{WindowsAnswer}
 use Rattle.narrow.proofs.StepsKeep.{Keeps}
 use Rattle.narrow.proofs.Costs.{round-cost, rounds-cost}
 use Rattle.narrow.proofs.NarrowLaws.{round-law, narrow-law}
@@ -51,28 +51,70 @@ module _ (l : DayList) (formed : WellFormed l) where
   unfolding settleOf
   settle-law = rw formed (narrow-law overload-planner (wholeIn l) (windowsOf l) list-formed)
 
--- what rounds of the list need
-pub list-countable : (l : DayList) (s : WindowSet) → length (l .entries) ≡ 64 → WellFormed l → Holds l s → Countable l s 0
-list-countable l s long formed holds =
-    let same : slack (wholeIn l) (windowsIn s) ≡ slack (wholeIn l) (windowsOf l) = ap (λ (w : Windows). slack (wholeIn l) w) (holds .windows) in
-    record {
-      formed = rw (holds .windows) (list-formed l formed);
-      count = ap (λ (w : Windows). w .n) (holds .windows) ∙ count;
-      few = omega (arith, same, sum-most (windowsOf l .n) 1440 _ each, list-few l formed);
-    }
+-- windows with room can be counted on: a day has at most 65,535 minutes, and the arrays 64 places
+pub room-countable : (whole : ℕ → Bool) (s : WindowSet) → s .h < 65536 → Formed (windowsIn s) → Countable whole s 0
+room-countable whole s short formed = record { formed = formed; few = omega (arith, sum-most (windowsIn s .n) 65535 _ each) }
   where
-    header : SoundList l
-    header = sound-list l formed
-
-    count : windowsOf l .n ≡ l .n
-    count = length-take-le (l .n) (l .entries) (omega (arith, long, header .header .room))
-
-    each : (i : ℕ) → i < windowsOf l .n → cond (wholeIn l i) (windowsOf l .d i - (windowsOf l .r i + windowsOf l .p i)) 0 ≤ 1440
-    each i h = go (wholeIn l i)
+    each : (i : ℕ) → i < windowsIn s .n → cond (whole i) (windowsIn s .d i - (windowsIn s .r i + windowsIn s .p i)) 0 ≤ 65535
+    each i h = go (whole i)
       where
-        go : (t : Bool) → cond t (windowsOf l .d i - (windowsOf l .r i + windowsOf l .p i)) 0 ≤ 1440
-        go true = omega (arith, list-formed l formed .in-day i h, header .header .one-day)
+        go : (t : Bool) → cond t (windowsIn s .d i - (windowsIn s .r i + windowsIn s .p i)) 0 ≤ 65535
+        go true = omega (arith, formed .in-day i h, short)
         go false = omega arith
+
+-- What `narrow_windows` answers.
+module _ (whole : ℕ → Bool) (s : WindowSet) where
+  room-passed : (v : Verdict) → verdictOf v ≡ roomFault (windowsIn s) → v ≡ Accepted → Formed (windowsIn s)
+  room-passed v says e = passes-formed (windowsIn s) (omega arith) (by-accepted says e)
+
+  narrows : (a : WindowsAnswer) → narrowedOf a ≡ narrowWindows whole (windowsIn s)
+      → ((x : Refusal) → a .verdict ≡ Refused x → a ≡ record { verdict = Refused x; windows = s; moves = 0 }) → NarrowsWindows whole s a
+  unfolding narrowWindows
+  narrows a is beside =
+      record {
+        outcome = is;
+        beside = beside;
+        law =
+            λ formed.
+            let same : narrowedOf a ≡ narrowing overloadOf whole (windowsIn s) = rw (formed-passes (windowsIn s) formed) at is in
+            rw same (narrow-law overload-planner whole (windowsIn s) formed);
+      }
+
+  -- a refusal: of windows without room, of an overload, of the rounds
+  stopped : (v : Verdict) (x : Refusal) → v ≡ Refused x → refused (codeOf x) ≡ narrowWindows whole (windowsIn s)
+      → (a : WindowsAnswer) → a ≡ record { verdict = v; windows = s; moves = 0 } → NarrowsWindows whole s a
+  stopped v x e is a made =
+      rw made
+      (narrows (record { verdict = v; windows = s; moves = 0 }) (rw e is)
+      (λ y q. ap (λ (u : Verdict). record { verdict = u; windows = s; moves = 0 }) q))
+
+  module _ (v : Verdict) (says : verdictOf v ≡ roomFault (windowsIn s)) where
+    pub windows-without-room : (x : Refusal) → v ≡ Refused x → (a : WindowsAnswer) → a ≡ record { verdict = v; windows = s; moves = 0 }
+        → NarrowsWindows whole s a
+    unfolding narrowWindows
+    windows-without-room x e = stopped v x e (rw (by-refused says e) refl)
+
+    module _ (e : v ≡ Accepted) where
+      pub windows-countable : s .h < 65536 → Countable whole s 0
+      windows-countable short = room-countable whole s short (room-passed v says e)
+
+      module _ (t : Verdict) (tested : verdictOf t ≡ overloadOf (windowsIn s)) where
+        pub windows-overloaded : (x : Refusal) → t ≡ Refused x → (a : WindowsAnswer) → a ≡ record { verdict = t; windows = s; moves = 0 }
+            → NarrowsWindows whole s a
+        unfolding narrowWindows narrowing
+        windows-overloaded x q = stopped t x q (rw (by-accepted says e, by-refused tested q) refl)
+
+        module _ (q : t ≡ Accepted) (found : WindowsAnswer) (is : narrowedOf found ≡ allRounds overloadOf whole (windowsIn s)) where
+          rounds-are : narrowedOf found ≡ narrowWindows whole (windowsIn s)
+          unfolding narrowWindows narrowing
+          rounds-are = rw (by-accepted says e, by-accepted tested q) is
+
+          pub windows-stopped : (x : Refusal) → found .verdict ≡ Refused x → (a : WindowsAnswer)
+              → a ≡ record { verdict = found .verdict; windows = s; moves = 0 } → NarrowsWindows whole s a
+          windows-stopped x r = stopped (found .verdict) x r (rw r at rounds-are)
+
+          pub windows-found : found .verdict ≡ Accepted → NarrowsWindows whole s found
+          windows-found r = narrows found rounds-are (λ x z. absurd (answered-refused (ap verdictOf (sym z ∙ r)) refl))
 
 -- Answers.
 module _ (l : DayList) (a : NarrowAnswer) where
@@ -131,7 +173,7 @@ module _ (l : DayList) where
       (go (overloadOf (windowsOf l)) (list-formed l (z .0)) (z .1), z .0)
     where
       go : (t : Outcome (Unit {0})) → Formed (windowsOf l)
-          → andThen t (λ _. rounds overloadOf (wholeIn l) (suc (slack (wholeIn l) (windowsOf l))) (unmoved (windowsOf l))) ≡ answered v
+          → andThen t (λ _. allRounds overloadOf (wholeIn l) (windowsOf l)) ≡ answered v
           → Keeps (windowsOf l) (v .windows)
       go (answered t) formed q = rounds-cost overloadOf (wholeIn l) (unmoved (windowsOf l)) formed _ v q .keeps
       go (refused k) formed q = absurd (answered-refused q refl)
@@ -141,7 +183,7 @@ module _ (l : DayList) where
       let holds = holds-answer l a (settleOf l) settle-keeps answers in
       record { answers = answers; holds = holds; law = λ formed. rw (holds .narrowed) (settle-law l formed) }
 
-  -- What `round` answers.
+  -- What `make_round` answers.
   round-keeps : (v : Narrowed) → roundOf l ≡ answered v → Keeps (windowsOf l) (v .windows) × WellFormed l
   unfolding roundOf
   round-keeps v e =
@@ -158,7 +200,7 @@ module _ (l : DayList) where
       record { answers = answers; holds = holds; law = λ formed. rw (holds .narrowed) (list-round-law formed) }
 
 -- the answer that code makes of what rounds gave
-module _ (l : DayList) (found : VisitAnswer) where
+module _ (l : DayList) (found : WindowsAnswer) where
   pub answers-found : (b : DayList) → found .verdict ≡ Accepted → b ≡ listWith l (windowsIn (found .windows))
       → AnswersAs l (narrowedOf found) (record { verdict = found .verdict; list = b; moves = found .moves })
   answers-found b e is = record { outcome = rw (e, is); beside = rw (e, is) }
@@ -185,31 +227,24 @@ module _ (l : DayList) (v : Verdict) (checked : verdictOf v ≡ checkOf l) where
     pub check-passed : WellFormed l
     check-passed = by-accepted checked e
 
-    pub check-few : l .n ≤ 64
-    check-few = sound-list l check-passed .header .room
+    -- with the marks of the whole entries and the windows of the list
+    module _ (marks : List Bool) (kinds : marked marks ≡ wholeIn l) (s : WindowSet) (holds : Holds l s) where
+      pub list-countable : s .h < 65536 → Countable (marked marks) s 0
+      list-countable short = room-countable (marked marks) s short (rw (holds .windows) (list-formed l check-passed))
 
-    module _ (s : WindowSet) (holds : Holds l s) (a : NarrowAnswer) where
-      module _ (t : Verdict) (tested : verdictOf t ≡ overloadOf (windowsIn s)) where
-        test-is : overloadOf (windowsOf l) ≡ verdictOf t
-        test-is = rw (holds .windows) at (sym tested)
-
-        pub settle-overloaded : (x : Refusal) → t ≡ Refused x → a ≡ record { verdict = t; list = emptyList; moves = 0 } → Settles l a
-        unfolding settleOf narrowing
-        settle-overloaded x q is = settles l a (answers-refused l a (settleOf l) t x is q (rw (check-passed, test-is, q)))
-
-        pub settle-found : t ≡ Accepted → (found : VisitAnswer)
-            → narrowedOf found ≡ rounds overloadOf (wholeIn l) (suc (slack (wholeIn l) (windowsIn s))) (unmoved (windowsIn s))
-            → AnswersAs l (narrowedOf found) a → Settles l a
-        unfolding settleOf narrowing
-        settle-found q found is answers =
-            let given : _ ≡ _ = ap (λ (w : Windows). rounds overloadOf (wholeIn l) (suc (slack (wholeIn l) w)) (unmoved w)) (holds .windows) in
-            let same : narrowedOf found ≡ settleOf l = is ∙ given ∙ rw (check-passed, test-is, q) in
+      module _ (a : NarrowAnswer) (found : WindowsAnswer) (answers : AnswersAs l (narrowedOf found) a) where
+        pub settle-found : NarrowsWindows (marked marks) s found → Settles l a
+        unfolding settleOf narrowWindows
+        settle-found is =
+            let given : narrowWindows (marked marks) (windowsIn s) ≡ narrowWindows (wholeIn l) (windowsOf l) =
+            λ i. narrowWindows (kinds i) (holds .windows i) in
+            let room = formed-passes (windowsOf l) (list-formed l check-passed) in
+            let same : narrowedOf found ≡ settleOf l = is .outcome ∙ given ∙ rw (check-passed, room) in
             settles l a (rw same at answers)
 
-      pub round-found : (found : VisitAnswer) → narrowedOf found ≡ round overloadOf (wholeIn l) (stateOf s 0)
-          → AnswersAs l (narrowedOf found) a → MakesRound l a
-      unfolding roundOf
-      round-found found is answers =
-          let given : _ ≡ _ = ap (λ (w : Windows). round overloadOf (wholeIn l) (unmoved w)) (holds .windows) in
-          let same : narrowedOf found ≡ roundOf l = is ∙ given ∙ rw check-passed in
-          makes-round l a (rw same at answers)
+        pub round-found : narrowedOf found ≡ round overloadOf (marked marks) (narrowedBy s 0) → MakesRound l a
+        unfolding roundOf
+        round-found is =
+            let given : _ ≡ _ = λ i. round overloadOf (kinds i) (unmoved (holds .windows i)) in
+            let same : narrowedOf found ≡ roundOf l = is ∙ given ∙ rw check-passed in
+            makes-round l a (rw same at answers)

@@ -2,7 +2,7 @@
 -- Assumes nothing.
 use mathlib.Core.Path.{_≡_, refl, sym, ap, _∙_, fun-ext}
 use mathlib.Core.List.{List, [], _∷_, _++_}
-use Prim.Native.Nat.{ℕ, suc, _+_, _-_, _<_, _≤_}
+use Prim.Native.Nat.{ℕ, suc, _+_, _-_, _<_, _≤_, min}
 use native.Mathlib.Numerals.{add-one}
 use native.Mathlib.Omega.{arith}
 use lib.ListN.{length, getD, take, drop, set, replicate, length-take, length-set, List·getD-eq-default}
@@ -13,6 +13,7 @@ use Rattle.list.specs.declared.types.Entry.{Entry}
 use Rattle.list.specs.declared.types.DayList.{DayList}
 use Rattle.list.proofs.Sound.{Sound, Every, sound-list, well-formed}
 use Rattle.list.proofs.Filling.{blank-after, filled-list}
+use Rattle.list.proofs.Columns.{all-taken}
 use Rattle.jackson.specs.Windows.{Windows, windowsOf}
 use Rattle.base.proofs.Sums.{le-or-lt}
 use Rattle.narrow.specs.Calls.{entryWith, entriesWith, listWith}
@@ -35,21 +36,22 @@ module _ (w : Windows) where
   with-every P i (e ∷ es) each =
       (each 0 i (omega arith) (omega arith), with-every P (i + 1) es (λ j k z h. each (suc j) k (omega arith) (omega arith)))
 
--- the first i entries stand with their windows, and blank ones after them
-pub record Filled (l : DayList) (w : Windows) (entries : List Entry) (i : ℕ) : Type 0 where
-  pub room : l .n ≤ 64
-  pub passed : i ≤ l .n
+-- the first i of n entries stand with their windows, and blank ones after them
+pub record Filled (l : DayList) (w : Windows) (n : ℕ) (entries : List Entry) (i : ℕ) : Type 0 where
+  pub room : n ≤ 64
+  pub passed : i ≤ n
   pub long : length entries ≡ 64
   pub done : take i entries ≡ entriesWith w 0 (take i (l .entries))
   pub unused : drop i entries ≡ replicate (64 - i) blank
 
-module _ (l : DayList) (w : Windows) where
-  pub filled-none : (entries : List Entry) → l .n ≤ 64 → entries ≡ replicate 64 blank → Filled l w entries 0
+module _ (l : DayList) (w : Windows) (n : ℕ) where
+  pub filled-none : (entries : List Entry) → n ≤ 64 → entries ≡ replicate 64 blank → Filled l w n entries 0
   unfolding entriesWith
   filled-none entries room e = rw e (record { room = room; passed = omega arith; long = refl; done = refl; unused = refl })
 
-  module _ (long : length (l .entries) ≡ 64) (entries : List Entry) (i : ℕ) (so : Filled l w entries i) where
-    pub filled-next : (e : Entry) → i < l .n → e ≡ entryWith (getD (l .entries) i blank) (w .r i) (w .d i) → Filled l w (set entries i e) (i + 1)
+  module _ (long : length (l .entries) ≡ 64) (entries : List Entry) (i : ℕ) (so : Filled l w n entries i) where
+    pub filled-next : (e : Entry) → i < n → e ≡ entryWith (getD (l .entries) i blank) (w .r i) (w .d i)
+        → Filled l w n (set entries i e) (i + 1)
     filled-next e h is =
         record {
           room = so .room;
@@ -65,13 +67,15 @@ module _ (l : DayList) (w : Windows) where
             rw (is, take-suc (l .entries) i blank (omega (arith, long, so .room)), so .done)
             (sym (with-one w 0 (take i (l .entries)) (getD (l .entries) i blank) i k))
 
-    pub filled-all : l .n ≤ i → record { frame = l .frame; n = l .n; entries = entries } ≡ listWith l w
+    pub filled-all : n ≡ min (l .n) 64 → n ≤ i → record { frame = l .frame; n = n; entries = entries } ≡ listWith l w
     unfolding listWith
-    filled-all h =
-        let z : i ≡ l .n = omega (arith, so .passed) in
+    filled-all e h =
+        let z : i ≡ n = omega (arith, so .passed) in
         let es = entriesWith w 0 (entriesOf l) in
-        let count : length es ≡ l .n = with-length w 0 (entriesOf l) ∙ length-take-le (l .n) (l .entries) (omega (arith, long, so .room)) in
-        filled-list (l .frame) (l .n) es entries count (rw z at (so .done)) (rw z at (so .unused))
+        let taken : take n (l .entries) ≡ entriesOf l = rw e (all-taken l long) in
+        let size : length (take n (l .entries)) ≡ n = length-take-le n (l .entries) (omega (arith, long, so .room)) in
+        let count : length es ≡ n = with-length w 0 (entriesOf l) ∙ (rw taken at size) in
+        filled-list (l .frame) n es entries count (rw (z, taken) at (so .done)) (rw z at (so .unused))
 
 -- The windows of the list that is answered.
 module _ (l : DayList) (w : Windows) (keeps : Keeps (windowsOf l) w) where

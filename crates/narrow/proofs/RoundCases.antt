@@ -16,8 +16,9 @@ use Rattle.jackson.specs.declared.types.WindowSet.{WindowSet}
 use Rattle.base.proofs.Sums.{same-cases}
 use Rattle.narrow.specs.Searching.{Test, leastStart}
 use Rattle.narrow.specs.Rounds.{earliest, latest, Narrowed, moved, movesOf, narrowSide}
-use Rattle.narrow.specs.Internal.{stateOf, narrowedOf}
-use Rattle.narrow.specs.declared.rounds.VisitAnswer.{VisitAnswer}
+use Rattle.narrow.specs.Internal.{narrowedBy}
+use Rattle.narrow.specs.Calls.{narrowedOf}
+use Rattle.narrow.specs.declared.types.WindowsAnswer.{WindowsAnswer}
 use Rattle.narrow.proofs.OverloadPlanner.{overload-planner}
 use Rattle.narrow.proofs.Puts.{put-same}
 use Rattle.narrow.proofs.MirrorSearches.{formed-mirror}
@@ -51,8 +52,8 @@ module _ (test : Test) (k : ℕ) (s : Narrowed) where
 pub placed-r : (s : WindowSet) (moves k x m : ℕ) → k < length (s .r) → m ≡ moved (getD (s .r) k 0) x
     → leastStart overloadOf (windowsIn s) k ≡ answered x
     → answered (record { windows = columns (s .h) (min (s .n) 64) (set (s .r) k x) (s .d) (s .p); moves = moves + m })
-    ≡ narrowSide overloadOf earliest k (stateOf s moves)
-placed-r s moves k x m h e found = rw (e, held-r s k x h) (sym (start-found overloadOf k (stateOf s moves) x found))
+    ≡ narrowSide overloadOf earliest k (narrowedBy s moves)
+placed-r s moves k x m h e found = rw (e, held-r s k x h) (sym (start-found overloadOf k (narrowedBy s moves) x found))
 
 -- The search for d, as code makes it: that for r in the mirror t of the windows s.
 module _ (s t : WindowSet) (moves k : ℕ) (mirrors : windowsIn t ≡ mirror (windowsIn s)) (ready : Searchable s k) where
@@ -63,16 +64,16 @@ module _ (s t : WindowSet) (moves k : ℕ) (mirrors : windowsIn t ≡ mirror (wi
       record { formed = rw mirrors (formed-mirror (windowsIn s) (ready .formed)); place = omega (arith, ready .place, count) }
 
   -- what it leaves is mirrored back to u
-  pub mirror-placed : (a : VisitAnswer) → narrowedOf a ≡ narrowSide overloadOf earliest k (stateOf t moves)
+  pub mirror-placed : (a : WindowsAnswer) → narrowedOf a ≡ narrowSide overloadOf earliest k (narrowedBy t moves)
       → (u : WindowSet) → windowsIn u ≡ mirror (windowsIn (a .windows))
-      → narrowedOf (record { verdict = a .verdict; windows = u; moves = a .moves }) ≡ narrowSide overloadOf latest k (stateOf s moves)
+      → narrowedOf (record { verdict = a .verdict; windows = u; moves = a .moves }) ≡ narrowSide overloadOf latest k (narrowedBy s moves)
   mirror-placed a is u back =
       ap (λ (w : Windows). outcomeOf (a .verdict) (record { windows = w; moves = a .moves })) back
       ∙ mirrored (a .verdict)
       ∙ ap mirrorOutcome (rw mirrors at is)
-      ∙ sym (side-by-mirror overload-planner k (stateOf s moves) (ready .formed) (ready .place))
+      ∙ sym (side-by-mirror overload-planner k (narrowedBy s moves) (ready .formed) (ready .place))
     where
-      mirrored : (v : Verdict) → outcomeOf v (mirrorState (stateOf (a .windows) (a .moves)))
-          ≡ mirrorOutcome (outcomeOf v (stateOf (a .windows) (a .moves)))
+      mirrored : (v : Verdict) → outcomeOf v (mirrorState (narrowedBy (a .windows) (a .moves)))
+          ≡ mirrorOutcome (outcomeOf v (narrowedBy (a .windows) (a .moves)))
       mirrored Accepted = refl
       mirrored (Refused x) = refl

@@ -7,12 +7,8 @@ use native.Mathlib.Numerals.{add-one}
 use native.Mathlib.Omega.{arith}
 use borrow.Author.Tests.{eq-eqb, ne-eqb}
 use lib.Dec.{eqb}
-use lib.ListN.{length, getD}
-use lib.Seq.{getD-take}
 use Rattle.base.specs.Outcomes.{Code, Outcome, answered, refused, andThen}
 use Rattle.list.specs.Refusals.{codeOf}
-use Rattle.list.specs.DayLists.{blank, isWhole, wholeIn}
-use Rattle.list.specs.declared.types.DayList.{DayList}
 use Rattle.list.specs.declared.types.Refusal.{Refusal}
 use Rattle.list.specs.declared.types.Verdict.the-variants.{Accepted, Refused}
 use Rattle.base.proofs.Inversion.{Says}
@@ -21,9 +17,10 @@ use Rattle.jackson.specs.Intervals.{overloadOf}
 use Rattle.jackson.specs.declared.types.WindowSet.{WindowSet}
 use Rattle.base.proofs.Sums.{le-or-lt}
 use Rattle.narrow.specs.Searching.{Test}
-use Rattle.narrow.specs.Rounds.{Side, earliest, latest, Narrowed, unmoved, step, counted, narrowSide, visit, visits, round, rounds, slack}
-use Rattle.narrow.specs.Internal.{stateOf, narrowedOf, Countable}
-use Rattle.narrow.specs.declared.rounds.VisitAnswer.{VisitAnswer}
+use Rattle.narrow.specs.Rounds.{Side, earliest, latest, Narrowed, step, counted, narrowSide, visit, visits, round, rounds, allRounds, slack}
+use Rattle.narrow.specs.Internal.{narrowedBy, Countable}
+use Rattle.narrow.specs.Calls.{narrowedOf}
+use Rattle.narrow.specs.declared.types.WindowsAnswer.{WindowsAnswer}
 use Rattle.narrow.proofs.StepsKeep.{keeps-n}
 use Rattle.narrow.proofs.Costs.{Costs, side-cost, visits-cost, round-cost}
 use Rattle.narrow.proofs.RoundCases.{moved-one}
@@ -44,28 +41,28 @@ unfolding visit
 visit-passed s k whole pause = rw pause
 
 -- a whole one, after its first search
-module _ (s : WindowSet) (moves k : ℕ) (ready : Searchable s k) (whole : Bool) (is-whole : whole ≡ true) (a : VisitAnswer)
-    (is : narrowedOf a ≡ narrowSide overloadOf earliest k (stateOf s moves)) where
-  started : a .verdict ≡ Accepted → narrowSide overloadOf earliest k (stateOf s moves) ≡ answered (stateOf (a .windows) (a .moves))
+module _ (s : WindowSet) (moves k : ℕ) (ready : Searchable s k) (whole : Bool) (is-whole : whole ≡ true) (a : WindowsAnswer)
+    (is : narrowedOf a ≡ narrowSide overloadOf earliest k (narrowedBy s moves)) where
+  started : a .verdict ≡ Accepted → narrowSide overloadOf earliest k (narrowedBy s moves) ≡ answered (narrowedBy (a .windows) (a .moves))
   started e = rw e at (sym is)
 
-  pub visit-stopped : (x : Refusal) → a .verdict ≡ Refused x → narrowedOf a ≡ visit overloadOf (λ _. whole) k (stateOf s moves)
+  pub visit-stopped : (x : Refusal) → a .verdict ≡ Refused x → narrowedOf a ≡ visit overloadOf (λ _. whole) k (narrowedBy s moves)
   unfolding visit
   visit-stopped x e =
-      let z : narrowSide overloadOf earliest k (stateOf s moves) ≡ refused (codeOf x) = rw e at (sym is) in
+      let z : narrowSide overloadOf earliest k (narrowedBy s moves) ≡ refused (codeOf x) = rw e at (sym is) in
       rw (is-whole, z, e)
 
   module _ (e : a .verdict ≡ Accepted) where
     pub visit-on : Searchable (a .windows) k
     visit-on =
-        let cost = side-cost overloadOf (λ _. true) (stateOf s moves) (ready .formed) earliest k (ready .place) refl _ (started e) in
+        let cost = side-cost overloadOf (λ _. true) (narrowedBy s moves) (ready .formed) earliest k (ready .place) refl _ (started e) in
         record { formed = cost .keeps .formed; place = omega (arith, keeps-n (cost .keeps), ready .place) }
 
     pub visit-moves : a .moves ≤ moves + 2
-    visit-moves = rw (started e) at (side-moves overloadOf earliest k (stateOf s moves))
+    visit-moves = rw (started e) at (side-moves overloadOf earliest k (narrowedBy s moves))
 
-    pub visit-ends : (b : VisitAnswer) → narrowedOf b ≡ narrowSide overloadOf latest k (stateOf (a .windows) (a .moves))
-        → narrowedOf b ≡ visit overloadOf (λ _. whole) k (stateOf s moves)
+    pub visit-ends : (b : WindowsAnswer) → narrowedOf b ≡ narrowSide overloadOf latest k (narrowedBy (a .windows) (a .moves))
+        → narrowedOf b ≡ visit overloadOf (λ _. whole) k (narrowedBy s moves)
     unfolding visit
     visit-ends b last = rw (is-whole, started e) last
 
@@ -80,101 +77,93 @@ visits-stay test whole s x k (suc n) h e =
     (λ l. let z : k ≡ suc n = omega arith in rw z at e)
 
 -- the places below k were visited, with this result
-pub record Visited (l : DayList) (s : Narrowed) (now : VisitAnswer) (k : ℕ) : Type 0 where
-  pub passed : k ≤ l .n
+pub record Visited (whole : ℕ → Bool) (s : Narrowed) (now : WindowsAnswer) (k : ℕ) : Type 0 where
+  pub passed : k ≤ s .windows .n
   pub accepted : now .verdict ≡ Accepted
-  pub so : visits overloadOf (wholeIn l) k s ≡ answered (stateOf (now .windows) (now .moves))
+  pub so : visits overloadOf whole k s ≡ answered (narrowedBy (now .windows) (now .moves))
 
-module _ (l : DayList) (s : WindowSet) (moves : ℕ) (ready : Countable l s moves) where
-  pub visited-none : Visited l (stateOf s moves) (record { verdict = Accepted; windows = s; moves = moves }) 0
+module _ (whole : ℕ → Bool) (s : WindowSet) (moves : ℕ) (ready : Countable whole s moves) where
+  pub visited-none : Visited whole (narrowedBy s moves) (record { verdict = Accepted; windows = s; moves = moves }) 0
   unfolding visits
   visited-none = record { passed = omega arith; accepted = refl; so = refl }
 
-  module _ (now : VisitAnswer) (k : ℕ) (v : Visited l (stateOf s moves) now k) where
-    pub visited-all : l .n ≤ k → narrowedOf now ≡ round overloadOf (wholeIn l) (stateOf s moves)
+  module _ (now : WindowsAnswer) (k : ℕ) (v : Visited whole (narrowedBy s moves) now k) where
+    pub visited-all : windowsIn s .n ≤ k → narrowedOf now ≡ round overloadOf whole (narrowedBy s moves)
     visited-all h =
-        let z : windowsIn s .n ≡ k = omega (arith, ready .count, v .passed) in
-        rw (v .accepted) (sym (ap (λ (j : ℕ). visits overloadOf (wholeIn l) j (stateOf s moves)) z ∙ v .so))
+        let z : windowsIn s .n ≡ k = omega (arith, v .passed) in
+        rw (v .accepted) (sym (ap (λ (j : ℕ). visits overloadOf whole j (narrowedBy s moves)) z ∙ v .so))
 
-    module _ (h : k < l .n) where
-      cost : Costs (wholeIn l) (stateOf s moves) (stateOf (now .windows) (now .moves))
-      cost = visits-cost overloadOf (wholeIn l) (stateOf s moves) (ready .formed) k (omega (arith, ready .count)) _ (v .so)
+    module _ (h : k < windowsIn s .n) where
+      cost : Costs whole (narrowedBy s moves) (narrowedBy (now .windows) (now .moves))
+      cost = visits-cost overloadOf whole (narrowedBy s moves) (ready .formed) k (omega arith) _ (v .so)
 
       -- the next place can be visited, and its moves be counted
       pub next-ready : Searchable (now .windows) k
-      next-ready = record { formed = cost .keeps .formed; place = omega (arith, keeps-n (cost .keeps), ready .count, h) }
+      next-ready = record { formed = cost .keeps .formed; place = omega (arith, keeps-n (cost .keeps), h) }
 
       pub next-few : now .moves < 4294967290
       next-few = omega (arith, cost .bounded, ready .few)
 
-      module _ (long : length (l .entries) ≡ 64) (whole : Bool) (kind : whole ≡ isWhole (getD (l .entries) k blank .kind)) (a : VisitAnswer)
-          (is : narrowedOf a ≡ visit overloadOf (λ _. whole) k (stateOf (now .windows) (now .moves))) where
-        after : visits overloadOf (wholeIn l) (k + 1) (stateOf s moves) ≡ narrowedOf a
+      module _ (a : WindowsAnswer) (is : narrowedOf a ≡ visit overloadOf (λ _. whole k) k (narrowedBy (now .windows) (now .moves))) where
+        after : visits overloadOf whole (k + 1) (narrowedBy s moves) ≡ narrowedOf a
         unfolding visits visit
-        after =
-            let z : wholeIn l k ≡ whole = rw (getD-take (l .n) (l .entries) k blank h) (sym kind) in
-            rw (add-one, v .so, z) (sym is)
+        after = rw (add-one, v .so) (sym is)
 
-        pub visited-next : a .verdict ≡ Accepted → Visited l (stateOf s moves) a (k + 1)
+        pub visited-next : a .verdict ≡ Accepted → Visited whole (narrowedBy s moves) a (k + 1)
         visited-next e = record { passed = omega (arith, h); accepted = e; so = after ∙ rw e }
 
-        pub visited-stopped : (x : Refusal) → a .verdict ≡ Refused x → narrowedOf a ≡ round overloadOf (wholeIn l) (stateOf s moves)
+        pub visited-stopped : (x : Refusal) → a .verdict ≡ Refused x → narrowedOf a ≡ round overloadOf whole (narrowedBy s moves)
         visited-stopped x e =
-            let z : visits overloadOf (wholeIn l) (k + 1) (stateOf s moves) ≡ refused (codeOf x) = after ∙ rw e in
-            rw e (sym (visits-stay overloadOf (wholeIn l) (stateOf s moves) (codeOf x) (k + 1) _ (omega (arith, ready .count, h)) z))
+            let z : visits overloadOf whole (k + 1) (narrowedBy s moves) ≡ refused (codeOf x) = after ∙ rw e in
+            rw e (sym (visits-stay overloadOf whole (narrowedBy s moves) (codeOf x) (k + 1) _ (omega (arith, h)) z))
 
 -- the rounds from now on give what all rounds give; so many more may be made
-pub record Rounded (l : DayList) (given now : WindowSet) (moves : ℕ) : Type 0 where
-  pub ready : Countable l now moves
+pub record Rounded (whole : ℕ → Bool) (given now : WindowSet) (moves : ℕ) : Type 0 where
+  pub ready : Countable whole now moves
   pub fuel : ℕ
-  pub enough : slack (wholeIn l) (windowsIn now) < fuel
-  pub same : rounds overloadOf (wholeIn l) (suc (slack (wholeIn l) (windowsIn given))) (unmoved (windowsIn given))
-      ≡ rounds overloadOf (wholeIn l) fuel (stateOf now moves)
+  pub enough : slack whole (windowsIn now) < fuel
+  pub same : allRounds overloadOf whole (windowsIn given) ≡ rounds overloadOf whole fuel (narrowedBy now moves)
 
 -- what follows a round, when there were so many moves before it
-goes-on : DayList → ℕ → ℕ → Narrowed → Outcome Narrowed
-goes-on l moves fuel v = cond (eqb (v .moves) moves) (answered v) (rounds overloadOf (wholeIn l) fuel v)
+goes-on : (ℕ → Bool) → ℕ → ℕ → Narrowed → Outcome Narrowed
+goes-on whole moves fuel v = cond (eqb (v .moves) moves) (answered v) (rounds overloadOf whole fuel v)
 
-module _ (l : DayList) (given : WindowSet) where
-  pub rounded-none : Countable l given 0 → Rounded l given given 0
-  rounded-none ready = record { ready = ready; fuel = suc (slack (wholeIn l) (windowsIn given)); enough = omega arith; same = refl }
+module _ (whole : ℕ → Bool) (given : WindowSet) where
+  pub rounded-none : Countable whole given 0 → Rounded whole given given 0
+  rounded-none ready = record { ready = ready; fuel = suc (slack whole (windowsIn given)); enough = omega arith; same = refl }
 
-  module _ (now : WindowSet) (moves : ℕ) (so : Rounded l given now moves) (a : VisitAnswer)
-      (is : narrowedOf a ≡ round overloadOf (wholeIn l) (stateOf now moves)) where
-    abbrev all-rounds : Outcome Narrowed
-    all-rounds = rounds overloadOf (wholeIn l) (suc (slack (wholeIn l) (windowsIn given))) (unmoved (windowsIn given))
-
-    one-more : all-rounds ≡ andThen (narrowedOf a) (goes-on l moves (so .fuel - 1))
+  module _ (now : WindowSet) (moves : ℕ) (so : Rounded whole given now moves) (a : WindowsAnswer)
+      (is : narrowedOf a ≡ round overloadOf whole (narrowedBy now moves)) where
+    one-more : allRounds overloadOf whole (windowsIn given) ≡ andThen (narrowedOf a) (goes-on whole moves (so .fuel - 1))
     unfolding rounds goes-on
     one-more =
         let z : so .fuel ≡ suc (so .fuel - 1) = omega (arith, so .enough) in
         so .same
-        ∙ ap (λ (f : ℕ). rounds overloadOf (wholeIn l) f (stateOf now moves)) z
-        ∙ ap (λ (o : Outcome Narrowed). andThen o (goes-on l moves (so .fuel - 1))) (sym is)
+        ∙ ap (λ (f : ℕ). rounds overloadOf whole f (narrowedBy now moves)) z
+        ∙ ap (λ (o : Outcome Narrowed). andThen o (goes-on whole moves (so .fuel - 1))) (sym is)
 
-    pub rounded-stopped : (x : Refusal) → a .verdict ≡ Refused x → narrowedOf a ≡ all-rounds
+    pub rounded-stopped : (x : Refusal) → a .verdict ≡ Refused x → narrowedOf a ≡ allRounds overloadOf whole (windowsIn given)
     rounded-stopped x e = rw e (sym (one-more ∙ rw e))
 
     module _ (e : a .verdict ≡ Accepted) where
-      pub rounded-last : a .moves ≡ moves → narrowedOf a ≡ all-rounds
+      pub rounded-last : a .moves ≡ moves → narrowedOf a ≡ allRounds overloadOf whole (windowsIn given)
       unfolding goes-on
       rounded-last q = rw e (sym (one-more ∙ rw (e, eq-eqb _ _ q)))
 
-      cost-of : Costs (wholeIn l) (stateOf now moves) (stateOf (a .windows) (a .moves))
-      cost-of = round-cost overloadOf (wholeIn l) (stateOf now moves) (so .ready .formed) _ (rw e at (sym is))
+      cost-of : Costs whole (narrowedBy now moves) (narrowedBy (a .windows) (a .moves))
+      cost-of = round-cost overloadOf whole (narrowedBy now moves) (so .ready .formed) _ (rw e at (sym is))
 
       module _ (moved : a .moves ≡ moves → ⊥) where
-        pub rounded-less : slack (wholeIn l) (windowsIn (a .windows)) < slack (wholeIn l) (windowsIn now)
+        pub rounded-less : slack whole (windowsIn (a .windows)) < slack whole (windowsIn now)
         rounded-less = omega (arith, cost-of .bounded, cost-of .more, moved)
 
-        pub rounded-next : Rounded l given (a .windows) (a .moves)
+        pub rounded-next : Rounded whole given (a .windows) (a .moves)
         unfolding goes-on
         rounded-next =
             record {
               ready =
                   record {
                     formed = cost-of .keeps .formed;
-                    count = keeps-n (cost-of .keeps) ∙ so .ready .count;
                     few = omega (arith, cost-of .bounded, so .ready .few);
                   };
               fuel = so .fuel - 1;

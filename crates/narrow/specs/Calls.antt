@@ -1,6 +1,7 @@
 -- Narrowing a list: what the calls answer.
 use Prim.Native.Nat.{ℕ, _+_}
 use mathlib.Core.Path.{_≡_}
+use mathlib.Core.Bool.{Bool}
 use mathlib.Core.List.{List, [], _∷_, map}
 use Rattle.base.specs.Outcomes.{Outcome, answered, refused, andThen}
 use Rattle.list.specs.Refusals.{outcomeOf}
@@ -9,11 +10,14 @@ use Rattle.list.specs.Checks.{checkOf, WellFormed}
 use Rattle.list.specs.declared.types.Seal.the-variants.{Missing}
 use Rattle.list.specs.declared.types.Entry.{Entry}
 use Rattle.list.specs.declared.types.DayList.{DayList}
-use Rattle.list.specs.declared.types.Verdict.the-variants.{Accepted}
-use Rattle.jackson.specs.Windows.{Windows, windowsOf}
+use Rattle.list.specs.declared.types.Refusal.{Refusal}
+use Rattle.list.specs.declared.types.Verdict.the-variants.{Accepted, Refused}
+use Rattle.jackson.specs.Windows.{Windows, windowsOf, windowsIn, roomFault, Formed}
+use Rattle.jackson.specs.declared.types.WindowSet.{WindowSet}
 use Rattle.jackson.specs.Intervals.{overloadOf}
 use Rattle.narrow.specs.Rounds.{Narrowed, unmoved, round, narrowing}
 use Rattle.narrow.specs.Laws.{RoundLaw, NarrowLaw}
+use Rattle.narrow.specs.declared.types.WindowsAnswer.{WindowsAnswer}
 use Rattle.narrow.specs.declared.types.NarrowAnswer.{NarrowAnswer}
 
 -- an entry without its serial and seal
@@ -38,6 +42,21 @@ entriesWith w i (e ∷ es) = entryWith e (w .r i) (w .d i) ∷ entriesWith w (i 
 -- the list with the windows of w
 unfoldable pub listWith : DayList → Windows → DayList
 listWith l w = dayList (l .frame) (entriesWith w 0 (entriesOf l))
+
+-- Narrowing windows, where `whole` says which entries are whole: row 7 for windows without room, row 9, then rounds and row 10.
+unfoldable pub narrowWindows : (ℕ → Bool) → Windows → Outcome Narrowed
+narrowWindows whole w = andThen (roomFault w) (λ _. narrowing overloadOf whole w)
+
+-- the answer of a call
+abbrev pub narrowedOf : WindowsAnswer → Outcome Narrowed
+narrowedOf a = outcomeOf (a .verdict) (record { windows = windowsIn (a .windows); moves = a .moves })
+
+-- what `narrow_windows` answers of the windows s
+pub record NarrowsWindows (whole : ℕ → Bool) (s : WindowSet) (a : WindowsAnswer) : Type 0 where
+  pub outcome : narrowedOf a ≡ narrowWindows whole (windowsIn s)
+  pub beside : (x : Refusal) → a .verdict ≡ Refused x → a ≡ record { verdict = Refused x; windows = s; moves = 0 }
+  -- the law, for windows with room, of the windows and moves answered
+  pub law : Formed (windowsIn s) → NarrowLaw overloadOf whole (windowsIn s) (narrowedOf a)
 
 -- narrowing a list: the value check, row 9, then rounds and row 10
 unfoldable pub settleOf : DayList → Outcome Narrowed
@@ -82,7 +101,7 @@ pub record Settles (l : DayList) (a : NarrowAnswer) : Type 0 where
   -- the law, for a list that passes the value check, of the windows and moves answered
   pub law : WellFormed l → NarrowLaw overloadOf (wholeIn l) (windowsOf l) (narrowedIn a)
 
--- what `unchecked_round` answers of the list l
+-- what `make_round` answers of the list l
 pub record MakesRound (l : DayList) (a : NarrowAnswer) : Type 0 where
   pub answers : AnswersAs l (roundOf l) a
   pub holds : HoldsAnswer l (roundOf l) a

@@ -70,6 +70,10 @@ rounds test whole (suc fuel) s =
 abbrev pub slack : (ℕ → Bool) → Windows → ℕ
 slack whole w = sum (w .n) (λ i. cond (whole i) (w .d i - (w .r i + w .p i)) 0)
 
+-- all of them, from windows in which nothing was moved yet
+abbrev pub allRounds : Test → (ℕ → Bool) → Windows → Outcome Narrowed
+allRounds test whole w = rounds test whole (suc (slack whole w)) (unmoved w)
+
 -- "First the given windows are tested for overload. Then rounds follow."
 unfoldable pub narrowing : Test → (ℕ → Bool) → Windows → Outcome Narrowed
-narrowing test whole w = andThen (test w) (λ _. rounds test whole (suc (slack whole w)) (unmoved w))
+narrowing test whole w = andThen (test w) (λ _. allRounds test whole w)

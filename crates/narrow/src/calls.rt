@@ -1,20 +1,19 @@
 // Narrowing a list.
-use crate::rounds::VisitAnswer;
-use crate::rounds::all_rounds;
+use crate::rounds::narrow_windows;
 use crate::rounds::one_round;
 use crate::types::NarrowAnswer;
+use crate::types::WindowsAnswer;
 use jackson::types::WindowSet;
-use jackson::unchecked_overload;
 use jackson::unchecked_windows;
+use list::places_held;
 use list::types::DayList;
 use list::types::Entry;
 use list::types::Verdict;
+use list::whole_places;
 ghost use mathlib.Core.Path.{_≡_};
-ghost use Prim.Native.Nat.{_≤_};
 ghost use Rattle.list.specs.DayLists.{emptyList};
 ghost use Rattle.jackson.specs.Windows.{windowsIn};
-ghost use Rattle.narrow.specs.Calls.{entryWith, listWith, AnswersAs, Settles, MakesRound};
-ghost use Rattle.narrow.specs.Internal.{narrowedOf};
+ghost use Rattle.narrow.specs.Calls.{entryWith, listWith, narrowedOf, AnswersAs, Settles, MakesRound};
 
 // An entry with another window.
 fn entry_with(e: Entry, r: u16, d: u16) -> Entry
@@ -28,12 +27,11 @@ fn entry_with(e: Entry, r: u16, d: u16) -> Entry
 
 // The list with these windows. Places from n on are blank.
 fn list_with(list: DayList, windows: WindowSet) -> DayList
-    requires { ⌜ list .n ≤ 64 ⌝ }
     ensures { λ l. ⌜ l ≡ listWith list (windowsIn windows) ⌝ }
 {
     let empty = list::empty_list();
     let mut entries = empty.entries;
-    let count = list.n as usize;
+    let count = places_held(list.n);
     let mut i: usize = 0;
     while i < count {
         entries[i] = entry_with(list.entries[i], windows.r[i], windows.d[i]);
@@ -41,7 +39,7 @@ fn list_with(list: DayList, windows: WindowSet) -> DayList
     }
     DayList {
         frame: list.frame,
-        n: list.n,
+        n: count as u8,
         entries: entries,
     }
 }
@@ -57,9 +55,8 @@ pub fn refused_with(verdict: Verdict) -> NarrowAnswer
     }
 }
 
-// The answer that rounds give.
-fn answer_with(list: DayList, found: VisitAnswer) -> NarrowAnswer
-    requires { ⌜ list .n ≤ 64 ⌝ }
+// The list with the windows found and their moves, or a refusal with what stands beside it.
+pub fn answer_with(list: DayList, found: WindowsAnswer) -> NarrowAnswer
     ensures { λ a. ⌜ AnswersAs list (narrowedOf found) a ⌝ }
 {
     let verdict = found.verdict;
@@ -81,22 +78,19 @@ pub fn settle(list: DayList) -> NarrowAnswer
     let Verdict::Accepted = verdict else {
         return refused_with(verdict);
     };
-    let windows = unchecked_windows(list);
-    let test = unchecked_overload(windows);
-    let Verdict::Accepted = test else {
-        return refused_with(test);
-    };
-    answer_with(list, all_rounds(list, windows))
+    let found = narrow_windows(whole_places(list), unchecked_windows(list));
+    answer_with(list, found)
 }
 
 // Makes one round of a list from its windows as given, for a caller that has tested them: the value check, then the round and row 10. Row 9
 // is not tested, so an overloaded list may be answered.
-pub fn unchecked_round(list: DayList) -> NarrowAnswer
+pub fn make_round(list: DayList) -> NarrowAnswer
     ensures { λ a. ⌜ MakesRound list a ⌝ }
 {
     let verdict = list::check(list);
     let Verdict::Accepted = verdict else {
         return refused_with(verdict);
     };
-    answer_with(list, one_round(list, unchecked_windows(list), 0))
+    let found = one_round(whole_places(list), unchecked_windows(list), 0);
+    answer_with(list, found)
 }

@@ -1,38 +1,24 @@
 // Visits and rounds.
 use crate::search::Found;
 use crate::search::least_start;
+use crate::types::WindowsAnswer;
 use jackson::mirrored;
+use jackson::room_fault;
 use jackson::types::WindowSet;
-use list::types::DayList;
-use list::types::Kind;
+use jackson::unchecked_overload;
+use list::places_held;
 use list::types::Refusal;
 use list::types::Verdict;
 ghost use mathlib.Core.Path.{_≡_};
 ghost use mathlib.Core.List.{[], _∷_};
-ghost use Prim.Native.Nat.{suc, _<_};
+ghost use Prim.Native.Nat.{_<_};
 ghost use Rattle.base.specs.Outcomes.{code, refused};
 ghost use Rattle.jackson.specs.Windows.{windowsIn, Searchable};
 ghost use Rattle.jackson.specs.Intervals.{overloadOf};
-ghost use Rattle.narrow.specs.Rounds.{earliest, latest, moved, narrowSide, visit, unmoved, round, rounds, slack};
-ghost use Rattle.list.specs.DayLists.{isWhole, wholeIn};
-ghost use Rattle.narrow.specs.Internal.{Countable, stateOf, narrowedOf};
-
-// The windows and the moves made so far, or a refusal.
-pub(crate) struct VisitAnswer {
-    pub verdict: Verdict,
-    pub windows: WindowSet,
-    pub moves: u32,
-}
-
-// Whether an entry of this kind is whole.
-pub fn is_whole(kind: Kind) -> bool
-    ensures { λ b. ⌜ b ≡ isWhole kind ⌝ }
-{
-    match kind {
-        Kind::Pause => false,
-        Kind::Whole => true,
-    }
-}
+ghost use Rattle.narrow.specs.Rounds.{earliest, latest, moved, narrowSide, visit, round, allRounds};
+ghost use Rattle.list.specs.DayLists.{marked};
+ghost use Rattle.narrow.specs.Calls.{narrowedOf, NarrowsWindows};
+ghost use Rattle.narrow.specs.Internal.{Countable, narrowedBy};
 
 // "A changed r is one move, a changed d another."
 fn moved_from(before: u16, after: u16) -> u32
@@ -42,10 +28,10 @@ fn moved_from(before: u16, after: u16) -> u32
 }
 
 // The answer where a search for entry k found no minute.
-fn refused_at(windows: WindowSet, moves: u32, k: usize) -> VisitAnswer
+fn refused_at(windows: WindowSet, moves: u32, k: usize) -> WindowsAnswer
     ensures { λ a. ⌜ narrowedOf a ≡ refused (code 10 (k ∷ [])) ⌝ }
 {
-    VisitAnswer {
+    WindowsAnswer {
         verdict: Verdict::Refused(Refusal::NoPlace(k)),
         windows: windows,
         moves: moves,
@@ -53,17 +39,17 @@ fn refused_at(windows: WindowSet, moves: u32, k: usize) -> VisitAnswer
 }
 
 // The search for entry k's r, with its move.
-fn narrow_start(windows: WindowSet, moves: u32, k: usize) -> VisitAnswer
+fn narrow_start(windows: WindowSet, moves: u32, k: usize) -> WindowsAnswer
     requires { ⌜ Searchable windows k ⌝ }
     requires { ⌜ moves < 4294967295 ⌝ }
-    ensures { λ a. ⌜ narrowedOf a ≡ narrowSide overloadOf earliest k (stateOf windows moves) ⌝ }
+    ensures { λ a. ⌜ narrowedOf a ≡ narrowSide overloadOf earliest k (narrowedBy windows moves) ⌝ }
 {
     let Found::Minute(s) = least_start(windows, k) else {
         return refused_at(windows, moves, k);
     };
     let mut next = windows;
     next.r[k] = s;
-    VisitAnswer {
+    WindowsAnswer {
         verdict: Verdict::Accepted,
         windows: next,
         moves: moves + moved_from(windows.r[k], s),
@@ -71,14 +57,14 @@ fn narrow_start(windows: WindowSet, moves: u32, k: usize) -> VisitAnswer
 }
 
 // The search for entry k's d, with its move: that for its r in the mirror. In a visit it finds one, since the r just found is a place.
-fn narrow_end(windows: WindowSet, moves: u32, k: usize) -> VisitAnswer
+fn narrow_end(windows: WindowSet, moves: u32, k: usize) -> WindowsAnswer
     requires { ⌜ Searchable windows k ⌝ }
     requires { ⌜ moves < 4294967295 ⌝ }
-    ensures { λ a. ⌜ narrowedOf a ≡ narrowSide overloadOf latest k (stateOf windows moves) ⌝ }
+    ensures { λ a. ⌜ narrowedOf a ≡ narrowSide overloadOf latest k (narrowedBy windows moves) ⌝ }
 {
     let found = narrow_start(mirrored(windows), moves, k);
     let verdict = found.verdict;
-    VisitAnswer {
+    WindowsAnswer {
         verdict: verdict,
         windows: mirrored(found.windows),
         moves: found.moves,
@@ -86,13 +72,13 @@ fn narrow_end(windows: WindowSet, moves: u32, k: usize) -> VisitAnswer
 }
 
 // Visits entry k: a pause entry is passed over; of a whole one the r is searched for, then the d. The bound leaves room for their moves.
-fn visit(whole: bool, windows: WindowSet, moves: u32, k: usize) -> VisitAnswer
+fn visit(whole: bool, windows: WindowSet, moves: u32, k: usize) -> WindowsAnswer
     requires { ⌜ Searchable windows k ⌝ }
     requires { ⌜ moves < 4294967290 ⌝ }
-    ensures { λ a. ⌜ narrowedOf a ≡ visit overloadOf (λ _. whole) k (stateOf windows moves) ⌝ }
+    ensures { λ a. ⌜ narrowedOf a ≡ visit overloadOf (λ _. whole) k (narrowedBy windows moves) ⌝ }
 {
     if !whole {
-        return VisitAnswer {
+        return WindowsAnswer {
             verdict: Verdict::Accepted,
             windows: windows,
             moves: moves,
@@ -107,21 +93,19 @@ fn visit(whole: bool, windows: WindowSet, moves: u32, k: usize) -> VisitAnswer
 }
 
 // One round: visits the entries from place 0 up.
-pub(crate) fn one_round(list: DayList, windows: WindowSet, moves: u32) -> VisitAnswer
-    requires { ⌜ Countable list windows moves ⌝ }
-    ensures { λ a. ⌜ narrowedOf a ≡ round overloadOf (wholeIn list) (stateOf windows moves) ⌝ }
+pub(crate) fn one_round(whole: [bool; 64], windows: WindowSet, moves: u32) -> WindowsAnswer
+    requires { ⌜ Countable (marked whole) windows moves ⌝ }
+    ensures { λ a. ⌜ narrowedOf a ≡ round overloadOf (marked whole) (narrowedBy windows moves) ⌝ }
 {
-    let mut now = VisitAnswer {
+    let mut now = WindowsAnswer {
         verdict: Verdict::Accepted,
         windows: windows,
         moves: moves,
     };
-    let count = list.n as usize;
+    let count = places_held(windows.n);
     let mut k: usize = 0;
     while k < count {
-        let e = list.entries[k];
-        let kind = e.kind;
-        now = visit(is_whole(kind), now.windows, now.moves, k);
+        now = visit(whole[k], now.windows, now.moves, k);
         let verdict = now.verdict;
         let Verdict::Accepted = verdict else {
             return now;
@@ -132,14 +116,14 @@ pub(crate) fn one_round(list: DayList, windows: WindowSet, moves: u32) -> VisitA
 }
 
 // Rounds until one makes no move, or a refusal.
-pub(crate) fn all_rounds(list: DayList, windows: WindowSet) -> VisitAnswer
-    requires { ⌜ Countable list windows 0 ⌝ }
-    ensures { λ a. ⌜ narrowedOf a ≡ rounds overloadOf (wholeIn list) (suc (slack (wholeIn list) (windowsIn windows))) (unmoved (windowsIn windows)) ⌝ }
+fn all_rounds(whole: [bool; 64], windows: WindowSet) -> WindowsAnswer
+    requires { ⌜ Countable (marked whole) windows 0 ⌝ }
+    ensures { λ a. ⌜ narrowedOf a ≡ allRounds overloadOf (marked whole) (windowsIn windows) ⌝ }
 {
     let mut now = windows;
     let mut moves: u32 = 0;
     loop {
-        let next = one_round(list, now, moves);
+        let next = one_round(whole, now, moves);
         let verdict = next.verdict;
         let Verdict::Accepted = verdict else {
             break next;
@@ -150,4 +134,35 @@ pub(crate) fn all_rounds(list: DayList, windows: WindowSet) -> VisitAnswer
         now = next.windows;
         moves = next.moves;
     }
+}
+
+// A refusal, with what stands beside it.
+fn unmoved_with(verdict: Verdict, windows: WindowSet) -> WindowsAnswer
+    ensures { λ a. ⌜ a ≡ record { verdict = verdict; windows = windows; moves = 0 } ⌝ }
+{
+    WindowsAnswer {
+        verdict: verdict,
+        windows: windows,
+        moves: 0,
+    }
+}
+
+// Narrows windows until they are settled, where `whole` marks the whole entries: row 7, row 9 for the windows as given, then rounds and row 10.
+pub fn narrow_windows(whole: [bool; 64], windows: WindowSet) -> WindowsAnswer
+    ensures { λ a. ⌜ NarrowsWindows (marked whole) windows a ⌝ }
+{
+    let fault = room_fault(windows);
+    let Verdict::Accepted = fault else {
+        return unmoved_with(fault, windows);
+    };
+    let test = unchecked_overload(windows);
+    let Verdict::Accepted = test else {
+        return unmoved_with(test, windows);
+    };
+    let found = all_rounds(whole, windows);
+    let verdict = found.verdict;
+    let Verdict::Accepted = verdict else {
+        return unmoved_with(verdict, windows);
+    };
+    found
 }

@@ -1,11 +1,10 @@
 // A visit's search for an entry's r; that for its d is this one in the mirror (rounds.rt).
 use jackson::types::WindowSet;
 use jackson::unchecked_overload;
-use list::types::Verdict;
+use list::is_accepted;
 ghost use mathlib.Core.Path.{_≡_};
 ghost use Prim.Native.Nat.{_+_, _≤_};
 ghost use lib.ListN.{getD};
-ghost use Rattle.list.specs.Refusals.{verdictOf};
 ghost use Rattle.jackson.specs.Windows.{windowsIn, fixedAt, Searchable};
 ghost use Rattle.jackson.specs.Intervals.{overloadOf};
 ghost use Rattle.base.specs.Outcomes.{accepts};
@@ -16,16 +15,6 @@ ghost use Rattle.narrow.specs.Internal.{foundOf};
 pub(crate) enum Found {
     Minute(u16),
     NoMinute,
-}
-
-// Whether a verdict is no refusal.
-pub fn is_accepted(verdict: Verdict) -> bool
-    ensures { λ b. ⌜ b ≡ accepts (verdictOf verdict) ⌝ }
-{
-    match verdict {
-        Verdict::Accepted => true,
-        Verdict::Refused(_) => false,
-    }
 }
 
 // Whether a plan exists when entry k's window is [s, s + p) and the others keep theirs.

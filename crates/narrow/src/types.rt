@@ -1,6 +1,14 @@
 // What narrowing answers.
+use jackson::types::WindowSet;
 use list::types::DayList;
 use list::types::Verdict;
+
+// The narrowed windows and their moves beside Accepted; the windows given and 0 beside a refusal.
+pub struct WindowsAnswer {
+    pub verdict: Verdict,
+    pub windows: WindowSet,
+    pub moves: u32,
+}
 
 // The narrowed list and its moves beside Accepted; the empty list and 0 beside a refusal.
 pub struct NarrowAnswer {

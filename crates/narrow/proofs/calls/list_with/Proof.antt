@@ -3,6 +3,7 @@
 use borrow.Author.Needs.{needs}
 use mathlib.Core.Path.{_≡_, ap}
 use Prim.Native.Nat.{_-_}
+use native.Mathlib.Omega.{arith}
 use lib.ListN.{length}
 use Rattle.list.specs.declared.types.DayList.{DayList}
 use Rattle.base.proofs.Walk.{length-mapped}
@@ -12,7 +13,7 @@ use Rattle.narrow.proofs.calls.list_with.Statement.{statement}
 use Rattle.narrow.proofs.calls.list_with.Tie as tie
 
 abbrev Inv-loop : tie.InvT-loop
-Inv-loop list windows entries₀ count i₀ entries i = Filled list (windowsIn windows) entries i
+Inv-loop list windows entries₀ count i₀ entries i = Filled list (windowsIn windows) count entries i
 
 abbrev μ-loop : tie.MeasureT-loop
 μ-loop list windows entries₀ count i₀ entries i = count - i
@@ -24,11 +25,14 @@ long c = search (needs, length-mapped)
 empty-list-requires : tie.Need-empty-list-requires Inv-loop μ-loop
 empty-list-requires c κs = search needs
 
-cast-count : tie.Need-cast-count Inv-loop μ-loop
-cast-count c = search needs
+places-held-requires : tie.Need-places-held-requires Inv-loop μ-loop
+places-held-requires c κs = search needs
 
 loop-holds : tie.Need-loop-holds Inv-loop μ-loop
-loop-holds c = filled-none _ _ _ (c .before .before .pre) (ap (λ (l : DayList). l .entries) (c .before .empty-list .ensures))
+loop-holds c =
+    let start = c .before .before .before in
+    filled-none (start .args .t1) (windowsIn (start .args .t2)) _ _ (omega (arith, c .places-held .ensures))
+    (ap (λ (l : DayList). l .entries) (c .before .before .empty-list .ensures))
 
 mul-entry-with : tie.Need-mul-entry-with Inv-loop μ-loop
 mul-entry-with c = search needs
@@ -65,17 +69,22 @@ loop-less c = search needs
 
 loop-again : tie.Need-loop-again Inv-loop μ-loop
 loop-again c =
-    let start = c .before .before .before .before .before .before .before .before in
+    let start = c .before .before .before .before .before .before .before .before .before in
     let loop = c .before .before .before .before .before .loop in
-    let loop-test = c .before .before .before .before .loop-test in
-    filled-next (start .args .t1) (windowsIn (start .args .t2)) (long start) (loop .entries) (loop .i) (loop .inv) _ (loop-test .taken)
+    let taken = c .before .before .before .before .loop-test .taken in
+    filled-next (start .args .t1) (windowsIn (start .args .t2)) _ (long start) (loop .entries) (loop .i) (loop .inv) _ taken
     (c .entry-with .ensures)
+
+cast-t9 : tie.Need-cast-t9 Inv-loop μ-loop
+cast-t9 c = omega (arith, c .before .before .before .places-held .ensures)
 
 returns : tie.Need-returns Inv-loop μ-loop
 returns c =
-    let start = c .before .before .before .before .before in
+    let start = c .before .before .before .before .before .before in
     let loop = c .before .before .loop in
-    filled-all (start .args .t1) (windowsIn (start .args .t2)) (long start) (loop .entries) (loop .i) (loop .inv) (c .before .loop-test .left)
+    let held = c .before .before .before .places-held .ensures in
+    filled-all (start .args .t1) (windowsIn (start .args .t2)) _ (long start) (loop .entries) (loop .i) (loop .inv) held
+    (c .before .loop-test .left)
 
 pub list-with-spec : {M : Type 1} → statement M
 list-with-spec =
@@ -84,7 +93,7 @@ list-with-spec =
     Inv-loop
     μ-loop
     empty-list-requires
-    cast-count
+    places-held-requires
     loop-holds
     mul-entry-with
     element-copy-out-entry-with
@@ -98,4 +107,5 @@ list-with-spec =
     add-i
     loop-less
     loop-again
+    cast-t9
     returns)

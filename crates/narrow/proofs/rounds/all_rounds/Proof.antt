@@ -3,19 +3,19 @@
 use borrow.Author.Needs.{needs}
 use Rattle.jackson.specs.Windows.{windowsIn}
 use Rattle.narrow.specs.Rounds.{slack}
-use Rattle.list.specs.DayLists.{wholeIn}
+use Rattle.list.specs.DayLists.{marked}
 use Rattle.narrow.proofs.VisitCases.{Rounded, rounded-none, rounded-stopped, rounded-last, rounded-less, rounded-next}
 use Rattle.narrow.proofs.rounds.all_rounds.Statement.{statement}
 use Rattle.narrow.proofs.rounds.all_rounds.Tie as tie
 
 abbrev Inv-loop : tie.InvT-loop
-Inv-loop list now₀ moves₀ now moves = Rounded list now₀ now moves
+Inv-loop whole now₀ moves₀ now moves = Rounded (marked whole) now₀ now moves
 
 abbrev μ-loop : tie.MeasureT-loop
-μ-loop list now₀ moves₀ now moves = slack (wholeIn list) (windowsIn now)
+μ-loop whole now₀ moves₀ now moves = slack (marked whole) (windowsIn now)
 
 loop-holds : tie.Need-loop-holds Inv-loop μ-loop
-loop-holds c = rounded-none (c .args .list) (c .args .windows) (c .pre)
+loop-holds c = rounded-none (marked (c .args .whole)) (c .args .windows) (c .pre)
 
 one-round-requires : tie.Need-one-round-requires Inv-loop μ-loop
 one-round-requires c κs = c .loop .inv .ready
@@ -32,7 +32,7 @@ loop-less c =
     let loop = c .before .before .before .before .before .before .loop in
     let one-round = c .before .before .before .before .before .one-round in
     let enum-told = c .before .before .before .enum-told in
-    rounded-less (args .list) (args .windows) (loop .now) (loop .moves) (loop .inv) (one-round .result) (one-round .ensures)
+    rounded-less (marked (args .whole)) (args .windows) (loop .now) (loop .moves) (loop .inv) (one-round .result) (one-round .ensures)
     (enum-told .given .1) (c .before .if1 .left)
 
 loop-again : tie.Need-loop-again Inv-loop μ-loop
@@ -41,7 +41,7 @@ loop-again c =
     let loop = c .before .before .before .before .before .before .loop in
     let one-round = c .before .before .before .before .before .one-round in
     let enum-told = c .before .before .before .enum-told in
-    rounded-next (args .list) (args .windows) (loop .now) (loop .moves) (loop .inv) (one-round .result) (one-round .ensures)
+    rounded-next (marked (args .whole)) (args .windows) (loop .now) (loop .moves) (loop .inv) (one-round .result) (one-round .ensures)
     (enum-told .given .1) (c .before .if1 .left)
 
 returns : tie.Need-returns Inv-loop μ-loop
@@ -49,7 +49,7 @@ returns c =
     let args = c .before .before .before .before .args in
     let loop = c .before .before .before .loop in
     let one-round = c .before .before .one-round in
-    rounded-stopped (args .list) (args .windows) (loop .now) (loop .moves) (loop .inv) (one-round .result) (one-round .ensures) _
+    rounded-stopped (marked (args .whole)) (args .windows) (loop .now) (loop .moves) (loop .inv) (one-round .result) (one-round .ensures) _
     (c .enum-told2 .given .1)
 
 returns-2 : tie.Need-returns-2 Inv-loop μ-loop
@@ -57,7 +57,7 @@ returns-2 c =
     let args = c .before .before .before .before .before .before .args in
     let loop = c .before .before .before .before .before .loop in
     let one-round = c .before .before .before .before .one-round in
-    rounded-last (args .list) (args .windows) (loop .now) (loop .moves) (loop .inv) (one-round .result) (one-round .ensures)
+    rounded-last (marked (args .whole)) (args .windows) (loop .now) (loop .moves) (loop .inv) (one-round .result) (one-round .ensures)
     (c .before .before .enum-told .given .1) (c .if1 .taken)
 
 pub all-rounds-spec : {M : Type 1} → statement M

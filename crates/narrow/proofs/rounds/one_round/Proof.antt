@@ -1,47 +1,43 @@
 -- The loop's invariant is `Visited`, the measure what is left of the places.
 -- Assumes nothing.
 use borrow.Author.Needs.{needs}
-use mathlib.Core.Path.{_≡_}
-use Prim.Native.Nat.{_-_}
-use lib.ListN.{length}
-use Rattle.base.proofs.Walk.{length-mapped}
-use Rattle.narrow.specs.Internal.{stateOf}
+use Prim.Native.Nat.{_-_, _<_, _≤_}
+use native.Mathlib.Omega.{arith}
+use Rattle.list.specs.DayLists.{marked}
+use Rattle.jackson.specs.Windows.{windowsIn}
+use Rattle.narrow.specs.Internal.{narrowedBy}
 use Rattle.narrow.proofs.VisitCases.{Visited, visited-none, next-ready, next-few, visited-next, visited-stopped, visited-all}
 use Rattle.narrow.proofs.rounds.one_round.Statement.{statement}
 use Rattle.narrow.proofs.rounds.one_round.Tie as tie
 
 abbrev Inv-loop : tie.InvT-loop
-Inv-loop moves list now₀ count k₀ now k = Visited list (stateOf (now₀ .windows) moves) now k
+Inv-loop moves whole now₀ count k₀ now k = Visited (marked whole) (narrowedBy (now₀ .windows) moves) now k
 
 abbrev μ-loop : tie.MeasureT-loop
-μ-loop moves list now₀ count k₀ now k = count - k
+μ-loop moves whole now₀ count k₀ now k = count - k
 
--- the array has 64 entries
-long : (c : tie.Start Inv-loop μ-loop) → length (c .args .t1 .entries) ≡ 64
-long c = search (needs, length-mapped)
-
-cast-count : tie.Need-cast-count Inv-loop μ-loop
-cast-count c = search needs
+places-held-requires : tie.Need-places-held-requires Inv-loop μ-loop
+places-held-requires c κs = search needs
 
 loop-holds : tie.Need-loop-holds Inv-loop μ-loop
-loop-holds c = visited-none (c .args .t1) (c .args .windows) (c .args .moves) (c .pre)
+loop-holds c =
+    let start = c .before in
+    visited-none (marked (start .args .t1)) (start .args .windows) (start .args .moves) (start .pre)
 
-mul-e : tie.Need-mul-e Inv-loop μ-loop
-mul-e c = search needs
+-- the place reached is one of the windows
+place : (c : tie.In-loop Inv-loop μ-loop) → c .before .loop .k < windowsIn (c .before .before .before .args .windows) .n
+place c = omega (arith, c .loop-test .taken, c .before .before .places-held .ensures)
 
-element-copy-out-e : tie.Need-element-copy-out-e Inv-loop μ-loop
-element-copy-out-e c = search needs
-
-is-whole-requires : tie.Need-is-whole-requires Inv-loop μ-loop
-is-whole-requires c κs = search needs
+array-read-visit : tie.Need-array-read-visit Inv-loop μ-loop
+array-read-visit c = search needs
 
 visit-requires : tie.Need-visit-requires Inv-loop μ-loop
 visit-requires c κs =
-    let start = c .before .before .before .before in
-    let loop = c .before .before .before .loop in
-    let taken = c .before .before .loop-test .taken in (
-      next-ready (start .args .t1) (start .args .windows) (start .args .moves) (start .pre) (loop .now) (loop .k) (loop .inv) taken,
-      next-few (start .args .t1) (start .args .windows) (start .args .moves) (start .pre) (loop .now) (loop .k) (loop .inv) taken,
+    let start = c .before .before .before in
+    let args = start .args in
+    let loop = c .before .loop in (
+      next-ready (marked (args .t1)) (args .windows) (args .moves) (start .pre) (loop .now) (loop .k) (loop .inv) (place c),
+      next-few (marked (args .t1)) (args .windows) (args .moves) (start .pre) (loop .now) (loop .k) (loop .inv) (place c),
     )
 
 enum-told : tie.Need-enum-told Inv-loop μ-loop
@@ -52,14 +48,12 @@ enum-told-2 c = search needs
 
 returns : tie.Need-returns Inv-loop μ-loop
 returns c =
-    let start = c .before .before .before .before .before .before .before in
+    let start = c .before .before .before .before .before .before in
     let args = start .args in
-    let loop = c .before .before .before .before .before .before .loop in
-    let taken = c .before .before .before .before .before .loop-test .taken in
-    let is-whole = c .before .before .before .is-whole in
+    let loop = c .before .before .before .before .loop in
     let visit = c .before .before .visit in
-    visited-stopped (args .t1) (args .windows) (args .moves) (start .pre) (loop .now) (loop .k) (loop .inv) taken (long start) _ (is-whole .ensures)
-    (visit .result) (visit .ensures) _ (c .enum-told2 .given .1)
+    visited-stopped (marked (args .t1)) (args .windows) (args .moves) (start .pre) (loop .now) (loop .k) (loop .inv)
+    (place (c .before .before .before)) (visit .result) (visit .ensures) _ (c .enum-told2 .given .1)
 
 add-k : tie.Need-add-k Inv-loop μ-loop
 add-k c = search needs
@@ -69,20 +63,20 @@ loop-less c = search needs
 
 loop-again : tie.Need-loop-again Inv-loop μ-loop
 loop-again c =
-    let start = c .before .before .before .before .before .before .before in
+    let start = c .before .before .before .before .before .before in
     let args = start .args in
-    let loop = c .before .before .before .before .before .before .loop in
-    let taken = c .before .before .before .before .before .loop-test .taken in
-    let is-whole = c .before .before .before .is-whole in
+    let loop = c .before .before .before .before .loop in
     let visit = c .before .before .visit in
-    visited-next (args .t1) (args .windows) (args .moves) (start .pre) (loop .now) (loop .k) (loop .inv) taken (long start) _ (is-whole .ensures)
-    (visit .result) (visit .ensures) (c .enum-told .given .1)
+    visited-next (marked (args .t1)) (args .windows) (args .moves) (start .pre) (loop .now) (loop .k) (loop .inv)
+    (place (c .before .before .before)) (visit .result) (visit .ensures) (c .enum-told .given .1)
 
 returns-2 : tie.Need-returns-2 Inv-loop μ-loop
 returns-2 c =
-    let args = c .before .before .args in
+    let start = c .before .before .before in
+    let args = start .args in
     let loop = c .before .loop in
-    visited-all (args .t1) (args .windows) (args .moves) (c .before .before .pre) (loop .now) (loop .k) (loop .inv) (c .loop-test .left)
+    let past : windowsIn (args .windows) .n ≤ loop .k = omega (arith, c .loop-test .left, c .before .before .places-held .ensures) in
+    visited-all (marked (args .t1)) (args .windows) (args .moves) (start .pre) (loop .now) (loop .k) (loop .inv) past
 
 pub one-round-spec : {M : Type 1} → statement M
 one-round-spec =
@@ -90,11 +84,9 @@ one-round-spec =
     (tie.spec
     Inv-loop
     μ-loop
-    cast-count
+    places-held-requires
     loop-holds
-    mul-e
-    element-copy-out-e
-    is-whole-requires
+    array-read-visit
     visit-requires
     enum-told
     enum-told-2
