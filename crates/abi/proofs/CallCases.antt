@@ -19,10 +19,10 @@ use Rattle.jackson.specs.Calls.{Tests, Fills}
 use Rattle.narrow.specs.Rounds.{Narrowed}
 use Rattle.narrow.specs.Calls.{narrowAnswerOf, narrowedIn, listed, AnswersAs}
 use Rattle.narrow.specs.declared.types.NarrowAnswer.{NarrowAnswer}
-use Rattle.bounds.specs.Calls.{settledOr, shownOf, PlansDay, ShowsPlan, ShowsEarly, ShowsLate}
-use Rattle.bounds.specs.Demand3.{Told}
-use Rattle.bounds.specs.declared.types.PlanAnswer.{PlanAnswer}
-use Rattle.bounds.specs.declared.types.ShownAnswer.{ShownAnswer}
+use Rattle.planner.specs.Calls.{settledOr, shownOf, PlansDay, ShowsPlan, ShowsEarly, ShowsLate}
+use Rattle.planner.specs.Demand3.{Told}
+use Rattle.planner.specs.declared.types.PlanAnswer.{PlanAnswer}
+use Rattle.planner.specs.declared.types.ShownAnswer.{ShownAnswer}
 use Rattle.report.specs.Calls.{StoresText}
 use Rattle.codes.specs.Codes.{three}
 use Rattle.flat.specs.Flat.{flatOf, valueOf}

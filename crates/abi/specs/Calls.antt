@@ -15,7 +15,8 @@ use Rattle.narrow.specs.Rounds.{Narrowed}
 use Rattle.list.specs.DayLists.{wholeIn}
 use Rattle.narrow.specs.Calls.{settleOf, listed}
 use Rattle.bounds.specs.Ends.{leastEnd, greatestStart}
-use Rattle.bounds.specs.Calls.{settledOr, planned, planOf, leastEnds, greatestStarts, brokenOf, shownOf, earlyOf, lateOf}
+use Rattle.planner.specs.Calls.{settledOr, planned, planOf, endsOf, startsOf, brokenOf, shownOf}
+use Rattle.bounds.specs.ShownPlans.{earlyOf, lateOf}
 use Rattle.report.specs.Reports.{refusalLine, reportOf}
 use Rattle.report.specs.Calls.{storeOf, textAfter}
 use Rattle.codes.specs.Codes.{three}

@@ -19,7 +19,7 @@ ghost use mathlib.Core.Path.{_≡_};
 ghost use mathlib.Core.List.{[], _∷_, _++_};
 ghost use Rattle.list.specs.Refusals.{codeOf, verdictOf, writeAnswerOf};
 ghost use Rattle.narrow.specs.Calls.{narrowAnswerOf, narrowedIn};
-ghost use Rattle.bounds.specs.Calls.{settledOr};
+ghost use Rattle.planner.specs.Calls.{settledOr};
 ghost use Rattle.codes.specs.Codes.{three};
 ghost use Rattle.abi.specs.Calls.{answerWith, ReadCall, WriteCall, OverloadCall, ScheduleCall, NarrowCall, SettleCall, PlanCall, EarlyCall, LateCall, ReportCall, LineCall};
 

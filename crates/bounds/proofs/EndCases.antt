@@ -1,36 +1,33 @@
 -- The searches for least ends, and numbers by place, as code makes them.
 -- Assumes nothing.
 use mathlib.Core.Path.{_≡_, refl, sym, ap, _∙_}
-use mathlib.Core.Bool.{Bool, true, false, cond}
+use mathlib.Core.Bool.{Bool, true, false, cond, false≢true}
 use mathlib.Core.List.{List}
-use Prim.Native.Nat.{ℕ, _+_, _-_, _/_, _<_, _≤_, min}
+use Prim.Native.Nat.{ℕ, _+_, _-_, _/_, _<_, _≤_}
 use native.Mathlib.Omega.{arith}
 use borrow.Author.Tests.{lt-ltb, le-ltb}
 use lib.Dec.{ltb}
 use lib.ListN.{length, getD, set, replicate, length-set, length-replicate, getD-replicate}
-use lib.Seq.{getD-set-same, getD-set-other, getD-take}
-use Rattle.list.specs.DayLists.{blank, isWhole, wholeIn}
-use Rattle.list.specs.declared.types.DayList.{DayList}
-use Rattle.jackson.specs.Windows.{Windows, windowsIn, withD, Formed, Searchable}
+use lib.Seq.{getD-set-same, getD-set-other}
+use Rattle.list.specs.Refusals.{verdictOf}
+use Rattle.list.specs.declared.types.Verdict.{Verdict}
+use Rattle.jackson.specs.Windows.{Windows, windowsIn, withD, roomFault, Formed, Searchable}
 use Rattle.jackson.specs.Mirrors.{MirrorOf, mirror}
 use Rattle.jackson.specs.Intervals.{overloadOf}
 use Rattle.jackson.specs.declared.types.WindowSet.{WindowSet}
 use Rattle.base.proofs.Sums.{le-or-lt, same-cases}
 use Rattle.base.proofs.Listed.{list-is, list-same, list-at, list-length}
-use Rattle.base.specs.Outcomes.{accepts}
+use Rattle.base.specs.Outcomes.{Outcome, answered, refused, accepts}
+use Rattle.jackson.proofs.Room.{passes-formed}
 use Rattle.narrow.proofs.OverloadPlanner.{overload-planner}
 use Rattle.narrow.proofs.MirrorSearches.{formed-mirror}
 use Rattle.bounds.specs.Ends.{leastEnd, greatestStart}
-use Rattle.bounds.specs.Calls.{byPlace, boundOf}
-use Rattle.bounds.specs.Internal.{HoldsFormed}
-use Rattle.bounds.specs.declared.shown.Shown.{Shown}
-use Rattle.bounds.specs.declared.shown.Shown.the-variants.{Early, Late}
+use Rattle.bounds.specs.Calls.{byPlace, leastEnds, greatestStarts, HoldsBounds}
+use Rattle.bounds.specs.ShownPlans.{boundOf}
+use Rattle.bounds.specs.declared.types.Shown.{Shown}
+use Rattle.bounds.specs.declared.types.Shown.the-variants.{Early, Late}
 use Rattle.bounds.proofs.EndSearches.{deadline-mono, least-end-whole, least-end-found, least-end-range}
 use Rattle.bounds.proofs.MirrorEnds.{start-by-mirror}
-
--- the kind read from the array is that of the list
-pub kind-at : (l : DayList) (k : ℕ) (b : Bool) → k < l .n → b ≡ isWhole (getD (l .entries) k blank .kind) → b ≡ wholeIn l k
-kind-at l k b h e = rw (getD-take (l .n) (l .entries) k blank h) e
 
 -- a search by halving: no end before low has a plan, and high is d or has one
 pub record Halved (w : Windows) (k low high : ℕ) : Type 0 where
@@ -166,41 +163,54 @@ module _ (f : ℕ → ℕ) (n : ℕ) where
   pub placed-all : (xs : List ℕ) (i : ℕ) → Placed f n xs i → n ≤ i → xs ≡ byPlace n f
   placed-all xs i so h = let z : i ≡ n = omega (arith, so .passed) in rw (← z) (so .is)
 
--- the entries of a list and their windows in arrays
-module _ {l : DayList} {s : WindowSet} (has : HoldsFormed l s) where
-  pub formed-few : l .n ≤ 64
-  formed-few = omega (arith, has .count)
+-- windows with room, in arrays
+module _ (s : WindowSet) (formed : Formed (windowsIn s)) where
+  pub searchable-at : (i : ℕ) → i < windowsIn s .n → Searchable s i
+  searchable-at i h = record { formed = formed; place = h }
 
-  pub searchable-at : (i : ℕ) → i < l .n → Searchable s i
-  searchable-at i h = record { formed = has .formed; place = omega (arith, has .count, h) }
-
-  module _ {t : WindowSet} (turned : MirrorOf s t) where
-    pub formed-in-mirror : HoldsFormed l t
-    formed-in-mirror =
-        record {
-          formed = rw (turned .windows) (formed-mirror (windowsIn s) (has .formed));
-          count = ap (λ (x : ℕ). min x 64) (turned .n) ∙ has .count;
-        }
+  module _ (t : WindowSet) (turned : MirrorOf s t) where
+    pub formed-in-mirror : Formed (windowsIn t)
+    formed-in-mirror = rw (turned .windows) (formed-mirror (windowsIn s) formed)
 
     -- the mirrors of the least ends in the mirror
-    module _ {ends : List ℕ} (are : ends ≡ byPlace (l .n) (leastEnd overloadOf (wholeIn l) (windowsIn t))) where
-      mirror-end : (i : ℕ) → i < l .n → getD ends i 0 ≡ leastEnd overloadOf (wholeIn l) (mirror (windowsIn s)) i
+    module _ (whole : ℕ → Bool) (ends : List ℕ) (are : ends ≡ leastEnds whole (windowsIn t)) where
+      mirror-end : (i : ℕ) → i < windowsIn s .n → getD ends i 0 ≡ leastEnd overloadOf whole (mirror (windowsIn s)) i
       mirror-end i h =
+          let count : windowsIn t .n ≡ windowsIn s .n = ap (λ (w : Windows). w .n) (turned .windows) in
           ap (λ (xs : List ℕ). getD xs i 0) are
-          ∙ by-place _ (l .n) i formed-few h
-          ∙ ap (λ (w : Windows). leastEnd overloadOf (wholeIn l) w i) (turned .windows)
+          ∙ by-place _ (windowsIn t .n) i (omega arith) (omega (arith, count, h))
+          ∙ ap (λ (w : Windows). leastEnd overloadOf whole w i) (turned .windows)
 
-      pub mirror-end-in-day : (i : ℕ) → i < l .n → getD ends i 0 ≤ s .h
+      pub mirror-end-in-day : (i : ℕ) → i < windowsIn s .n → getD ends i 0 ≤ s .h
       mirror-end-in-day i h =
-          let formed = formed-mirror (windowsIn s) (has .formed) in
-          let place = searchable-at i h .place in
-          let due = least-end-range overloadOf (wholeIn l) (mirror (windowsIn s)) formed i place .1 in
-          omega (arith, mirror-end i h, due, formed .in-day i place)
+          let there = formed-mirror (windowsIn s) formed in
+          let due = least-end-range overloadOf whole (mirror (windowsIn s)) there i h .1 in
+          omega (arith, mirror-end i h, due, there .in-day i h)
 
-      pub starts-by-mirror : byPlace (l .n) (λ i. s .h - getD ends i 0)
-          ≡ byPlace (l .n) (greatestStart overloadOf (wholeIn l) (windowsIn s))
+      pub starts-by-mirror : byPlace (windowsIn s .n) (λ i. s .h - getD ends i 0) ≡ greatestStarts whole (windowsIn s)
       starts-by-mirror =
-          by-place-same (l .n) _ _
+          by-place-same (windowsIn s .n) _ _
           (λ i h.
           ap (λ (x : ℕ). s .h - x) (mirror-end i h)
-          ∙ sym (start-by-mirror overload-planner (windowsIn s) (has .formed) i (searchable-at i h .place) (wholeIn l)))
+          ∙ sym (start-by-mirror overload-planner (windowsIn s) formed i h whole))
+
+-- The bounds of windows, by what the test for room said.
+module _ (s : WindowSet) (v : Verdict) (says : verdictOf v ≡ roomFault (windowsIn s)) (b : Bool) (is : b ≡ accepts (verdictOf v)) where
+  has-room : b ≡ accepts (roomFault (windowsIn s))
+  has-room = is ∙ ap accepts says
+
+  pub room-formed : b ≡ true → Formed (windowsIn s)
+  room-formed e = passes-formed (windowsIn s) (omega arith) (accepted (roomFault (windowsIn s)) (sym has-room ∙ e))
+    where
+      accepted : (o : Outcome (Unit {0})) → accepts o ≡ true → o ≡ answered tt
+      accepted (answered t) q = refl
+      accepted (refused k) q = absurd (false≢true q)
+
+  module _ (whole : ℕ → Bool) (ends starts : List ℕ) where
+    pub bounds-none : b ≡ false → ends ≡ replicate 64 0 → starts ≡ replicate 64 0
+        → HoldsBounds whole (windowsIn s) (record { ends = ends; starts = starts })
+    bounds-none e p q = let z : accepts (roomFault (windowsIn s)) ≡ false = sym has-room ∙ e in record { ends = rw z p; starts = rw z q }
+
+    pub bounds-held : b ≡ true → ends ≡ leastEnds whole (windowsIn s) → starts ≡ greatestStarts whole (windowsIn s)
+        → HoldsBounds whole (windowsIn s) (record { ends = ends; starts = starts })
+    bounds-held e p q = let z : accepts (roomFault (windowsIn s)) ≡ true = sym has-room ∙ e in record { ends = rw z p; starts = rw z q }

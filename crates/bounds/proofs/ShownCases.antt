@@ -5,11 +5,17 @@ use mathlib.Core.Bool.{Bool}
 use mathlib.Core.List.{List, _++_}
 use Prim.Native.Nat.{ℕ, suc, _+_, _-_, _<_, _≤_}
 use native.Mathlib.Omega.{arith}
-use borrow.Author.Tests.{le-ltb}
+use borrow.Author.Tests.{lt-ltb, le-ltb, le-leb, lt-leb}
 use lib.ListN.{length, getD, set, drop, length-set, List·getD-append}
 use lib.Seq.{getD-set-same, getD-set-other, getD-append-add, getD-drop, ext-getD, length-take-le, length-front, drop-at}
+use Rattle.base.specs.Outcomes.{answered, refused}
+use Rattle.list.specs.Refusals.{codeOf, verdictOf}
+use Rattle.list.specs.declared.types.Refusal.{Refusal}
+use Rattle.list.specs.declared.types.Refusal.the-variants.{PlanBufferShort, UnknownPlace}
 use Rattle.list.specs.declared.types.Verdict.{Verdict}
-use Rattle.jackson.specs.Windows.{Windows, windowsIn, withD, Formed, Searchable}
+use Rattle.list.specs.declared.types.Verdict.the-variants.{Accepted, Refused}
+use Rattle.list.proofs.Verdicts.{by-accepted, by-refused}
+use Rattle.jackson.specs.Windows.{Windows, windowsIn, withD, roomFault, Formed, Searchable}
 use Rattle.jackson.specs.Plans.{idle, placesIn}
 use Rattle.jackson.specs.Mirrors.{mirror, mirrorBytes, MirrorOf}
 use Rattle.jackson.specs.Intervals.{overloadOf}
@@ -18,15 +24,17 @@ use Rattle.jackson.specs.Calls.{FillsWindows}
 use Rattle.jackson.specs.declared.types.WindowSet.{WindowSet}
 use Rattle.base.proofs.Sums.{le-or-lt, same-cases}
 use Rattle.base.proofs.Listed.{list-same, list-length}
+use Rattle.jackson.proofs.Room.{passes-formed}
 use Rattle.jackson.proofs.PlanFacts.{place-read, mirror-at}
 use Rattle.narrow.proofs.OverloadPlanner.{overload-planner}
 use Rattle.narrow.proofs.MirrorSearches.{formed-mirror}
 use Rattle.bounds.specs.Ends.{leastEnd, greatestStart}
-use Rattle.bounds.specs.ShownPlans.{earlyPlan, latePlan}
-use Rattle.bounds.specs.Calls.{lateOf, shownPlan}
-use Rattle.bounds.specs.Internal.{Stores}
-use Rattle.bounds.specs.declared.shown.Shown.{Shown}
-use Rattle.bounds.specs.declared.shown.Shown.the-variants.{Early, Late}
+use Rattle.bounds.specs.ShownPlans.{earlyPlan, latePlan, boundOf, shownPlan}
+use Rattle.bounds.specs.Calls.{showRows, StoresPlan}
+use Rattle.bounds.specs.Internal.{StoresShown}
+use Rattle.bounds.specs.declared.types.BoundAnswer.{BoundAnswer}
+use Rattle.bounds.specs.declared.types.Shown.{Shown}
+use Rattle.bounds.specs.declared.types.Shown.the-variants.{Early, Late}
 use Rattle.bounds.proofs.EndCases.{bound-kind}
 use Rattle.bounds.proofs.EndSearches.{least-end-range}
 use Rattle.bounds.proofs.MirrorEnds.{start-by-mirror, late-by-mirror}
@@ -58,7 +66,7 @@ filled-with w old v new fills room = rw (le-ltb (length old) (w .h) room) at (fi
 
 -- the early plan: the schedule of the windows u with k's d set to its least end
 pub stored-early : (whole : ℕ → Bool) (w u : Windows) (k e : ℕ) (old : List ℕ) (v : Verdict) (new : List ℕ) → u ≡ withD w k e
-    → FillsWindows u old v new → w .h ≤ length old → e ≡ leastEnd overloadOf whole w k → Stores Early whole w k old e new
+    → FillsWindows u old v new → w .h ≤ length old → e ≡ leastEnd overloadOf whole w k → StoresShown Early whole w k old e new
 stored-early whole w u k e old v new same fills room bound =
     record { bound = bound; buffer = rw (← bound) (filled-with (withD w k e) old v new (rw same at fills) room) }
 
@@ -76,7 +84,7 @@ searchable-mirror {s} can turned =
 
 -- the late plan: a buffer that holds the early plan in the mirrored windows u, with the end e, is mirrored
 module _ {whole : ℕ → Bool} {w u : Windows} (formed : Formed w) {k : ℕ} (place : k < w .n) (turned : u ≡ mirror w)
-    {old : List ℕ} {e : ℕ} {one : List ℕ} (stores : Stores Early whole u k old e one) where
+    {old : List ℕ} {e : ℕ} {one : List ℕ} (stores : StoresShown Early whole u k old e one) where
   end-is : e ≡ leastEnd overloadOf whole (mirror w) k
   end-is = rw turned at (stores .bound)
 
@@ -85,14 +93,14 @@ module _ {whole : ℕ → Bool} {w u : Windows} (formed : Formed w) {k : ℕ} (p
       let there = formed-mirror w formed in
       omega (arith, end-is, least-end-range overloadOf whole (mirror w) there k place .1, there .in-day k place)
 
-  pub stored-late : (new : List ℕ) → new ≡ mirrorBytes (w .h) one ++ drop (w .h) one → Stores Late whole w k old (w .h - e) new
+  pub stored-late : (new : List ℕ) → new ≡ mirrorBytes (w .h) one ++ drop (w .h) one → StoresShown Late whole w k old (w .h - e) new
   stored-late new q =
       record { bound = start-is; buffer = q ∙ rw (one-is, front, rest) (ap (λ (xs : List ℕ). xs ++ drop (w .h) old) plan-is) }
     where
       start-is : w .h - e ≡ greatestStart overloadOf whole w k
       start-is = rw end-is (sym (start-by-mirror overload-planner w formed k place whole))
 
-      plan-is : mirrorBytes (w .h) (earlyPlan (mirror w) k e) ≡ lateOf whole k w
+      plan-is : mirrorBytes (w .h) (earlyPlan (mirror w) k e) ≡ shownPlan Late whole k w
       plan-is = sym (late-by-mirror w k place e end-in-day) ∙ ap (latePlan w k) start-is
 
       one-is : one ≡ earlyPlan (mirror w) k e ++ drop (w .h) old
@@ -105,6 +113,43 @@ module _ {whole : ℕ → Bool} {w u : Windows} (formed : Formed w) {k : ℕ} (p
 
       rest : drop (w .h) (earlyPlan (mirror w) k e ++ drop (w .h) old) ≡ drop (w .h) old
       rest = drop-at (earlyPlan (mirror w) k e) (drop (w .h) old) (w .h) (schedule-long _)
+
+-- `store_plan`: what it refuses, and what it stores.
+module _ (x : Shown) (whole : Bool) (s : WindowSet) (k : ℕ) (old : List ℕ) (v : Verdict)
+    (says : verdictOf v ≡ roomFault (windowsIn s)) where
+  plan-refused : (r : Refusal) → showRows (windowsIn s) k (length old) ≡ refused (codeOf r) → (a : BoundAnswer)
+      → a ≡ record { verdict = Refused r; bound = 0 } → StoresPlan x whole (windowsIn s) k old a old
+  plan-refused r q a made = rw made (record { outcome = rw q refl; bound = rw q refl; buffer = rw q refl })
+
+  pub no-room : (r : Refusal) → v ≡ Refused r → StoresPlan x whole (windowsIn s) k old (record { verdict = v; bound = 0 }) old
+  unfolding showRows
+  no-room r e = plan-refused r (rw (by-refused says e) refl) _ (ap (λ (u : Verdict). record { verdict = u; bound = 0 }) e)
+
+  module _ (e : v ≡ Accepted) where
+    room-passed : roomFault (windowsIn s) ≡ answered tt
+    room-passed = by-accepted says e
+
+    pub plan-formed : Formed (windowsIn s)
+    plan-formed = passes-formed (windowsIn s) (omega arith) room-passed
+
+    pub no-place : windowsIn s .n ≤ k → (a : BoundAnswer) → a ≡ record { verdict = Refused (UnknownPlace k); bound = 0 }
+        → StoresPlan x whole (windowsIn s) k old a old
+    unfolding showRows
+    no-place h = plan-refused (UnknownPlace k) (rw (room-passed, le-leb _ k h) refl)
+
+    module _ (known : k < windowsIn s .n) where
+      pub no-buffer : length old < s .h → (a : BoundAnswer) → a ≡ record { verdict = Refused (PlanBufferShort (s .h)); bound = 0 }
+          → StoresPlan x whole (windowsIn s) k old a old
+      unfolding showRows
+      no-buffer h = plan-refused (PlanBufferShort (s .h)) (rw (room-passed, lt-leb _ k known, lt-ltb (length old) (s .h) h) refl)
+
+      pub plan-stored : s .h ≤ length old → (b : ℕ) (new : List ℕ) → StoresShown x (λ _. whole) (windowsIn s) k old b new
+          → StoresPlan x whole (windowsIn s) k old (record { verdict = Accepted; bound = b }) new
+      unfolding showRows
+      plan-stored h b new stores =
+          let passed : showRows (windowsIn s) k (length old) ≡ answered tt =
+          rw (room-passed, lt-leb _ k known, le-ltb (length old) (s .h) h) refl in
+          record { outcome = rw passed refl; bound = rw passed (stores .bound); buffer = rw passed (stores .buffer) }
 
 -- the minutes before first and from end on, of h, have the places of the mirror; the others, and the bytes after h, are as they were
 pub record Turned (h : ℕ) (old new : List ℕ) (first end : ℕ) : Type 0 where

@@ -6,8 +6,11 @@ use mathlib.Core.List.{List}
 use Rattle.jackson.specs.Windows.{Windows, withR, withD}
 use Rattle.jackson.specs.Plans.{IsEnd, IsStart, placesIn, PlanBytes}
 use Rattle.jackson.specs.Mirrors.{mirror, mirrorBytes}
+use Rattle.jackson.specs.Intervals.{overloadOf}
 use Rattle.jackson.specs.Minutes.{schedule}
-use Rattle.bounds.specs.Ends.{Keeping}
+use Rattle.bounds.specs.Ends.{leastEnd, greatestStart, Keeping}
+use Rattle.bounds.specs.declared.types.Shown.{Shown}
+use Rattle.bounds.specs.declared.types.Shown.the-variants.{Early, Late}
 
 -- "Early: Jackson's schedule with k's d set to its least end": e
 abbrev pub earlyPlan : Windows → ℕ → ℕ → List ℕ
@@ -16,6 +19,15 @@ earlyPlan w k e = schedule (withD w k e)
 -- "Late: the mirror .. of Jackson's schedule of the mirrored list, k's r set first to its greatest start": s
 abbrev pub latePlan : Windows → ℕ → ℕ → List ℕ
 latePlan w k s = mirrorBytes (w .h) (schedule (mirror (withR w k s)))
+
+-- "For any place k the caller may have either plan shown": its bound, the least end or the greatest start, and the plan
+abbrev pub boundOf : Shown → (ℕ → Bool) → ℕ → Windows → ℕ
+boundOf Early whole k w = leastEnd overloadOf whole w k
+boundOf Late whole k w = greatestStart overloadOf whole w k
+
+abbrev pub shownPlan : Shown → (ℕ → Bool) → ℕ → Windows → List ℕ
+shownPlan Early whole k w = earlyPlan w k (leastEnd overloadOf whole w k)
+shownPlan Late whole k w = latePlan w k (greatestStart overloadOf whole w k)
 
 -- the early plan of entry k: document 01's, a plan in the windows w that keeps entry k in one piece if it is whole, with the end e
 pub record IsEarly (whole : ℕ → Bool) (w : Windows) (k e : ℕ) (bytes : List ℕ) : Type 0 where

@@ -1,31 +1,20 @@
 // Least ends and greatest starts.
+use crate::types::Bounds;
 use jackson::mirrored;
+use jackson::room_fault;
 use jackson::types::WindowSet;
 use jackson::unchecked_overload;
 use jackson::zeros;
-use list::types::DayList;
-use narrow::is_accepted;
-use narrow::is_whole;
+use list::is_accepted;
+use list::places_held;
 ghost use mathlib.Core.Path.{_≡_};
-ghost use Prim.Native.Nat.{_<_, _≤_};
-ghost use Rattle.jackson.specs.Windows.{windowsIn, withD, Searchable};
-ghost use Rattle.jackson.specs.Intervals.{overloadOf};
+ghost use Prim.Native.Nat.{_<_};
 ghost use Rattle.base.specs.Outcomes.{accepts};
-ghost use Rattle.list.specs.DayLists.{wholeIn};
-ghost use Rattle.bounds.specs.Ends.{leastEnd, greatestStart};
-ghost use Rattle.bounds.specs.Calls.{byPlace};
-ghost use Rattle.bounds.specs.Internal.{HoldsFormed};
-
-// Whether the entry at place k is whole.
-pub(crate) fn whole_at(list: DayList, k: usize) -> bool
-    requires { ⌜ k < list .n ⌝ }
-    requires { ⌜ list .n ≤ 64 ⌝ }
-    ensures { λ b. ⌜ b ≡ wholeIn list k ⌝ }
-{
-    let entry = list.entries[k];
-    let kind = entry.kind;
-    is_whole(kind)
-}
+ghost use Rattle.list.specs.DayLists.{marked};
+ghost use Rattle.jackson.specs.Windows.{windowsIn, withD, Formed, Searchable};
+ghost use Rattle.jackson.specs.Intervals.{overloadOf};
+ghost use Rattle.bounds.specs.Ends.{leastEnd};
+ghost use Rattle.bounds.specs.Calls.{leastEnds, greatestStarts, HoldsBounds};
 
 // Whether a plan exists when entry k's d is e.
 fn has_plan_by(windows: WindowSet, k: usize, e: u16) -> bool
@@ -62,34 +51,50 @@ pub(crate) fn least_end(windows: WindowSet, k: usize, whole: bool) -> u16
     low
 }
 
-// The least ends of the list's entries in these windows. Places from n on are 0.
-pub(crate) fn least_ends(list: DayList, windows: WindowSet) -> [u16; 64]
-    requires { ⌜ HoldsFormed list windows ⌝ }
-    ensures { λ xs. ⌜ xs ≡ byPlace (list .n) (leastEnd overloadOf (wholeIn list) (windowsIn windows)) ⌝ }
+// The least ends of the entries of these windows, of which `whole` marks the whole ones. Places from n on are 0.
+fn least_ends(whole: [bool; 64], windows: WindowSet) -> [u16; 64]
+    requires { ⌜ Formed (windowsIn windows) ⌝ }
+    ensures { λ xs. ⌜ xs ≡ leastEnds (marked whole) (windowsIn windows) ⌝ }
 {
     let mut ends = zeros();
-    let count = list.n as usize;
+    let count = places_held(windows.n);
     let mut i: usize = 0;
     while i < count {
-        ends[i] = least_end(windows, i, whole_at(list, i));
+        ends[i] = least_end(windows, i, whole[i]);
         i += 1;
     }
     ends
 }
 
 // The greatest starts: the mirrors of the least ends in the mirror.
-pub(crate) fn greatest_starts(list: DayList, windows: WindowSet) -> [u16; 64]
-    requires { ⌜ HoldsFormed list windows ⌝ }
-    ensures { λ xs. ⌜ xs ≡ byPlace (list .n) (greatestStart overloadOf (wholeIn list) (windowsIn windows)) ⌝ }
+fn greatest_starts(whole: [bool; 64], windows: WindowSet) -> [u16; 64]
+    requires { ⌜ Formed (windowsIn windows) ⌝ }
+    ensures { λ xs. ⌜ xs ≡ greatestStarts (marked whole) (windowsIn windows) ⌝ }
 {
     let h = windows.h;
-    let ends = least_ends(list, mirrored(windows));
+    let ends = least_ends(whole, mirrored(windows));
     let mut starts = zeros();
-    let count = list.n as usize;
+    let count = places_held(windows.n);
     let mut i: usize = 0;
     while i < count {
         starts[i] = h - ends[i];
         i += 1;
     }
     starts
+}
+
+// The least ends and greatest starts of windows.
+pub fn bounds_of(whole: [bool; 64], windows: WindowSet) -> Bounds
+    ensures { λ b. ⌜ HoldsBounds (marked whole) (windowsIn windows) b ⌝ }
+{
+    if !is_accepted(room_fault(windows)) {
+        return Bounds {
+            ends: zeros(),
+            starts: zeros(),
+        };
+    }
+    Bounds {
+        ends: least_ends(whole, windows),
+        starts: greatest_starts(whole, windows),
+    }
 }

@@ -1,17 +1,20 @@
-// What the calls that narrow answer.
-use narrow::types::NarrowAnswer;
+// What is asked of windows, and what is answered.
+use list::types::Verdict;
 
-// What planning answers: the narrowed list with its moves, the number of whole entries that the plan breaks, and of each place its
-// least end and greatest start. Places from n on, and all beside a refusal, are 0.
-pub struct PlanAnswer {
-    pub narrowed: NarrowAnswer,
-    pub broken: u8,
+// Which of a place's two plans is shown.
+pub enum Shown {
+    Early,
+    Late,
+}
+
+// Of each place its least end and greatest start. Places from n on, and all of windows without room, are 0.
+pub struct Bounds {
     pub ends: [u16; 64],
     pub starts: [u16; 64],
 }
 
-// What showing a plan answers: the narrowed list with its moves, and the place's least end or greatest start, 0 beside a refusal.
-pub struct ShownAnswer {
-    pub narrowed: NarrowAnswer,
+// What storing a place's shown plan answers: its least end or greatest start beside Accepted, 0 beside a refusal.
+pub struct BoundAnswer {
+    pub verdict: Verdict,
     pub bound: u16,
 }

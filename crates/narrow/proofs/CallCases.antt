@@ -24,8 +24,7 @@ use Rattle.jackson.proofs.Room.{formed-passes, passes-formed}
 use Rattle.jackson.proofs.ListLaws.{list-roomy, list-few, list-minutes}
 use Rattle.narrow.specs.Rounds.{Narrowed, unmoved, round, allRounds, narrowing}
 use Rattle.narrow.specs.Laws.{RoundLaw, NarrowLaw}
-use Rattle.narrow.specs.Calls.{listWith, narrowWindows, narrowedOf, settleOf, roundOf, listed}
-use Rattle.narrow.specs.Calls.{AnswersAs, HoldsAnswer, NarrowsWindows, Settles, MakesRound}
+use Rattle.narrow.specs.Calls.{listWith, narrowWindows, narrowedOf, settleOf, roundOf, listed, AnswersAs, HoldsAnswer, NarrowsWindows, Settles, MakesRound}
 use Rattle.narrow.specs.Internal.{narrowedBy, Countable}
 use Rattle.narrow.specs.declared.types.NarrowAnswer.{NarrowAnswer}
 use Rattle.narrow.specs.declared.types.WindowsAnswer.{WindowsAnswer}

@@ -30,9 +30,9 @@ use Rattle.jackson.specs.Minutes.{schedule}
 use Rattle.narrow.specs.Rounds.{Narrowed, narrowing}
 use Rattle.narrow.specs.Calls.{listed, standing, entriesWith, listWith}
 use Rattle.bounds.specs.Ends.{leastEnd, greatestStart}
-use Rattle.bounds.specs.BrokenEntries.{brokenIn}
-use Rattle.bounds.specs.Calls.{planChecks, planOf, leastEnds, greatestStarts, brokenOf, PlansDay}
-use Rattle.bounds.specs.declared.types.PlanAnswer.{PlanAnswer}
+use Rattle.planner.specs.BrokenEntries.{brokenIn}
+use Rattle.planner.specs.Calls.{planChecks, planOf, endsOf, startsOf, brokenOf, PlansDay}
+use Rattle.planner.specs.declared.types.PlanAnswer.{PlanAnswer}
 use Rattle.bounds.proofs.EndCases.{by-place}
 use Rattle.report.specs.Reports.{headLine, entryLines, runLines, dayText, plannedText, reportOf}
 use Rattle.report.specs.Internal.{Puts, PutsOr, answerText}

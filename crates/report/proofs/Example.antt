@@ -12,7 +12,7 @@ use Rattle.narrow.specs.Searching.{failedStarts, failedEnds, leastStart, greate
 use Rattle.narrow.specs.Rounds.{narrowSide, visit, visits, rounds, narrowing}
 use Rattle.narrow.specs.Calls.{entriesWith, listWith}
 use Rattle.bounds.specs.Ends.{failedDeadlines, failedReleases, leastEnd, greatestStart}
-use Rattle.bounds.specs.BrokenEntries.{brokenIn}
+use Rattle.planner.specs.BrokenEntries.{brokenIn}
 use Rattle.report.specs.Text.{ascii, digits, decimal, line, texts}
 use Rattle.report.specs.Runs.{runEnd}
 use Rattle.report.specs.Reports.{headLine, entryLine, entryLines, runLine, runLines, refusalLine, dayText, reportOf}

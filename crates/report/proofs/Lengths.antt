@@ -33,10 +33,10 @@ use Rattle.narrow.proofs.Costs.{by-test}
 use Rattle.narrow.proofs.CallCases.{list-formed}
 use Rattle.narrow.proofs.Alike.{with-length, listed-entry}
 use Rattle.bounds.specs.Ends.{leastEnd, greatestStart}
-use Rattle.bounds.specs.BrokenEntries.{isBroken, brokenIn}
+use Rattle.planner.specs.BrokenEntries.{isBroken, brokenIn}
 use Rattle.bounds.proofs.EndBounds.{early-is}
 use Rattle.bounds.proofs.StartBounds.{late-is}
-use Rattle.bounds.proofs.Demands.{widest-formed, plans-windows}
+use Rattle.planner.proofs.Demands.{widest-formed, plans-windows}
 use Rattle.report.specs.Runs.{beginsRun, runEnd}
 use Rattle.report.specs.Reports.{entryLineAt, entryLines, runLine, runLines, dayText, plannedText, reportOf}
 use Rattle.report.specs.Calls.{enough}

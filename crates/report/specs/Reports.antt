@@ -21,7 +21,7 @@ use Rattle.jackson.specs.Minutes.{schedule}
 use Rattle.narrow.specs.Rounds.{Narrowed, narrowing}
 use Rattle.narrow.specs.Calls.{listWith}
 use Rattle.bounds.specs.Ends.{leastEnd, greatestStart}
-use Rattle.bounds.specs.BrokenEntries.{brokenIn}
+use Rattle.planner.specs.BrokenEntries.{brokenIn}
 use Rattle.report.specs.Text.{ascii, decimal, line, texts}
 use Rattle.report.specs.Runs.{beginsRun, runEnd}
 

@@ -1,10 +1,13 @@
--- The loop's invariant is `Placed`, the measure what is left of the entries.
+-- The loop's invariant is `Placed`, the measure what is left of the places.
 -- Assumes nothing.
 use borrow.Author.Needs.{needs}
 use mathlib.Core.Path.{refl, _∙_}
-use Prim.Native.Nat.{_-_}
+use Prim.Native.Nat.{_-_, _<_, _≤_}
+use native.Mathlib.Omega.{arith}
 use lib.ListN.{getD}
-use Rattle.bounds.proofs.EndCases.{Placed, placed-none, placed-next, placed-all, formed-few, formed-in-mirror, mirror-end-in-day, starts-by-mirror}
+use Rattle.list.specs.DayLists.{marked}
+use Rattle.jackson.specs.Windows.{windowsIn}
+use Rattle.bounds.proofs.EndCases.{Placed, placed-none, placed-next, placed-all, formed-in-mirror, mirror-end-in-day, starts-by-mirror}
 use Rattle.bounds.proofs.ends.greatest_starts.Statement.{statement}
 use Rattle.bounds.proofs.ends.greatest_starts.Tie as tie
 
@@ -18,36 +21,41 @@ mirrored-requires : tie.Need-mirrored-requires Inv-loop μ-loop
 mirrored-requires c κs = search needs
 
 least-ends-requires : tie.Need-least-ends-requires Inv-loop μ-loop
-least-ends-requires c κs = formed-in-mirror (c .before .pre) (c .mirrored .ensures)
+least-ends-requires c κs = formed-in-mirror (c .before .args .windows) (c .before .pre) (c .mirrored .result) (c .mirrored .ensures)
 
 zeros-requires : tie.Need-zeros-requires Inv-loop μ-loop
 zeros-requires c κs = search needs
 
-cast-count : tie.Need-cast-count Inv-loop μ-loop
-cast-count c = search needs
+places-held-requires : tie.Need-places-held-requires Inv-loop μ-loop
+places-held-requires c κs = search needs
 
 loop-holds : tie.Need-loop-holds Inv-loop μ-loop
-loop-holds c = placed-none _ _ _ (formed-few (c .before .before .before .before .pre)) (c .before .zeros .ensures)
+loop-holds c = placed-none _ _ _ (omega (arith, c .places-held .ensures)) (c .before .zeros .ensures)
 
 mul-starts : tie.Need-mul-starts Inv-loop μ-loop
-mul-starts c = search (needs, formed-few (c .before .before .before .before .before .before .pre))
+mul-starts c = search needs
 
 array-read-starts : tie.Need-array-read-starts Inv-loop μ-loop
-array-read-starts c = search (needs, formed-few (c .before .before .before .before .before .before .pre))
+array-read-starts c = search needs
 
 sub-starts : tie.Need-sub-starts Inv-loop μ-loop
 sub-starts c =
-    let ends = c .before .before .before .before in
-    mirror-end-in-day (ends .before .before .pre) (ends .before .mirrored .ensures) (ends .least-ends .ensures) _ (c .loop-test .taken)
+    let start = c .before .before .before .before .before .before in
+    let mirrored = c .before .before .before .before .before .mirrored in
+    let ends = c .before .before .before .before .least-ends in
+    let place : c .before .loop .i < windowsIn (start .args .windows) .n =
+    omega (arith, c .loop-test .taken, c .before .before .places-held .ensures) in
+    mirror-end-in-day (start .args .windows) (start .pre) (mirrored .result) (mirrored .ensures) (marked (start .args .whole)) (ends .result)
+    (ends .ensures) _ place
 
 mul-starts-2 : tie.Need-mul-starts-2 Inv-loop μ-loop
-mul-starts-2 c = search (needs, formed-few (c .before .before .before .before .before .before .pre))
+mul-starts-2 c = search needs
 
 array-write-starts : tie.Need-array-write-starts Inv-loop μ-loop
-array-write-starts c = search (needs, formed-few (c .before .before .before .before .before .before .pre))
+array-write-starts c = search needs
 
 add-i : tie.Need-add-i Inv-loop μ-loop
-add-i c = search (needs, formed-few (c .before .before .before .before .before .before .pre))
+add-i c = search needs
 
 loop-less : tie.Need-loop-less Inv-loop μ-loop
 loop-less c = search needs
@@ -57,9 +65,12 @@ loop-again c = placed-next _ _ _ _ _ (c .before .loop .inv) (c .loop-test .taken
 
 returns : tie.Need-returns Inv-loop μ-loop
 returns c =
-    let ends = c .before .before .before .before in
-    placed-all _ _ _ _ (c .before .loop .inv) (c .loop-test .left)
-    ∙ starts-by-mirror (ends .before .before .pre) (ends .before .mirrored .ensures) (ends .least-ends .ensures)
+    let start = c .before .before .before .before .before .before in
+    let mirrored = c .before .before .before .before .before .mirrored in
+    let ends = c .before .before .before .before .least-ends in
+    rw (c .before .before .places-held .ensures) at (placed-all _ _ _ _ (c .before .loop .inv) (c .loop-test .left))
+    ∙ starts-by-mirror (start .args .windows) (start .pre) (mirrored .result) (mirrored .ensures) (marked (start .args .whole)) (ends .result)
+    (ends .ensures)
 
 pub greatest-starts-spec : {M : Type 1} → statement M
 greatest-starts-spec =
@@ -70,7 +81,7 @@ greatest-starts-spec =
     mirrored-requires
     least-ends-requires
     zeros-requires
-    cast-count
+    places-held-requires
     loop-holds
     mul-starts
     array-read-starts

@@ -1,0 +1,74 @@
+-- Lists that are planned alike: those that differ in serials and seals alone, and so those equal by document 01's rule.
+-- Assumes nothing.
+use Prim.Native.Nat.{ℕ}
+use mathlib.Core.Path.{_≡_, refl}
+use mathlib.Core.List.{List}
+use lib.ListN.{length}
+use Rattle.base.specs.Outcomes.{Outcome, andThen}
+use Rattle.list.specs.Checks.{checkOf}
+use Rattle.list.specs.DayLists.{SameList, wholeIn}
+use Rattle.list.specs.declared.types.DayList.{DayList}
+use Rattle.jackson.specs.Intervals.{overloadOf}
+use Rattle.jackson.specs.Minutes.{schedule}
+use Rattle.jackson.proofs.Alike.{alike-windows, alike-checked}
+use Rattle.narrow.specs.Rounds.{narrowing}
+use Rattle.narrow.specs.Calls.{SameTimes, listed}
+use Rattle.narrow.proofs.Alike.{same-times, times-windows, times-whole, same-listed}
+use Rattle.planner.specs.Calls.{planChecks, shownChecks, narrowAfter, settledOr, planned, planOf, endsOf, startsOf, brokenOf, shownOf}
+use Rattle.bounds.specs.ShownPlans.{boundOf, shownPlan}
+use Rattle.bounds.specs.declared.types.Shown.{Shown}
+
+-- windows, moves, refusals, bounds, broken entries and plans do not depend on serials and seals, nor on what stands from n on
+module _ {a b : DayList} (s : SameTimes a b) where
+  -- the checks before 9
+  times-checked : checkOf a ≡ checkOf b
+  times-checked = alike-checked (times-windows s)
+
+  pub times-plan-checked : (room : ℕ) → planChecks a room ≡ planChecks b room
+  unfolding planChecks
+  times-plan-checked room = rw (times-checked, s .frame) refl
+
+  pub times-shown-checked : (k room : ℕ) → shownChecks a k room ≡ shownChecks b k room
+  unfolding shownChecks
+  times-shown-checked k room = rw (times-checked, s .frame, s .n) refl
+
+  -- the settled windows and the moves, or the refusal
+  times-after : {x y : Outcome (Unit {0})} → x ≡ y → narrowAfter x a ≡ narrowAfter y b
+  times-after e = λ j. andThen (e j) (λ _. narrowing overloadOf (times-whole s j) (alike-windows (times-windows s) j))
+
+  pub times-planned : (room : ℕ) → planOf a room ≡ planOf b room
+  times-planned room = times-after (times-plan-checked room)
+
+  pub times-shown : (k room : ℕ) → shownOf a k room ≡ shownOf b k room
+  times-shown k room = times-after (times-shown-checked k room)
+
+  -- what planning answers beside them, and leaves in a plan buffer
+  pub times-ends : (room : ℕ) → leastEnds (wholeIn a) (planOf a room) ≡ leastEnds (wholeIn b) (planOf b room)
+  times-ends room = λ j. leastEnds (times-whole s j) (times-planned room j)
+
+  pub times-starts : (room : ℕ) → greatestStarts (wholeIn a) (planOf a room) ≡ greatestStarts (wholeIn b) (planOf b room)
+  times-starts room = λ j. greatestStarts (times-whole s j) (times-planned room j)
+
+  pub times-broken : (room : ℕ) → brokenOf (wholeIn a) (planOf a room) ≡ brokenOf (wholeIn b) (planOf b room)
+  times-broken room = λ j. brokenOf (times-whole s j) (times-planned room j)
+
+  pub times-plan : (old : List ℕ) → planned schedule old (planOf a (length old)) ≡ planned schedule old (planOf b (length old))
+  times-plan old = λ j. planned schedule old (times-planned (length old) j)
+
+  -- what showing the plan x of place k answers beside them, and leaves in a plan buffer
+  pub times-bound : (x : Shown) (k room : ℕ)
+      → settledOr 0 (boundOf x (wholeIn a) k) (shownOf a k room) ≡ settledOr 0 (boundOf x (wholeIn b) k) (shownOf b k room)
+  times-bound x k room = λ j. settledOr 0 (boundOf x (times-whole s j) k) (times-shown k room j)
+
+  pub times-shown-plan : (x : Shown) (k : ℕ) (old : List ℕ)
+      → planned (shownPlan x (wholeIn a) k) old (shownOf a k (length old))
+      ≡ planned (shownPlan x (wholeIn b) k) old (shownOf b k (length old))
+  times-shown-plan x k old = λ j. planned (shownPlan x (times-whole s j) k) old (times-shown k (length old) j)
+
+-- lists that are equal get equal answers: beside those above, which hold of them by `same-times`, the list answered
+module _ {a b : DayList} (s : SameList a b) where
+  pub same-planned : (room : ℕ) → listed a (planOf a room) ≡ listed b (planOf b room)
+  same-planned room = same-listed s (times-planned (same-times s) room)
+
+  pub same-shown : (k room : ℕ) → listed a (shownOf a k room) ≡ listed b (shownOf b k room)
+  same-shown k room = same-listed s (times-shown (same-times s) k room)

@@ -1,0 +1,211 @@
+-- The contracts of the calls, from the equalities of what they answer and store.
+-- Assumes nothing.
+use mathlib.Core.Path.{_≡_, refl, sym, ap, _∙_}
+use mathlib.Core.Bool.{Bool, cond}
+use mathlib.Core.List.{List}
+use Prim.Native.Nat.{ℕ, _<_}
+use native.Mathlib.Omega.{arith}
+use borrow.Author.Tests.{eq-eqb, ne-eqb}
+use lib.Dec.{eqb}
+use lib.ListN.{length, getD, take, replicate}
+use lib.Seq.{take-at}
+use Rattle.base.specs.Outcomes.{Outcome, answered}
+use Rattle.list.specs.Refusals.{outcomeOf}
+use Rattle.list.specs.Checks.{WellFormed}
+use Rattle.list.specs.declared.types.Refusal.{Refusal}
+use Rattle.list.specs.declared.types.Verdict.{Verdict}
+use Rattle.list.specs.declared.types.Verdict.the-variants.{Accepted, Refused}
+use Rattle.list.specs.declared.types.DayList.{DayList}
+use Rattle.base.proofs.Inversion.{answered-same, answered-refused}
+use Rattle.jackson.specs.Windows.{Windows, windowsOf, windowsIn, Searchable}
+use Rattle.jackson.specs.Plans.{placesIn}
+use Rattle.jackson.specs.Intervals.{overloadOf}
+use Rattle.jackson.specs.Minutes.{schedule}
+use Rattle.jackson.specs.Calls.{FillsWindows}
+use Rattle.jackson.specs.declared.types.WindowSet.{WindowSet}
+use Rattle.base.proofs.Sums.{same-cases}
+use Rattle.narrow.specs.Rounds.{Narrowed}
+use Rattle.list.specs.DayLists.{wholeIn}
+use Rattle.narrow.specs.Calls.{narrowedIn}
+use Rattle.narrow.specs.declared.types.NarrowAnswer.{NarrowAnswer}
+use Rattle.narrow.proofs.CallCases.{list-formed}
+use Rattle.bounds.specs.Ends.{leastEnd, greatestStart}
+use Rattle.bounds.specs.ShownPlans.{earlyPlan, latePlan, boundOf, shownPlan}
+use Rattle.planner.specs.BrokenEntries.{brokenIn}
+use Rattle.planner.specs.Demand3.{Told, Demand3}
+use Rattle.planner.specs.Calls.{planChecks, shownChecks, settledOr, planned, planOf, endsOf, startsOf, brokenOf, toldByPlan, PlansDay, shownOf, putShown, toldByShown, Shows}
+use Rattle.bounds.specs.Calls.{byPlace}
+use Rattle.planner.specs.Demand2.{PlansWindows}
+use Rattle.bounds.specs.Internal.{Stores}
+use Rattle.planner.specs.Internal.{NarrowsAfter}
+use Rattle.planner.specs.declared.types.PlanAnswer.{PlanAnswer}
+use Rattle.planner.specs.declared.types.ShownAnswer.{ShownAnswer}
+use Rattle.bounds.specs.declared.types.Shown.{Shown}
+use Rattle.bounds.specs.declared.types.Shown.the-variants.{Early, Late}
+use Rattle.planner.proofs.Demands.{AtPlace, ByRules, demand3}
+use Rattle.bounds.proofs.EndCases.{by-place, searchable-at}
+use Rattle.bounds.proofs.ShownCases.{schedule-long, shown-long}
+use Rattle.planner.proofs.CallCases.{plan-formed, shown-plan, shown-formed, settledIn, IsSettled, outcome-is, is-settled, settled-few, settled-day, settled-plan, Ready, ready-formed, ready-place, bounds-are, plan-is, broken-is, shown-bound, shown-stored}
+
+-- the windows of the list answered are those told
+windows-told : (a : NarrowAnswer) (v : Narrowed) → narrowedIn a ≡ answered v → (a .verdict ≡ Accepted) × (windowsOf (a .list) ≡ v .windows)
+windows-told a v = go (a .verdict) refl
+  where
+    go : (t : Verdict) → a .verdict ≡ t → outcomeOf t (settledIn a) ≡ answered v
+        → (a .verdict ≡ Accepted) × (windowsOf (a .list) ≡ v .windows)
+    go Accepted e q = (e, ap (λ (x : Narrowed). x .windows) (answered-same refl q))
+    go (Refused x) e q = absurd (answered-refused q refl)
+
+-- demand 3 of a call that narrowed after checks that were passed
+told-demand : {checks : Outcome (Unit {0})} {l : DayList} {a : NarrowAnswer} → NarrowsAfter checks l a
+    → (checks ≡ answered tt → WellFormed l) → (told : Told) → told .outcome ≡ narrowedIn a
+    → (IsSettled checks l a → (k : ℕ) → k < windowsOf (a .list) .n → AtPlace (wholeIn l) (windowsOf (a .list)) told k)
+    → checks ≡ answered tt → Demand3 (wholeIn l) (windowsOf l) told
+told-demand {checks} {l} {a} after formed told is each passed =
+    demand3 (wholeIn l) (windowsOf l) (list-formed l (formed passed)) told (is ∙ after .holds .narrowed ∙ rw passed refl) rules
+  where
+    rules : ByRules (wholeIn l) told
+    rules v e k place =
+        let answer = windows-told a v (sym is ∙ e) in
+        let count : windowsOf (a .list) .n ≡ v .windows .n = ap (λ (w : Windows). w .n) (answer .1) in
+        rw (← (answer .1)) (each (is-settled after (answer .0) formed) k (omega (arith, count, place)))
+
+-- Planning.
+module _ (l : DayList) (old : List ℕ) (a : PlanAnswer) (new : List ℕ) (after : NarrowsAfter (planChecks l (length old)) l (a .narrowed))
+    (broken : a .broken ≡ brokenOf (wholeIn l) (planOf l (length old)))
+    (ends : a .ends ≡ leastEnds (wholeIn l) (planOf l (length old)))
+    (starts : a .starts ≡ greatestStarts (wholeIn l) (planOf l (length old)))
+    (buffer : new ≡ planned schedule old (planOf l (length old))) where
+  plans-day : PlansDay l old a new
+  plans-day =
+      record {
+        answers = after .answers;
+        holds = after .holds;
+        broken = broken;
+        ends = ends;
+        starts = starts;
+        buffer = buffer;
+        demand2 = λ e. plan (is-settled after e (plan-formed l (length old)));
+        demand3 = told-demand after (plan-formed l (length old)) (toldByPlan a) refl each;
+      }
+    where
+      whole : ℕ → Bool
+      whole = wholeIn l
+
+      w : Windows
+      w = windowsOf (a .narrowed .list)
+
+      plan : IsSettled (planChecks l (length old)) l (a .narrowed) → PlansWindows whole w (take (l .frame .h) new) (a .broken)
+      plan settled =
+          let long : length (schedule w) ≡ l .frame .h = schedule-long w ∙ settled-day settled in
+          let front : take (l .frame .h) new ≡ schedule w = rw (buffer, settled .outcome) (take-at (schedule w) _ _ long) in
+          let count : a .broken ≡ _ = rw (settled .outcome) at broken in
+          rw (front, count) (settled-plan settled)
+
+      each : IsSettled (planChecks l (length old)) l (a .narrowed) → (k : ℕ) → k < w .n → AtPlace whole w (toldByPlan a) k
+      each settled k place = record { end = end; start = start; early = ap (earlyPlan w k) end; late = ap (latePlan w k) start }
+        where
+          bound : (f : ℕ → ℕ) (xs : List ℕ) → xs ≡ byPlace (w .n) f → getD xs k 0 ≡ f k
+          bound f xs e = rw e (by-place f (w .n) k (settled-few settled) place)
+
+          end : getD (a .ends) k 0 ≡ leastEnd overloadOf whole w k
+          end = bound (leastEnd overloadOf whole w) (a .ends) (rw (settled .outcome) at ends)
+
+          start : getD (a .starts) k 0 ≡ greatestStart overloadOf whole w k
+          start = bound (greatestStart overloadOf whole w) (a .starts) (rw (settled .outcome) at starts)
+
+-- Showing a plan of place k.
+
+-- what is put for the plan x of place k changes nothing if it is what was there
+put-shown : {A : Type 0} (f : Shown → ℕ → A) (x : Shown) (k : ℕ) (v : A) → v ≡ f x k → (y : Shown) (i : ℕ) → putShown x k v f y i ≡ f y i
+put-shown {A} f x k v e = go x e
+  where
+    there : (g : ℕ → A) → v ≡ g k → (i : ℕ) → cond (eqb i k) v (g i) ≡ g i
+    there g e i = same-cases i k (λ q _. rw (eq-eqb i k q) (rw q e)) (λ z _. rw (ne-eqb i k z) refl)
+
+    go : (x : Shown) → v ≡ f x k → (y : Shown) (i : ℕ) → putShown x k v f y i ≡ f y i
+    go Early e Early i = there (f Early) e i
+    go Late e Late i = there (f Late) e i
+    go Early e Late i = refl
+    go Late e Early i = refl
+
+module _ (x : Shown) (l : DayList) (k : ℕ) (old : List ℕ) (a : ShownAnswer) (new : List ℕ)
+    (after : NarrowsAfter (shownChecks l k (length old)) l (a .narrowed))
+    (bound : a .bound ≡ settledOr 0 (boundOf x (wholeIn l) k) (shownOf l k (length old)))
+    (buffer : new ≡ planned (shownPlan x (wholeIn l) k) old (shownOf l k (length old))) where
+  shows : Shows x l k old a new
+  shows =
+      record {
+        answers = after .answers;
+        holds = after .holds;
+        bound = bound;
+        buffer = buffer;
+        demand3 = told-demand after (shown-formed l k (length old)) (toldByShown x whole k a bytes) refl each;
+      }
+    where
+      whole : ℕ → Bool
+      whole = wholeIn l
+
+      w : Windows
+      w = windowsOf (a .narrowed .list)
+
+      bytes : List ℕ
+      bytes = take (l .frame .h) new
+
+      each : IsSettled (shownChecks l k (length old)) l (a .narrowed) → (i : ℕ) → i < w .n
+          → AtPlace whole w (toldByShown x whole k a bytes) i
+      each settled i place = record { end = bounds Early i; start = bounds Late i; early = plans Early i; late = plans Late i }
+        where
+          bounds : (y : Shown) (i : ℕ) → putShown x k (a .bound) (λ z j. boundOf z whole j w) y i ≡ boundOf y whole i w
+          bounds = put-shown (λ z j. boundOf z whole j w) x k (a .bound) (rw (settled .outcome) at bound)
+
+          front : bytes ≡ shownPlan x whole k w
+          front =
+              let long : length (shownPlan x whole k w) ≡ l .frame .h = shown-long x whole k w ∙ settled-day settled in
+              rw (buffer, settled .outcome) (take-at (shownPlan x whole k w) _ _ long)
+
+          plans : (y : Shown) (i : ℕ) → putShown x k bytes (λ z j. shownPlan z whole j w) y i ≡ shownPlan y whole i w
+          plans = put-shown (λ z j. shownPlan z whole j w) x k bytes front
+
+-- What the code meets: narrowing after the checks was refused, or not.
+pub plan-refused : {l : DayList} {old : List ℕ} {a : NarrowAnswer} → NarrowsAfter (planChecks l (length old)) l a
+    → {x : Refusal} → a .verdict ≡ Refused x → {ends starts : List ℕ} → ends ≡ replicate 64 0 → starts ≡ replicate 64 0
+    → PlansDay l old (record { narrowed = a; broken = 0; ends = ends; starts = starts }) old
+plan-refused after e no-ends no-starts =
+    let z = outcome-is after (Refused _) e in
+    plans-day _ _ _ _ after (rw z refl) (rw z no-ends) (rw z no-starts) (rw z refl)
+
+pub plan-done : {l : DayList} {old : List ℕ} {a : NarrowAnswer} {s : WindowSet} → Ready (planChecks l (length old)) l old a s
+    → {v : Verdict} {new : List ℕ} → FillsWindows (windowsIn s) old v new
+    → {x : ℕ} {ends starts : List ℕ} → x ≡ brokenIn (wholeIn (a .list)) (windowsOf (a .list)) (placesIn (take (s .h) new))
+    → ends ≡ byPlace (a .list .n) (leastEnd overloadOf (wholeIn (a .list)) (windowsIn s))
+    → starts ≡ byPlace (a .list .n) (greatestStart overloadOf (wholeIn (a .list)) (windowsIn s))
+    → PlansDay l old (record { narrowed = a; broken = x; ends = ends; starts = starts }) new
+plan-done {l} {old} {a} ready fills broken ends starts =
+    plans-day l old _ _ (ready .after)
+    (broken-is ready fills _ broken)
+    (bounds-are ready (leastEnd overloadOf) _ ends)
+    (bounds-are ready (greatestStart overloadOf) _ starts)
+    (plan-is ready fills)
+
+pub shown-refused : (x : Shown) {l : DayList} {k : ℕ} {old : List ℕ} {a : NarrowAnswer} → NarrowsAfter (shownChecks l k (length old)) l a
+    → {r : Refusal} → a .verdict ≡ Refused r → Shows x l k old (record { narrowed = a; bound = 0 }) old
+shown-refused x {l} {k} {old} {a} after {r} e =
+    let z = outcome-is after (Refused r) e in
+    shows x l k old _ old after (rw z refl) (rw z refl)
+
+module _ {l : DayList} {k : ℕ} {old : List ℕ} {a : NarrowAnswer} {s : WindowSet}
+    (ready : Ready (shownChecks l k (length old)) l old a s) where
+  -- the place asked is one of the list answered
+  pub shown-place : length (l .entries) ≡ 64 → k < a .list .n
+  shown-place long =
+      let passed = shown-plan l k (length old) (ready .settled .passed) in
+      ready-place ready (plan-formed l (length old) (passed .1)) long k (passed .0)
+
+  pub shown-searchable : length (l .entries) ≡ 64 → Searchable s k
+  shown-searchable long = searchable-at (ready-formed ready) k (shown-place long)
+
+  pub shown-done : {x : Shown} {b : Bool} → b ≡ wholeIn (a .list) k → {e : ℕ} {new : List ℕ}
+      → Stores x (λ _. b) (windowsIn s) k old e new → Shows x l k old (record { narrowed = a; bound = e }) new
+  shown-done {x} kind {e} {new} stores =
+      shows x l k old _ new (ready .after) (shown-bound ready kind stores) (shown-stored ready kind stores)
