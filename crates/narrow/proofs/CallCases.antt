@@ -165,7 +165,7 @@ module _ (l : DayList) (f : Outcome Narrowed) where
 
 -- What `settle` answers.
 module _ (l : DayList) where
-  settle-keeps : (v : Narrowed) → settleOf l ≡ answered v → Keeps (windowsOf l) (v .windows) × WellFormed l
+  pub settle-keeps : (v : Narrowed) → settleOf l ≡ answered v → Keeps (windowsOf l) (v .windows) × WellFormed l
   unfolding settleOf narrowing
   settle-keeps v e =
       let z = passed-check l (narrowing overloadOf (wholeIn l) (windowsOf l)) v e in

@@ -43,11 +43,11 @@ module _ {a b : DayList} (s : SameTimes a b) where
   times-shown k room = times-after (times-shown-checked k room)
 
   -- what planning answers beside them, and leaves in a plan buffer
-  pub times-ends : (room : ℕ) → leastEnds (wholeIn a) (planOf a room) ≡ leastEnds (wholeIn b) (planOf b room)
-  times-ends room = λ j. leastEnds (times-whole s j) (times-planned room j)
+  pub times-ends : (room : ℕ) → endsOf (wholeIn a) (planOf a room) ≡ endsOf (wholeIn b) (planOf b room)
+  times-ends room = λ j. endsOf (times-whole s j) (times-planned room j)
 
-  pub times-starts : (room : ℕ) → greatestStarts (wholeIn a) (planOf a room) ≡ greatestStarts (wholeIn b) (planOf b room)
-  times-starts room = λ j. greatestStarts (times-whole s j) (times-planned room j)
+  pub times-starts : (room : ℕ) → startsOf (wholeIn a) (planOf a room) ≡ startsOf (wholeIn b) (planOf b room)
+  times-starts room = λ j. startsOf (times-whole s j) (times-planned room j)
 
   pub times-broken : (room : ℕ) → brokenOf (wholeIn a) (planOf a room) ≡ brokenOf (wholeIn b) (planOf b room)
   times-broken room = λ j. brokenOf (times-whole s j) (times-planned room j)

@@ -10,51 +10,43 @@ use lib.Dec.{eqb}
 use lib.ListN.{length, getD, take, replicate}
 use lib.Seq.{take-at}
 use Rattle.base.specs.Outcomes.{Outcome, answered}
-use Rattle.list.specs.Refusals.{outcomeOf}
+use Rattle.base.proofs.Sums.{same-cases}
+use Rattle.list.specs.DayLists.{wholeIn, marked}
 use Rattle.list.specs.Checks.{WellFormed}
 use Rattle.list.specs.declared.types.Refusal.{Refusal}
 use Rattle.list.specs.declared.types.Verdict.{Verdict}
-use Rattle.list.specs.declared.types.Verdict.the-variants.{Accepted, Refused}
+use Rattle.list.specs.declared.types.Verdict.the-variants.{Refused}
 use Rattle.list.specs.declared.types.DayList.{DayList}
-use Rattle.base.proofs.Inversion.{answered-same, answered-refused}
-use Rattle.jackson.specs.Windows.{Windows, windowsOf, windowsIn, Searchable}
+use Rattle.jackson.specs.Windows.{Windows, windowsOf, windowsIn}
 use Rattle.jackson.specs.Plans.{placesIn}
 use Rattle.jackson.specs.Intervals.{overloadOf}
 use Rattle.jackson.specs.Minutes.{schedule}
 use Rattle.jackson.specs.Calls.{FillsWindows}
 use Rattle.jackson.specs.declared.types.WindowSet.{WindowSet}
-use Rattle.base.proofs.Sums.{same-cases}
-use Rattle.narrow.specs.Rounds.{Narrowed}
-use Rattle.list.specs.DayLists.{wholeIn}
 use Rattle.narrow.specs.Calls.{narrowedIn}
 use Rattle.narrow.specs.declared.types.NarrowAnswer.{NarrowAnswer}
 use Rattle.narrow.proofs.CallCases.{list-formed}
 use Rattle.bounds.specs.Ends.{leastEnd, greatestStart}
 use Rattle.bounds.specs.ShownPlans.{earlyPlan, latePlan, boundOf, shownPlan}
+use Rattle.bounds.specs.Calls.{byPlace, HoldsBounds, StoresPlan}
+use Rattle.bounds.specs.declared.types.Shown.{Shown}
+use Rattle.bounds.specs.declared.types.Shown.the-variants.{Early, Late}
+use Rattle.bounds.specs.declared.types.Bounds.{Bounds}
+use Rattle.bounds.specs.declared.types.BoundAnswer.{BoundAnswer}
+use Rattle.bounds.proofs.EndCases.{by-place}
+use Rattle.bounds.proofs.ShownCases.{schedule-long, shown-long}
 use Rattle.planner.specs.BrokenEntries.{brokenIn}
-use Rattle.planner.specs.Demand3.{Told, Demand3}
-use Rattle.planner.specs.Calls.{planChecks, shownChecks, settledOr, planned, planOf, endsOf, startsOf, brokenOf, toldByPlan, PlansDay, shownOf, putShown, toldByShown, Shows}
-use Rattle.bounds.specs.Calls.{byPlace}
 use Rattle.planner.specs.Demand2.{PlansWindows}
-use Rattle.bounds.specs.Internal.{Stores}
+use Rattle.planner.specs.Demand3.{Told, Demand3}
+use Rattle.planner.specs.Calls.{planChecks, shownChecks, settledOr, planned, planOf, endsOf, startsOf, brokenOf, toldByPlan, PlansDay}
+use Rattle.planner.specs.Calls.{shownOf, putShown, toldByShown, Shows}
 use Rattle.planner.specs.Internal.{NarrowsAfter}
 use Rattle.planner.specs.declared.types.PlanAnswer.{PlanAnswer}
 use Rattle.planner.specs.declared.types.ShownAnswer.{ShownAnswer}
-use Rattle.bounds.specs.declared.types.Shown.{Shown}
-use Rattle.bounds.specs.declared.types.Shown.the-variants.{Early, Late}
 use Rattle.planner.proofs.Demands.{AtPlace, ByRules, demand3}
-use Rattle.bounds.proofs.EndCases.{by-place, searchable-at}
-use Rattle.bounds.proofs.ShownCases.{schedule-long, shown-long}
-use Rattle.planner.proofs.CallCases.{plan-formed, shown-plan, shown-formed, settledIn, IsSettled, outcome-is, is-settled, settled-few, settled-day, settled-plan, Ready, ready-formed, ready-place, bounds-are, plan-is, broken-is, shown-bound, shown-stored}
-
--- the windows of the list answered are those told
-windows-told : (a : NarrowAnswer) (v : Narrowed) → narrowedIn a ≡ answered v → (a .verdict ≡ Accepted) × (windowsOf (a .list) ≡ v .windows)
-windows-told a v = go (a .verdict) refl
-  where
-    go : (t : Verdict) → a .verdict ≡ t → outcomeOf t (settledIn a) ≡ answered v
-        → (a .verdict ≡ Accepted) × (windowsOf (a .list) ≡ v .windows)
-    go Accepted e q = (e, ap (λ (x : Narrowed). x .windows) (answered-same refl q))
-    go (Refused x) e q = absurd (answered-refused q refl)
+use Rattle.planner.proofs.CallCases.{plan-formed, shown-plan, shown-formed, IsSettled, outcome-is, is-settled, windows-told}
+use Rattle.planner.proofs.CallCases.{settled-few, settled-day, settled-plan, Planning, place-in, ends-are, starts-are, plan-is, broken-is}
+use Rattle.planner.proofs.CallCases.{shown-bound, shown-stored}
 
 -- demand 3 of a call that narrowed after checks that were passed
 told-demand : {checks : Outcome (Unit {0})} {l : DayList} {a : NarrowAnswer} → NarrowsAfter checks l a
@@ -73,8 +65,8 @@ told-demand {checks} {l} {a} after formed told is each passed =
 -- Planning.
 module _ (l : DayList) (old : List ℕ) (a : PlanAnswer) (new : List ℕ) (after : NarrowsAfter (planChecks l (length old)) l (a .narrowed))
     (broken : a .broken ≡ brokenOf (wholeIn l) (planOf l (length old)))
-    (ends : a .ends ≡ leastEnds (wholeIn l) (planOf l (length old)))
-    (starts : a .starts ≡ greatestStarts (wholeIn l) (planOf l (length old)))
+    (ends : a .ends ≡ endsOf (wholeIn l) (planOf l (length old)))
+    (starts : a .starts ≡ startsOf (wholeIn l) (planOf l (length old)))
     (buffer : new ≡ planned schedule old (planOf l (length old))) where
   plans-day : PlansDay l old a new
   plans-day =
@@ -175,18 +167,17 @@ plan-refused after e no-ends no-starts =
     let z = outcome-is after (Refused _) e in
     plans-day _ _ _ _ after (rw z refl) (rw z no-ends) (rw z no-starts) (rw z refl)
 
-pub plan-done : {l : DayList} {old : List ℕ} {a : NarrowAnswer} {s : WindowSet} → Ready (planChecks l (length old)) l old a s
-    → {v : Verdict} {new : List ℕ} → FillsWindows (windowsIn s) old v new
-    → {x : ℕ} {ends starts : List ℕ} → x ≡ brokenIn (wholeIn (a .list)) (windowsOf (a .list)) (placesIn (take (s .h) new))
-    → ends ≡ byPlace (a .list .n) (leastEnd overloadOf (wholeIn (a .list)) (windowsIn s))
-    → starts ≡ byPlace (a .list .n) (greatestStart overloadOf (wholeIn (a .list)) (windowsIn s))
-    → PlansDay l old (record { narrowed = a; broken = x; ends = ends; starts = starts }) new
-plan-done {l} {old} {a} ready fills broken ends starts =
-    plans-day l old _ _ (ready .after)
-    (broken-is ready fills _ broken)
-    (bounds-are ready (leastEnd overloadOf) _ ends)
-    (bounds-are ready (greatestStart overloadOf) _ starts)
-    (plan-is ready fills)
+pub plan-done : {l : DayList} {old : List ℕ} {a : NarrowAnswer} {marks : List Bool} {s : WindowSet}
+    → Planning (planChecks l (length old)) l old a marks s → {v : Verdict} {new : List ℕ} → FillsWindows (windowsIn s) old v new
+    → {x : ℕ} → x ≡ brokenIn (marked marks) (windowsIn s) (placesIn (take (s .h) new))
+    → {b : Bounds} → HoldsBounds (marked marks) (windowsIn s) b
+    → PlansDay l old (record { narrowed = a; broken = x; ends = b .ends; starts = b .starts }) new
+plan-done {l} {old} planning fills broken bounds =
+    plans-day l old _ _ (planning .after)
+    (broken-is planning fills _ broken)
+    (ends-are planning bounds)
+    (starts-are planning bounds)
+    (plan-is planning fills)
 
 pub shown-refused : (x : Shown) {l : DayList} {k : ℕ} {old : List ℕ} {a : NarrowAnswer} → NarrowsAfter (shownChecks l k (length old)) l a
     → {r : Refusal} → a .verdict ≡ Refused r → Shows x l k old (record { narrowed = a; bound = 0 }) old
@@ -194,18 +185,15 @@ shown-refused x {l} {k} {old} {a} after {r} e =
     let z = outcome-is after (Refused r) e in
     shows x l k old _ old after (rw z refl) (rw z refl)
 
-module _ {l : DayList} {k : ℕ} {old : List ℕ} {a : NarrowAnswer} {s : WindowSet}
-    (ready : Ready (shownChecks l k (length old)) l old a s) where
-  -- the place asked is one of the list answered
-  pub shown-place : length (l .entries) ≡ 64 → k < a .list .n
-  shown-place long =
-      let passed = shown-plan l k (length old) (ready .settled .passed) in
-      ready-place ready (plan-formed l (length old) (passed .1)) long k (passed .0)
+module _ {l : DayList} {k : ℕ} {old : List ℕ} {a : NarrowAnswer} {marks : List Bool} {s : WindowSet}
+    (planning : Planning (shownChecks l k (length old)) l old a marks s) (long : length (l .entries) ≡ 64) where
+  -- the place asked is one of the settled windows
+  pub shown-place : k < windowsIn s .n
+  shown-place =
+      let passed = shown-plan l k (length old) (planning .settled .passed) in
+      place-in planning (plan-formed l (length old) (passed .1)) long k (passed .0)
 
-  pub shown-searchable : length (l .entries) ≡ 64 → Searchable s k
-  shown-searchable long = searchable-at (ready-formed ready) k (shown-place long)
-
-  pub shown-done : {x : Shown} {b : Bool} → b ≡ wholeIn (a .list) k → {e : ℕ} {new : List ℕ}
-      → Stores x (λ _. b) (windowsIn s) k old e new → Shows x l k old (record { narrowed = a; bound = e }) new
-  shown-done {x} kind {e} {new} stores =
-      shows x l k old _ new (ready .after) (shown-bound ready kind stores) (shown-stored ready kind stores)
+  pub shown-done : {x : Shown} {b : BoundAnswer} {new : List ℕ} → StoresPlan x (marked marks k) (windowsIn s) k old b new
+      → Shows x l k old (record { narrowed = a; bound = b .bound }) new
+  shown-done {x} {b} {new} stores =
+      shows x l k old _ new (planning .after) (shown-bound planning shown-place stores) (shown-stored planning shown-place stores)

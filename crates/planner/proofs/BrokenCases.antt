@@ -8,19 +8,16 @@ use native.Mathlib.Numerals.{add-one}
 use native.Mathlib.Omega.{arith}
 use borrow.Author.Tests.{eq-eqb, ne-eqb, eqb-true, not-true, not-false}
 use lib.Dec.{eqb}
-use lib.ListN.{length, getD, take, length-take}
+use lib.ListN.{length, getD, take}
 use lib.Seq.{getD-take}
-use Rattle.list.specs.DayLists.{blank, wholeIn}
-use Rattle.list.specs.declared.types.Entry.{Entry}
-use Rattle.list.specs.declared.types.DayList.{DayList}
 use Rattle.base.specs.Counting.{lastBelow, sum}
-use Rattle.jackson.specs.Windows.{windowsOf}
+use Rattle.jackson.specs.Windows.{Windows}
 use Rattle.jackson.specs.Plans.{idle, placesIn, startOf, endOf, minutesOf}
 use Rattle.base.proofs.Sums.{le-or-lt}
 use Rattle.base.proofs.Searches.{first-below, one-first}
 use Rattle.jackson.proofs.PlanFacts.{minutes-within, place-read}
 use Rattle.planner.specs.BrokenEntries.{isBroken, brokenIn}
-use Rattle.planner.specs.Internal.{HoldsPlan}
+use Rattle.planner.specs.Internal.{HoldsPlan, oneBroken}
 
 -- 1 or 0
 at-most-one : (t : Bool) (b : ℕ) → b ≡ cond t 1 0 → b ≤ 1
@@ -111,73 +108,55 @@ module _ (h : ℕ) (bytes : List ℕ) (k : ℕ) where
             is = so .is ∙ last-one ∙ rw (ne-eqb _ _ (λ e. other (last-here ∙ e)));
           }
 
--- 1 for entry k if the first h bytes break it, else 0
-abbrev oneBroken : DayList → ℕ → List ℕ → ℕ → ℕ
-oneBroken l h bytes k = cond (isBroken (wholeIn l) h (placesIn (take h bytes)) k) 1 0
-
 -- one entry
-module _ {l : DayList} {h : ℕ} {bytes : List ℕ} (has : HoldsPlan l h bytes) (long : length (l .entries) ≡ 64)
-    {k : ℕ} (place : k < l .n) where
+module _ {w : Windows} {bytes : List ℕ} (has : HoldsPlan w bytes) {k : ℕ} (place : k < w .n) where
   abbrev m : ℕ → ℕ
-  m = placesIn (take h bytes)
+  m = placesIn (take (w .h) bytes)
 
-  count-is : windowsOf l .n ≡ l .n
-  count-is = rw (length-take (l .n) (l .entries)) (omega (arith, has .few, long))
+  pub minutes-in-day : w .p k ≤ w .h
+  minutes-in-day = omega (arith, has .plan .exact k place, minutes-within (w .h) m k 0 (w .h) (λ t below _. (omega arith, below)))
 
-  minutes-are : minutesOf h m k ≡ getD (l .entries) k blank .p
-  minutes-are =
-      ap (λ (x : ℕ). minutesOf x m k) (has .day)
-      ∙ has .plan .exact k (omega (arith, count-is, place))
-      ∙ ap (λ (e : Entry). e .p) (getD-take (l .n) (l .entries) k blank place)
+  pub start-in-day : startOf (w .h) m k ≤ w .h
+  start-in-day = first-below (w .h) _ .within
 
-  pub minutes-in-day : getD (l .entries) k blank .p ≤ h
-  minutes-in-day = omega (arith, minutes-are, minutes-within h m k 0 h (λ t below _. (omega arith, below)))
+  pub not-whole : (whole : Bool) → not whole ≡ true → 0 ≡ oneBroken (λ _. whole) w bytes k
+  not-whole whole e = rw (not-true whole e) refl
 
-  pub start-in-day : startOf h m k ≤ h
-  start-in-day = first-below h _ .within
-
-  pub not-whole : {x : Bool} → x ≡ wholeIn l k → not x ≡ true → 0 ≡ oneBroken l h bytes k
-  not-whole {x} e f = let z : wholeIn l k ≡ false = sym e ∙ not-true x f in rw z refl
-
-  module _ {x : Bool} (e : x ≡ wholeIn l k) (t : not x ≡ false) {s end : ℕ} (start : s ≡ startOf h m k) (ends : end ≡ endOf h m k) where
-    whole : wholeIn l k ≡ true
-    whole = sym e ∙ not-false x t
-
-    pub in-one-piece : s + getD (l .entries) k blank .p ≡ end → 0 ≡ oneBroken l h bytes k
+  module _ (b : Bool) (t : not b ≡ false) {s end : ℕ} (start : s ≡ startOf (w .h) m k) (ends : end ≡ endOf (w .h) m k) where
+    pub in-one-piece : s + w .p k ≡ end → 0 ≡ oneBroken (λ _. b) w bytes k
     in-one-piece same =
-        let z : startOf h m k + minutesOf h m k ≡ endOf h m k = omega (arith, same, start, ends, minutes-are) in
-        rw (whole, eq-eqb _ _ z) refl
+        let z : startOf (w .h) m k + minutesOf (w .h) m k ≡ endOf (w .h) m k = omega (arith, same, start, ends, has .plan .exact k place) in
+        rw (not-false b t, eq-eqb _ _ z) refl
 
-    pub in-pieces : (s + getD (l .entries) k blank .p ≡ end → ⊥) → 1 ≡ oneBroken l h bytes k
+    pub in-pieces : (s + w .p k ≡ end → ⊥) → 1 ≡ oneBroken (λ _. b) w bytes k
     in-pieces other =
-        let z : startOf h m k + minutesOf h m k ≡ endOf h m k → ⊥ = λ q. other (omega (arith, q, start, ends, minutes-are)) in
-        rw (whole, ne-eqb _ _ z) refl
+        let z : startOf (w .h) m k + minutesOf (w .h) m k ≡ endOf (w .h) m k → ⊥ =
+        λ q. other (omega (arith, q, start, ends, has .plan .exact k place)) in
+        rw (not-false b t, ne-eqb _ _ z) refl
 
 -- the broken entries among the first i
-pub record Counted (l : DayList) (h : ℕ) (bytes : List ℕ) (x i : ℕ) : Type 0 where
-  pub few : l .n ≤ 64
-  pub passed : i ≤ l .n
+pub record BrokenSoFar (whole : ℕ → Bool) (w : Windows) (bytes : List ℕ) (x i : ℕ) : Type 0 where
+  pub few : w .n ≤ 64
+  pub passed : i ≤ w .n
   pub small : x ≤ i
-  pub is : x ≡ sum i (oneBroken l h bytes)
+  pub is : x ≡ sum i (oneBroken whole w bytes)
 
-module _ {l : DayList} {h : ℕ} {bytes : List ℕ} (has : HoldsPlan l h bytes) where
-  pub counted-none : Counted l h bytes 0 0
+module _ {whole : ℕ → Bool} {w : Windows} {bytes : List ℕ} (has : HoldsPlan w bytes) where
+  pub counted-none : BrokenSoFar whole w bytes 0 0
   unfolding sum
   counted-none = record { few = has .few; passed = omega arith; small = omega arith; is = refl }
 
-  module _ {x i : ℕ} (so : Counted l h bytes x i) where
-    pub counted-next : i < l .n → {b : ℕ} → b ≡ oneBroken l h bytes i → Counted l h bytes (x + b) (i + 1)
+  module _ {x i : ℕ} (so : BrokenSoFar whole w bytes x i) where
+    pub counted-next : i < w .n → {b : ℕ} → b ≡ oneBroken whole w bytes i → BrokenSoFar whole w bytes (x + b) (i + 1)
     unfolding sum
     counted-next below {b} e =
         record {
           few = so .few;
           passed = omega (arith, below);
-          small = omega (arith, so .small, at-most-one (isBroken (wholeIn l) h (placesIn (take h bytes)) i) b e);
-          is = rw (add-one, e) (ap (λ (y : ℕ). y + oneBroken l h bytes i) (so .is));
+          small = omega (arith, so .small, at-most-one (isBroken whole (w .h) (placesIn (take (w .h) bytes)) i) b e);
+          is = rw (add-one, e) (ap (λ (y : ℕ). y + oneBroken whole w bytes i) (so .is));
         }
 
-    pub counted-all : length (l .entries) ≡ 64 → l .n ≤ i → x ≡ brokenIn (wholeIn l) (windowsOf l) (placesIn (take h bytes))
+    pub counted-all : w .n ≤ i → x ≡ brokenIn whole w (placesIn (take (w .h) bytes))
     unfolding brokenIn
-    counted-all long end =
-        let z : i ≡ windowsOf l .n = rw (length-take (l .n) (l .entries)) (omega (arith, so .passed, has .few, long)) in
-        rw (← has .day) (so .is ∙ ap (λ (n : ℕ). sum n (oneBroken l h bytes)) z)
+    counted-all end = let z : i ≡ w .n = omega (arith, so .passed) in so .is ∙ ap (λ (n : ℕ). sum n (oneBroken whole w bytes)) z

@@ -5,45 +5,50 @@ use mathlib.Core.Bool.{Bool, true, false, cond}
 use mathlib.Core.List.{List, [], _∷_, _++_}
 use Prim.Native.Nat.{ℕ, _<_, _≤_}
 use native.Mathlib.Omega.{arith}
-use borrow.Author.Tests.{lt-ltb, le-ltb, le-leb, lt-leb, leb-false, ltb-false}
-use lib.ListN.{length, take, drop, replicate}
+use borrow.Author.Tests.{le-ltb, le-leb, lt-leb, leb-false, ltb-false}
+use lib.ListN.{length, take, drop}
 use lib.Seq.{length-take-le, take-at}
 use Rattle.base.specs.Outcomes.{Code, Row, Outcome, answered, refused, firstOf, andThen}
+use Rattle.base.proofs.Inversion.{answered-same, answered-refused}
 use Rattle.list.specs.Refusals.{codeOf, outcomeOf, verdictOf}
+use Rattle.list.specs.DayLists.{wholeIn, marked}
 use Rattle.list.specs.Checks.{checkOf, WellFormed}
-use Rattle.list.specs.DayLists.{emptyList, wholeIn}
 use Rattle.list.specs.declared.types.Refusal.{Refusal}
-use Rattle.list.specs.declared.types.Refusal.the-variants.{PlanBufferShort, UnknownPlace}
+use Rattle.list.specs.declared.types.Refusal.the-variants.{UnknownPlace}
 use Rattle.list.specs.declared.types.Verdict.{Verdict}
 use Rattle.list.specs.declared.types.Verdict.the-variants.{Accepted, Refused}
 use Rattle.list.specs.declared.types.DayList.{DayList}
 use Rattle.list.proofs.Sound.{sound-list}
-use Rattle.base.proofs.Inversion.{answered-refused}
 use Rattle.list.proofs.Verdicts.{by-accepted, by-refused}
 use Rattle.jackson.specs.Windows.{Windows, windowsOf, windowsIn, Formed}
 use Rattle.jackson.specs.Plans.{placesIn}
+use Rattle.jackson.specs.Intervals.{overloadOf}
 use Rattle.jackson.specs.Minutes.{schedule}
 use Rattle.jackson.specs.Calls.{Holds, bufferRow, FillsWindows}
 use Rattle.jackson.specs.declared.types.WindowSet.{WindowSet}
+use Rattle.jackson.proofs.Room.{formed-passes}
 use Rattle.jackson.proofs.ListLaws.{list-few}
 use Rattle.narrow.specs.Settling.{Widest}
-use Rattle.narrow.specs.Rounds.{Narrowed}
-use Rattle.narrow.specs.Calls.{settleOf, Settles}
+use Rattle.narrow.specs.Rounds.{Narrowed, narrowing}
+use Rattle.narrow.specs.Calls.{narrowWindows, narrowedOf, narrowedIn, settleOf, AnswersAs}
+use Rattle.narrow.specs.declared.types.WindowsAnswer.{WindowsAnswer}
 use Rattle.narrow.specs.declared.types.NarrowAnswer.{NarrowAnswer}
 use Rattle.narrow.proofs.OverloadPlanner.{overload-planner}
+use Rattle.narrow.proofs.StepsKeep.{Keeps}
 use Rattle.narrow.proofs.NarrowLaws.{narrow-law}
-use Rattle.narrow.proofs.CallCases.{list-formed, answers-refused, holds-answer}
-use Rattle.planner.specs.BrokenEntries.{brokenIn}
-use Rattle.planner.specs.Demand2.{PlansWindows}
-use Rattle.planner.specs.Calls.{beforeNine, planChecks, shownChecks, narrowAfter, settledOr, planned, brokenOf}
-use Rattle.bounds.specs.Calls.{placeRow, byPlace}
+use Rattle.narrow.proofs.CallCases.{list-formed, settle-keeps, holds-answer}
 use Rattle.bounds.specs.ShownPlans.{boundOf, shownPlan}
-use Rattle.bounds.specs.Internal.{HoldsFormed, Stores}
-use Rattle.planner.specs.Internal.{HoldsPlan, NarrowsAfter}
+use Rattle.bounds.specs.Calls.{leastEnds, greatestStarts, inRoom, HoldsBounds, placeRow, showRows, StoresPlan}
 use Rattle.bounds.specs.declared.types.Shown.{Shown}
-use Rattle.planner.proofs.Demands.{plans-windows}
+use Rattle.bounds.specs.declared.types.Bounds.{Bounds}
+use Rattle.bounds.specs.declared.types.BoundAnswer.{BoundAnswer}
 use Rattle.bounds.proofs.EndCases.{bound-kind}
 use Rattle.bounds.proofs.ShownCases.{stored-long, filled-with, schedule-long, plan-kind}
+use Rattle.planner.specs.BrokenEntries.{brokenIn}
+use Rattle.planner.specs.Demand2.{PlansWindows}
+use Rattle.planner.specs.Calls.{beforeNine, planChecks, shownChecks, narrowAfter, settledOr, planned, endsOf, startsOf, brokenOf}
+use Rattle.planner.specs.Internal.{bufferFault, HoldsPlan, NarrowsAfter}
+use Rattle.planner.proofs.Demands.{plans-windows}
 
 -- The checks before 9.
 module _ (l : DayList) (v : Verdict) (checked : verdictOf v ≡ checkOf l) where
@@ -63,24 +68,18 @@ module _ (l : DayList) (v : Verdict) (checked : verdictOf v ≡ checkOf l) where
     passed : checkOf l ≡ answered tt
     passed = by-accepted checked e
 
-    pub buffer-short : room < l .frame .h → verdictOf (Refused (PlanBufferShort (l .frame .h))) ≡ planChecks l room
+    pub plan-buffer : (u : Verdict) → verdictOf u ≡ bufferFault (l .frame .h) room → verdictOf u ≡ planChecks l room
     unfolding planChecks
-    buffer-short h = rw (passed, lt-ltb room (l .frame .h) h) refl
-
-    pub buffer-fine : l .frame .h ≤ room → verdictOf Accepted ≡ planChecks l room
-    unfolding planChecks
-    buffer-fine h = rw (passed, le-ltb room (l .frame .h) h) refl
+    plan-buffer u q = rw passed q
 
     module _ (k : ℕ) where
       pub place-unknown : l .n ≤ k → verdictOf (Refused (UnknownPlace k)) ≡ shownChecks l k room
       unfolding shownChecks
       place-unknown h = rw (passed, le-leb (l .n) k h) refl
 
-      pub place-known : k < l .n → (u : Verdict) → verdictOf u ≡ planChecks l room → verdictOf u ≡ shownChecks l k room
-      unfolding planChecks shownChecks
-      place-known h u q =
-          let z : verdictOf u ≡ firstOf (bufferRow (l .frame .h) room ∷ []) (answered tt) = rw passed at q in
-          rw (passed, lt-leb (l .n) k h) z
+      pub place-known : k < l .n → (u : Verdict) → verdictOf u ≡ bufferFault (l .frame .h) room → verdictOf u ≡ shownChecks l k room
+      unfolding shownChecks
+      place-known h u q = rw (passed, lt-leb (l .n) k h) q
 
 -- what they say where they are passed
 abbrev Passed : Outcome (Unit {0}) → Type 0
@@ -110,27 +109,41 @@ module _ (l : DayList) where
   pub shown-plan : (k room : ℕ) → shownChecks l k room ≡ answered tt → (k < l .n) × (planChecks l room ≡ answered tt)
   unfolding planChecks shownChecks
   shown-plan k room e =
-      let z = rows-passed (placeRow l k ∷ bufferRow (l .frame .h) room ∷ []) e in
+      let z = rows-passed (placeRow (l .n) k ∷ bufferRow (l .frame .h) room ∷ []) e in
       let q = row-passed _ _ _ (z .1) in
       (leb-false _ _ (q .0), rw (z .0) (q .1))
 
   pub shown-formed : (k room : ℕ) → shownChecks l k room ≡ answered tt → WellFormed l
   shown-formed k room e = plan-formed room (shown-plan k room e .1)
 
--- Narrowing after them.
-pub narrows-not : (l : DayList) (v : Verdict) (a : NarrowAnswer) (x : Refusal) → v ≡ Refused x
-    → a ≡ record { verdict = v; list = emptyList; moves = 0 } → NarrowsAfter (verdictOf v) l a
-narrows-not l v a x e is =
-    let z : narrowAfter (verdictOf v) l ≡ refused (codeOf x) = ap (λ (u : Verdict). narrowAfter (verdictOf u) l) e in
-    let answers = answers-refused l a (narrowAfter (verdictOf v) l) v x is e z in
-    record { answers = answers; holds = holds-answer l a _ (λ n q. absurd (answered-refused q z)) answers }
+-- Narrowing after them, from the marks of the whole entries and the windows of the list.
+module _ (checks : Outcome (Unit {0})) (l : DayList) (formed : checks ≡ answered tt → WellFormed l) where
+  module _ (marks : List Bool) (kinds : marked marks ≡ wholeIn l) (s : WindowSet) (holds : Holds l s) (found : WindowsAnswer)
+      (is : narrowedOf found ≡ andThen checks (λ _. narrowWindows (marked marks) (windowsIn s))) where
+    pub found-is : narrowedOf found ≡ narrowAfter checks l
+    unfolding narrowWindows
+    found-is = is ∙ go checks refl
+      where
+        given : narrowWindows (marked marks) (windowsIn s) ≡ narrowWindows (wholeIn l) (windowsOf l)
+        given = λ i. narrowWindows (kinds i) (holds .windows i)
 
-pub narrows-settled : (l : DayList) (v : Verdict) (a : NarrowAnswer) → v ≡ Accepted → WellFormed l → Settles l a
-    → NarrowsAfter (verdictOf v) l a
-unfolding settleOf
-narrows-settled l v a e formed settles =
-    let z : settleOf l ≡ narrowAfter (verdictOf v) l = rw (e, formed) in
-    record { answers = rw z at (settles .answers); holds = rw z at (settles .holds) }
+        go : (o : Outcome (Unit {0})) → checks ≡ o
+            → andThen o (λ _. narrowWindows (marked marks) (windowsIn s)) ≡ andThen o (λ _. narrowing overloadOf (wholeIn l) (windowsOf l))
+        go (answered t) e = given ∙ rw (formed-passes (windowsOf l) (list-formed l (formed e)))
+        go (refused k) e = refl
+
+    pub narrows-after : (a : NarrowAnswer) → AnswersAs l (narrowedOf found) a → NarrowsAfter checks l a
+    unfolding settleOf
+    narrows-after a answers =
+        let after : AnswersAs l (narrowAfter checks l) a = rw found-is at answers in
+        record { answers = after; holds = holds-answer l a (narrowAfter checks l) keeps after }
+      where
+        keeps : (v : Narrowed) → narrowAfter checks l ≡ answered v → Keeps (windowsOf l) (v .windows) × WellFormed l
+        keeps v = go checks refl
+          where
+            go : (o : Outcome (Unit {0})) → checks ≡ o → narrowAfter o l ≡ answered v → Keeps (windowsOf l) (v .windows) × WellFormed l
+            go (answered t) e q = settle-keeps l v (rw (formed e) q)
+            go (refused k) e q = absurd (answered-refused q refl)
 
 -- the windows and moves answered
 abbrev pub settledIn : NarrowAnswer → Narrowed
@@ -185,94 +198,131 @@ module _ {checks : Outcome (Unit {0})} {l : DayList} {a : NarrowAnswer} (settled
       (brokenIn (wholeIn l) (windowsOf (a .list)) (placesIn (schedule (windowsOf (a .list)))))
   settled-plan = plans-windows (wholeIn l) (windowsOf (a .list)) settled-formed (settled .widest .settled .plan)
 
--- What the code has where nothing was refused: narrowing's answer, the settled windows in arrays, and a plan buffer with room.
-pub record Ready (checks : Outcome (Unit {0})) (l : DayList) (old : List ℕ) (a : NarrowAnswer) (s : WindowSet) : Type 0 where
+-- the windows of the list answered are those told
+pub windows-told : (a : NarrowAnswer) (v : Narrowed) → narrowedIn a ≡ answered v → (a .verdict ≡ Accepted) × (windowsOf (a .list) ≡ v .windows)
+windows-told a v = go (a .verdict) refl
+  where
+    go : (t : Verdict) → a .verdict ≡ t → outcomeOf t (settledIn a) ≡ answered v
+        → (a .verdict ≡ Accepted) × (windowsOf (a .list) ≡ v .windows)
+    go Accepted e q = (e, ap (λ (x : Narrowed). x .windows) (answered-same refl q))
+    go (Refused x) e q = absurd (answered-refused q refl)
+
+-- and those found
+windows-found : (found : WindowsAnswer) (v : Narrowed) → narrowedOf found ≡ answered v → windowsIn (found .windows) ≡ v .windows
+windows-found found v = go (found .verdict)
+  where
+    go : (t : Verdict) → outcomeOf t (record { windows = windowsIn (found .windows); moves = found .moves }) ≡ answered v
+        → windowsIn (found .windows) ≡ v .windows
+    go Accepted q = ap (λ (x : Narrowed). x .windows) (answered-same refl q)
+    go (Refused x) q = absurd (answered-refused q refl)
+
+-- What the code has where nothing was refused: narrowing's answer, the settled windows in arrays with the marks of the whole entries, and a
+-- plan buffer with room.
+pub record Planning (checks : Outcome (Unit {0})) (l : DayList) (old : List ℕ) (a : NarrowAnswer) (marks : List Bool) (s : WindowSet) : Type 0 where
   pub after : NarrowsAfter checks l a
   pub settled : IsSettled checks l a
-  pub holds : Holds (a .list) s
+  pub kinds : marked marks ≡ wholeIn l
+  pub windows : windowsIn s ≡ windowsOf (a .list)
   pub room : l .frame .h ≤ length old
 
-pub is-ready : {checks : Outcome (Unit {0})} {l : DayList} {old : List ℕ} {a : NarrowAnswer} {s : WindowSet}
-    → NarrowsAfter checks l a → (checks ≡ answered tt → planChecks l (length old) ≡ answered tt)
-    → a .verdict ≡ Accepted → Holds (a .list) s → Ready checks l old a s
-is-ready {checks} {l} {old} after plan e holds =
+pub is-planning : {checks : Outcome (Unit {0})} {l : DayList} {old : List ℕ} {a : NarrowAnswer} {marks : List Bool} (found : WindowsAnswer)
+    → NarrowsAfter checks l a → (checks ≡ answered tt → planChecks l (length old) ≡ answered tt) → marked marks ≡ wholeIn l
+    → narrowedOf found ≡ narrowAfter checks l → a .verdict ≡ Accepted → Planning checks l old a marks (found .windows)
+is-planning {checks} {l} {old} {a} {marks} found after plan kinds is e =
     let settled = is-settled after e (λ q. plan-formed l (length old) (plan q)) in
-    record { after = after; settled = settled; holds = holds; room = plan-room l (length old) (plan (settled .passed)) }
+    record {
+      after = after;
+      settled = settled;
+      kinds = kinds;
+      windows = windows-found found (settledIn a) (is ∙ settled .outcome);
+      room = plan-room l (length old) (plan (settled .passed));
+    }
 
-module _ {checks : Outcome (Unit {0})} {l : DayList} {old : List ℕ} {a : NarrowAnswer} {s : WindowSet}
-    (ready : Ready checks l old a s) where
+module _ {checks : Outcome (Unit {0})} {l : DayList} {old : List ℕ} {a : NarrowAnswer} {marks : List Bool} {s : WindowSet}
+    (planning : Planning checks l old a marks s) where
   abbrev settled : IsSettled checks l a
-  settled = ready .settled
+  settled = planning .settled
 
-  abbrev holds : Holds (a .list) s
-  holds = ready .holds
+  abbrev windows : windowsIn s ≡ windowsOf (a .list)
+  windows = planning .windows
 
-  pub ready-formed : HoldsFormed (a .list) s
-  ready-formed =
-      record { formed = rw (holds .windows) (settled-formed settled); count = omega (arith, holds .n, settled .few) }
+  arrays-formed : Formed (windowsIn s)
+  arrays-formed = rw windows (settled-formed settled)
 
-  count-is : windowsOf (a .list) .n ≡ a .list .n
-  count-is = ap (λ (w : Windows). w .n) (sym (holds .windows)) ∙ ready-formed .count
+  day-is : s .h ≡ l .frame .h
+  day-is = ap (λ (w : Windows). w .h) windows ∙ settled-day settled
 
-  day-is : s .h ≡ a .list .frame .h
-  day-is = ap (λ (w : Windows). w .h) (holds .windows)
+  arrays-room : s .h ≤ length old
+  arrays-room = omega (arith, day-is, planning .room)
 
-  pub ready-room : s .h ≤ length old
-  ready-room = omega (arith, day-is, settled-day settled, ready .room)
-
-  -- a place of the list is one of the list answered
-  pub ready-place : WellFormed l → length (l .entries) ≡ 64 → (k : ℕ) → k < l .n → k < a .list .n
-  ready-place formed long k h =
+  -- a place of the list is one of the settled windows
+  pub place-in : WellFormed l → length (l .entries) ≡ 64 → (k : ℕ) → k < l .n → k < windowsIn s .n
+  place-in formed long k h =
       let given : windowsOf l .n ≡ l .n = length-take-le (l .n) (l .entries) (omega (arith, long, sound-list l formed .header .room)) in
       let same : windowsOf (a .list) .n ≡ windowsOf l .n = ap (λ (w : Windows). w .n) (settled .widest .entries) in
-      omega (arith, given, same, count-is, h)
+      let held : windowsIn s .n ≡ windowsOf (a .list) .n = ap (λ (w : Windows). w .n) windows in
+      omega (arith, given, same, held, h)
 
-  -- least ends, or greatest starts, of the settled windows
-  pub bounds-are : (f : (ℕ → Bool) → Windows → ℕ → ℕ) (xs : List ℕ) → xs ≡ byPlace (a .list .n) (f (wholeIn (a .list)) (windowsIn s))
-      → xs ≡ settledOr (replicate 64 0) (λ w. byPlace (w .n) (f (wholeIn l) w)) (narrowAfter checks l)
-  bounds-are f xs e = e ∙ rw (settled .outcome, settled .kinds, holds .windows, count-is) refl
+  -- the bounds of the settled windows
+  module _ {b : Bounds} (bounds : HoldsBounds (marked marks) (windowsIn s) b) where
+    in-room : (xs : List ℕ) → inRoom (windowsIn s) xs ≡ xs
+    in-room xs = rw (formed-passes (windowsIn s) arrays-formed) refl
+
+    pub ends-are : b .ends ≡ endsOf (wholeIn l) (narrowAfter checks l)
+    ends-are = bounds .ends ∙ in-room _ ∙ (λ i. leastEnds (planning .kinds i) (windows i)) ∙ rw (settled .outcome) refl
+
+    pub starts-are : b .starts ≡ startsOf (wholeIn l) (narrowAfter checks l)
+    starts-are = bounds .starts ∙ in-room _ ∙ (λ i. greatestStarts (planning .kinds i) (windows i)) ∙ rw (settled .outcome) refl
 
   -- the day's plan
   module _ {v : Verdict} {new : List ℕ} (fills : FillsWindows (windowsIn s) old v new) where
-    stored : new ≡ schedule (windowsOf (a .list)) ++ drop (windowsOf (a .list) .h) old
-    stored = filled-with (windowsOf (a .list)) old v new (rw (holds .windows) at fills) (rw (settled-day settled) (ready .room))
+    stored : new ≡ schedule (windowsIn s) ++ drop (s .h) old
+    stored = filled-with (windowsIn s) old v new fills arrays-room
 
     pub plan-is : new ≡ planned schedule old (narrowAfter checks l)
-    plan-is = rw (settled .outcome) stored
+    plan-is = rw (settled .outcome) (stored ∙ (λ i. schedule (windows i) ++ drop (windows i .h) old))
 
-    front : take (windowsOf (a .list) .h) new ≡ schedule (windowsOf (a .list))
-    front = rw stored (take-at (schedule (windowsOf (a .list))) _ _ (schedule-long _))
+    front : take (s .h) new ≡ schedule (windowsIn s)
+    front = rw stored (take-at (schedule (windowsIn s)) _ _ (schedule-long _))
 
     pub plan-long : length new ≡ length old
-    plan-long =
-        let w = windowsOf (a .list) in
-        stored-long (w .h) (schedule w) old new stored (schedule-long w) (rw (settled-day settled) (ready .room))
+    plan-long = stored-long (s .h) (schedule (windowsIn s)) old new stored (schedule-long _) arrays-room
 
-    pub plan-held : HoldsPlan (a .list) (s .h) new
+    pub plan-held : HoldsPlan (windowsIn s) new
     plan-held =
         record {
-          day = day-is;
-          few = settled .few;
-          room = omega (arith, plan-long, ready-room);
-          plan = rw (day-is, front) (settled-plan settled .plan .plan);
+          few = omega arith;
+          room = omega (arith, plan-long, arrays-room);
+          plan = rw (front, windows) (settled-plan settled .plan .plan);
         }
 
-    pub broken-is : (x : ℕ) → x ≡ brokenIn (wholeIn (a .list)) (windowsOf (a .list)) (placesIn (take (s .h) new))
+    pub broken-is : (x : ℕ) → x ≡ brokenIn (marked marks) (windowsIn s) (placesIn (take (s .h) new))
         → x ≡ brokenOf (wholeIn l) (narrowAfter checks l)
-    broken-is x e = e ∙ rw (settled .outcome, settled .kinds, day-is, front) refl
+    broken-is x e =
+        e
+        ∙ ap (λ (xs : List ℕ). brokenIn (marked marks) (windowsIn s) (placesIn xs)) front
+        ∙ (λ i. brokenIn (planning .kinds i) (windows i) (placesIn (schedule (windows i))))
+        ∙ rw (settled .outcome) refl
 
   -- a shown plan
-  module _ {x : Shown} {k : ℕ} {b : Bool} (kind : b ≡ wholeIn (a .list) k) {e : ℕ} {new : List ℕ}
-      (stores : Stores x (λ _. b) (windowsIn s) k old e new) where
-    kind-is : b ≡ wholeIn l k
-    kind-is = kind ∙ ap (λ (whole : ℕ → Bool). whole k) (settled .kinds)
+  module _ {x : Shown} {k : ℕ} (place : k < windowsIn s .n) {b : BoundAnswer} {new : List ℕ}
+      (stores : StoresPlan x (marked marks k) (windowsIn s) k old b new) where
+    rows-are : showRows (windowsIn s) k (length old) ≡ answered tt
+    unfolding showRows
+    rows-are = rw (formed-passes (windowsIn s) arrays-formed, lt-leb _ k place, le-ltb (length old) (s .h) arrays-room) refl
 
-    pub shown-bound : e ≡ settledOr 0 (boundOf x (wholeIn l) k) (narrowAfter checks l)
+    kind-is : marked marks k ≡ wholeIn l k
+    kind-is = ap (λ (whole : ℕ → Bool). whole k) (planning .kinds)
+
+    pub shown-bound : b .bound ≡ settledOr 0 (boundOf x (wholeIn l) k) (narrowAfter checks l)
     shown-bound =
         rw (settled .outcome)
-        (stores .bound ∙ rw (holds .windows) (bound-kind x (wholeIn l) b (windowsOf (a .list)) k kind-is))
+        ((rw rows-are at (stores .bound))
+        ∙ bound-kind x (wholeIn l) _ (windowsIn s) k kind-is
+        ∙ ap (boundOf x (wholeIn l) k) windows)
 
     pub shown-stored : new ≡ planned (shownPlan x (wholeIn l) k) old (narrowAfter checks l)
     shown-stored =
         rw (settled .outcome)
-        (stores .buffer ∙ (λ i. plan-kind x (wholeIn l) b (holds .windows i) k kind-is i ++ drop (holds .windows i .h) old))
+        ((rw rows-are at (stores .buffer))
+        ∙ (λ i. plan-kind x (wholeIn l) (marked marks k) (windows i) k kind-is i ++ drop (windows i .h) old))

@@ -21,7 +21,8 @@ use Rattle.bounds.specs.Ends.{leastEnd, greatestStart}
 use Rattle.planner.specs.BrokenEntries.{brokenIn}
 use Rattle.planner.specs.Demand3.{Told, Demand3}
 use Rattle.planner.specs.Demand2.{PlansWindows}
-use Rattle.bounds.specs.ShownPlans.{earlyOf, lateOf}
+use Rattle.bounds.specs.ShownPlans.{shownPlan}
+use Rattle.bounds.specs.declared.types.Shown.the-variants.{Early, Late}
 use Rattle.bounds.proofs.EndBounds.{end-bound, early-is}
 use Rattle.bounds.proofs.StartBounds.{start-bound, late-is}
 use Rattle.planner.proofs.BrokenFacts.{broken-exactly}
@@ -30,8 +31,8 @@ use Rattle.planner.proofs.BrokenFacts.{broken-exactly}
 pub record AtPlace (whole : ℕ → Bool) (w : Windows) (told : Told) (k : ℕ) : Type 0 where
   pub end : told .end k ≡ leastEnd overloadOf whole w k
   pub start : told .start k ≡ greatestStart overloadOf whole w k
-  pub early : told .early k ≡ earlyOf whole k w
-  pub late : told .late k ≡ lateOf whole k w
+  pub early : told .early k ≡ shownPlan Early whole k w
+  pub late : told .late k ≡ shownPlan Late whole k w
 
 -- of each entry, in the windows answered
 abbrev pub ByRules : (ℕ → Bool) → Told → Type 0

@@ -1,48 +1,43 @@
--- The calls that narrow: "planning a list and showing an early or late plan".
-use Prim.Native.Nat.{ℕ, _<_}
+-- What the calls that narrow promise: "planning a list and showing an early or late plan".
+use Prim.Native.Nat.{ℕ}
 use mathlib.Core.Path.{_≡_}
-use mathlib.Core.Logic.{_↔_}
-use mathlib.Core.Bool.{Bool, true, cond}
+use mathlib.Core.Bool.{Bool, cond}
 use mathlib.Core.List.{List, [], _∷_, _++_}
 use lib.ListN.{length, getD, take, drop, replicate}
-use lib.Dec.{eqb, leb, ltb}
-use Rattle.base.specs.Outcomes.{Row, row, Outcome, answered, refused, firstOf, andThen}
+use lib.Dec.{eqb}
+use Rattle.base.specs.Outcomes.{Row, Outcome, answered, refused, firstOf, andThen}
+use Rattle.list.specs.DayLists.{wholeIn}
 use Rattle.list.specs.Checks.{checkOf}
 use Rattle.list.specs.declared.types.DayList.{DayList}
 use Rattle.list.specs.declared.types.Verdict.the-variants.{Accepted}
-use Rattle.base.specs.Counting.{listOf}
 use Rattle.jackson.specs.Windows.{Windows, windowsOf}
-use Rattle.jackson.specs.Plans.{placesIn, PlanBytes}
+use Rattle.jackson.specs.Plans.{placesIn}
 use Rattle.jackson.specs.Intervals.{overloadOf}
 use Rattle.jackson.specs.Minutes.{schedule}
 use Rattle.jackson.specs.Calls.{bufferRow}
 use Rattle.narrow.specs.Rounds.{Narrowed, narrowing}
-use Rattle.list.specs.DayLists.{wholeIn}
 use Rattle.narrow.specs.Calls.{narrowedIn, AnswersAs, HoldsAnswer}
-use Rattle.bounds.specs.Ends.{leastEnd, greatestStart}
-use Rattle.bounds.specs.ShownPlans.{earlyPlan, latePlan}
-use Rattle.planner.specs.BrokenEntries.{isBroken, brokenIn, Broken}
+use Rattle.bounds.specs.ShownPlans.{earlyPlan, latePlan, boundOf, shownPlan}
+use Rattle.bounds.specs.Calls.{leastEnds, greatestStarts, placeRow}
+use Rattle.bounds.specs.declared.types.Shown.{Shown}
+use Rattle.bounds.specs.declared.types.Shown.the-variants.{Early, Late}
+use Rattle.planner.specs.BrokenEntries.{brokenIn}
+use Rattle.planner.specs.Demand2.{PlansWindows}
 use Rattle.planner.specs.Demand3.{Told, Demand3}
 use Rattle.planner.specs.declared.types.PlanAnswer.{PlanAnswer}
 use Rattle.planner.specs.declared.types.ShownAnswer.{ShownAnswer}
-use Rattle.bounds.specs.declared.types.Shown.{Shown}
-use Rattle.bounds.specs.declared.types.Shown.the-variants.{Early, Late}
 
 -- "The checks before 9 are all that such a call tests before the given windows, in the table below the rows above 9": the value check,
 -- then the rows about what the call lends and asks
 abbrev pub beforeNine : DayList → List Row → Outcome (Unit {0})
 beforeNine l rows = andThen (checkOf l) (λ _. firstOf rows (answered tt))
 
--- "place asked is n or more", which carries that place
-abbrev pub placeRow : DayList → ℕ → Row
-placeRow l k = row 13 (leb (l .n) k) k
-
 -- the rows above 9 for a plan buffer of this length, and for a place k beside it
 unfoldable pub planChecks : DayList → ℕ → Outcome (Unit {0})
 planChecks l room = beforeNine l (bufferRow (l .frame .h) room ∷ [])
 
 unfoldable pub shownChecks : DayList → ℕ → ℕ → Outcome (Unit {0})
-shownChecks l k room = beforeNine l (placeRow l k ∷ bufferRow (l .frame .h) room ∷ [])
+shownChecks l k room = beforeNine l (placeRow (l .n) k ∷ bufferRow (l .frame .h) room ∷ [])
 
 -- then rows 9 and 10, and the settled windows with their moves
 abbrev pub narrowAfter : Outcome (Unit {0}) → DayList → Outcome Narrowed
@@ -58,10 +53,6 @@ settledOr x f (refused k) = x
 abbrev pub planned : (Windows → List ℕ) → List ℕ → Outcome Narrowed → List ℕ
 planned f old = settledOr old (λ w. f w ++ drop (w .h) old)
 
--- a number for each place below n; from n on 0
-abbrev pub byPlace : ℕ → (ℕ → ℕ) → List ℕ
-byPlace n f = listOf 64 (λ i. cond (ltb i n) (f i) 0)
-
 -- Planning a list.
 
 -- the outcome of planning with a plan buffer of this length
@@ -69,11 +60,11 @@ abbrev pub planOf : DayList → ℕ → Outcome Narrowed
 planOf l room = narrowAfter (planChecks l room) l
 
 -- the least ends, greatest starts and broken entries beside the windows answered; 0 beside a refusal
-abbrev pub leastEnds : (ℕ → Bool) → Outcome Narrowed → List ℕ
-leastEnds whole = settledOr (replicate 64 0) (λ w. byPlace (w .n) (leastEnd overloadOf whole w))
+abbrev pub endsOf : (ℕ → Bool) → Outcome Narrowed → List ℕ
+endsOf whole = settledOr (replicate 64 0) (leastEnds whole)
 
-abbrev pub greatestStarts : (ℕ → Bool) → Outcome Narrowed → List ℕ
-greatestStarts whole = settledOr (replicate 64 0) (λ w. byPlace (w .n) (greatestStart overloadOf whole w))
+abbrev pub startsOf : (ℕ → Bool) → Outcome Narrowed → List ℕ
+startsOf whole = settledOr (replicate 64 0) (greatestStarts whole)
 
 abbrev pub brokenOf : (ℕ → Bool) → Outcome Narrowed → ℕ
 brokenOf whole = settledOr 0 (λ w. brokenIn whole w (placesIn (schedule w)))
@@ -90,21 +81,13 @@ toldByPlan a =
       late = λ k. latePlan w k (getD (a .starts) k 0);
     }
 
--- demand 2 of bytes in the narrowed windows w: they equal, minute for minute, Jackson's schedule of these windows; they are a plan, and
--- the entries counted as broken are the whole ones whose minutes are not consecutive
-pub record PlansWindows (whole : ℕ → Bool) (w : Windows) (bytes : List ℕ) (broken : ℕ) : Type 0 where
-  pub minutes : bytes ≡ schedule w
-  pub plan : PlanBytes w bytes
-  pub count : broken ≡ brokenIn whole w (placesIn bytes)
-  pub broken-is : (i : ℕ) → i < w .n → (isBroken whole (w .h) (placesIn bytes) i ≡ true) ↔ Broken whole (w .h) (placesIn bytes) i
-
 -- what planning the list l answers, and leaves in a plan buffer that held old
 pub record PlansDay (l : DayList) (old : List ℕ) (a : PlanAnswer) (new : List ℕ) : Type 0 where
   pub answers : AnswersAs l (planOf l (length old)) (a .narrowed)
   pub holds : HoldsAnswer l (planOf l (length old)) (a .narrowed)
   pub broken : a .broken ≡ brokenOf (wholeIn l) (planOf l (length old))
-  pub ends : a .ends ≡ leastEnds (wholeIn l) (planOf l (length old))
-  pub starts : a .starts ≡ greatestStarts (wholeIn l) (planOf l (length old))
+  pub ends : a .ends ≡ endsOf (wholeIn l) (planOf l (length old))
+  pub starts : a .starts ≡ startsOf (wholeIn l) (planOf l (length old))
   pub buffer : new ≡ planned schedule old (planOf l (length old))
   -- demand 2, of the windows answered and the bytes in the buffer
   pub demand2 : a .narrowed .verdict ≡ Accepted
@@ -117,22 +100,6 @@ pub record PlansDay (l : DayList) (old : List ℕ) (a : PlanAnswer) (new : List 
 -- the outcome of showing a plan of place k with a plan buffer of this length
 abbrev pub shownOf : DayList → ℕ → ℕ → Outcome Narrowed
 shownOf l k room = narrowAfter (shownChecks l k room) l
-
--- place k's plans in the windows w
-abbrev pub earlyOf : (ℕ → Bool) → ℕ → Windows → List ℕ
-earlyOf whole k w = earlyPlan w k (leastEnd overloadOf whole w k)
-
-abbrev pub lateOf : (ℕ → Bool) → ℕ → Windows → List ℕ
-lateOf whole k w = latePlan w k (greatestStart overloadOf whole w k)
-
--- "For any place k the caller may have either plan shown": its bound, the least end or the greatest start, and the plan
-abbrev pub boundOf : Shown → (ℕ → Bool) → ℕ → Windows → ℕ
-boundOf Early whole k w = leastEnd overloadOf whole w k
-boundOf Late whole k w = greatestStart overloadOf whole w k
-
-abbrev pub shownPlan : Shown → (ℕ → Bool) → ℕ → Windows → List ℕ
-shownPlan Early = earlyOf
-shownPlan Late = lateOf
 
 -- f, but v for the plan x of place k
 abbrev pub putShown : {A : Type 0} → Shown → ℕ → A → (Shown → ℕ → A) → Shown → ℕ → A
@@ -156,20 +123,15 @@ toldByShown x whole k a bytes =
       late = plan Late;
     }
 
--- what showing a plan of place k of the list l answers, and leaves in a plan buffer that held old, where b gives the bound and m the
--- plan in the settled windows, and told is what the call tells by its answer and the plan's bytes
-pub record ShowsPlan (l : DayList) (k : ℕ) (old : List ℕ) (b : Windows → ℕ) (m : Windows → List ℕ)
-    (told : ShownAnswer → List ℕ → Told) (a : ShownAnswer) (new : List ℕ) : Type 0 where
+-- what showing the plan x of place k of the list l answers, and leaves in a plan buffer that held old
+pub record Shows (x : Shown) (l : DayList) (k : ℕ) (old : List ℕ) (a : ShownAnswer) (new : List ℕ) : Type 0 where
   pub answers : AnswersAs l (shownOf l k (length old)) (a .narrowed)
   pub holds : HoldsAnswer l (shownOf l k (length old)) (a .narrowed)
-  pub bound : a .bound ≡ settledOr 0 b (shownOf l k (length old))
-  pub buffer : new ≡ planned m old (shownOf l k (length old))
+  pub bound : a .bound ≡ settledOr 0 (boundOf x (wholeIn l) k) (shownOf l k (length old))
+  pub buffer : new ≡ planned (shownPlan x (wholeIn l) k) old (shownOf l k (length old))
   -- demand 3, for a list, place and buffer that pass the checks before 9
-  pub demand3 : shownChecks l k (length old) ≡ answered tt → Demand3 (wholeIn l) (windowsOf l) (told a (take (l .frame .h) new))
-
--- showing the plan x
-abbrev pub Shows : Shown → DayList → ℕ → List ℕ → ShownAnswer → List ℕ → Type 0
-Shows x l k old = ShowsPlan l k old (boundOf x (wholeIn l) k) (shownPlan x (wholeIn l) k) (toldByShown x (wholeIn l) k)
+  pub demand3 : shownChecks l k (length old) ≡ answered tt
+      → Demand3 (wholeIn l) (windowsOf l) (toldByShown x (wholeIn l) k a (take (l .frame .h) new))
 
 abbrev pub ShowsEarly : DayList → ℕ → List ℕ → ShownAnswer → List ℕ → Type 0
 ShowsEarly = Shows Early

@@ -107,8 +107,8 @@ pub record Examples : Type 0 where
   pub b-no-move : Gives listB (answered (listB, 0))
   pub b-least-end : IsLeastEnd (windowsOf listB) 1 4
   pub b-greatest-start : IsGreatestStart (windowsOf listB) 1 2
-  pub b-end-answered : getD (leastEnds (wholeIn listB) (planning listB)) 1 0 ≡ 4
-  pub b-start-answered : getD (greatestStarts (wholeIn listB) (planning listB)) 1 0 ≡ 2
+  pub b-end-answered : getD (endsOf (wholeIn listB) (planning listB)) 1 0 ≡ 4
+  pub b-start-answered : getD (startsOf (wholeIn listB) (planning listB)) 1 0 ≡ 2
   -- "(c) H 10, [2,5) p 2 twice: 9, from 2 to 5, work 4. With p 2 and 1: accepted."
   pub c-refused : Gives listC (refused (code 9 (2 ∷ 5 ∷ 4 ∷ [])))
   pub c-accepted : Gives listC1 (answered (listC1, 0))

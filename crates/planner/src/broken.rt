@@ -1,15 +1,14 @@
 // Broken entries of a plan.
-use crate::ends::whole_at;
-use list::types::DayList;
+use jackson::types::WindowSet;
+use list::places_held;
 ghost use mathlib.Core.Path.{_≡_};
-ghost use mathlib.Core.Bool.{cond};
 ghost use Prim.Native.Nat.{_<_, _≤_};
 ghost use lib.ListN.{length, take};
-ghost use Rattle.jackson.specs.Windows.{windowsOf};
+ghost use Rattle.list.specs.DayLists.{marked};
+ghost use Rattle.jackson.specs.Windows.{windowsIn};
 ghost use Rattle.jackson.specs.Plans.{placesIn, startOf, endOf};
-ghost use Rattle.list.specs.DayLists.{wholeIn};
-ghost use Rattle.planner.specs.BrokenEntries.{isBroken, brokenIn};
-ghost use Rattle.planner.specs.Internal.{HoldsPlan};
+ghost use Rattle.planner.specs.BrokenEntries.{brokenIn};
+ghost use Rattle.planner.specs.Internal.{HoldsPlan, oneBroken};
 
 // The first of h minutes that place k has, h for none.
 fn start_in(plan: &[u8], h: usize, k: u8) -> usize
@@ -42,16 +41,17 @@ fn end_in(plan: &[u8], h: usize, k: u8) -> usize
 }
 
 // 1 for a broken entry, that is a whole one that has fewer minutes than lie from its start to its end; 0 for another.
-fn one_broken(list: DayList, h: usize, plan: &[u8], k: usize) -> u8
-    requires { ⌜ HoldsPlan list h (now plan) ⌝ }
-    requires { ⌜ k < list .n ⌝ }
-    ensures { λ x. ⌜ x ≡ cond (isBroken (wholeIn list) h (placesIn (take h (now (plan .entry)))) k) 1 0 ⌝ }
+fn one_broken(whole: bool, windows: WindowSet, plan: &[u8], k: usize) -> u8
+    requires { ⌜ HoldsPlan (windowsIn windows) (now plan) ⌝ }
+    requires { ⌜ k < windowsIn windows .n ⌝ }
+    ensures { λ x. ⌜ x ≡ oneBroken (λ _. whole) (windowsIn windows) (now (plan .entry)) k ⌝ }
 {
-    if !whole_at(list, k) {
+    if !whole {
         return 0;
     }
+    let h = windows.h as usize;
     let place = k as u8;
-    let p = list.entries[k].p;
+    let p = windows.p[k];
     if start_in(plan, h, place) + p as usize == end_in(plan, h, place) {
         0
     } else {
@@ -59,16 +59,16 @@ fn one_broken(list: DayList, h: usize, plan: &[u8], k: usize) -> u8
     }
 }
 
-// How many entries are broken in the plan of h minutes.
-pub(crate) fn broken_in(list: DayList, h: usize, plan: &[u8]) -> u8
-    requires { ⌜ HoldsPlan list h (now plan) ⌝ }
-    ensures { λ x. ⌜ x ≡ brokenIn (wholeIn list) (windowsOf list) (placesIn (take h (now (plan .entry)))) ⌝ }
+// How many entries the plan in the windows breaks, of which `whole` marks the whole ones.
+pub(crate) fn broken_in(whole: [bool; 64], windows: WindowSet, plan: &[u8]) -> u8
+    requires { ⌜ HoldsPlan (windowsIn windows) (now plan) ⌝ }
+    ensures { λ x. ⌜ x ≡ brokenIn (marked whole) (windowsIn windows) (placesIn (take (windows .h) (now (plan .entry)))) ⌝ }
 {
-    let count = list.n as usize;
+    let count = places_held(windows.n);
     let mut sum: u8 = 0;
     let mut i: usize = 0;
     while i < count {
-        sum += one_broken(list, h, plan, i);
+        sum += one_broken(whole[i], windows, plan, i);
         i += 1;
     }
     sum

@@ -1,26 +1,39 @@
 // The calls that narrow.
 use crate::broken::broken_in;
-use crate::ends::greatest_starts;
-use crate::ends::least_ends;
-use crate::ends::whole_at;
-use crate::shown::Shown;
-use crate::shown::store_shown;
 use crate::types::PlanAnswer;
 use crate::types::ShownAnswer;
+use bounds::bounds_of;
+use bounds::store_plan;
+use bounds::types::Shown;
+use jackson::types::WindowSet;
 use jackson::unchecked_schedule;
 use jackson::unchecked_windows;
 use jackson::zeros;
 use list::types::DayList;
 use list::types::Refusal;
 use list::types::Verdict;
-use narrow::refused_with;
-use narrow::types::NarrowAnswer;
+use list::whole_places;
+use narrow::answer_with;
+use narrow::narrow_windows;
+use narrow::types::WindowsAnswer;
 ghost use mathlib.Core.Path.{_≡_};
-ghost use Rattle.base.specs.Outcomes.{answered};
+ghost use Rattle.base.specs.Outcomes.{andThen};
 ghost use Rattle.list.specs.Refusals.{verdictOf};
-ghost use Rattle.list.specs.Checks.{WellFormed};
+ghost use Rattle.list.specs.DayLists.{marked};
+ghost use Rattle.jackson.specs.Windows.{windowsIn};
+ghost use Rattle.narrow.specs.Calls.{narrowWindows, narrowedOf};
 ghost use Rattle.planner.specs.Calls.{planChecks, shownChecks, PlansDay, Shows, ShowsEarly, ShowsLate};
-ghost use Rattle.planner.specs.Internal.{NarrowsAfter};
+ghost use Rattle.planner.specs.Internal.{bufferFault};
+
+// Row 11 for a plan buffer of this length.
+fn buffer_fault(h: usize, room: usize) -> Verdict
+    ensures { λ v. ⌜ verdictOf v ≡ bufferFault h room ⌝ }
+{
+    if room < h {
+        return Verdict::Refused(Refusal::PlanBufferShort(h));
+    }
+    Verdict::Accepted
+}
 
 // The value check, then row 11.
 fn plan_checks(list: DayList, room: usize) -> Verdict
@@ -30,11 +43,7 @@ fn plan_checks(list: DayList, room: usize) -> Verdict
     let Verdict::Accepted = verdict else {
         return verdict;
     };
-    let h = list.frame.h as usize;
-    if room < h {
-        return Verdict::Refused(Refusal::PlanBufferShort(h));
-    }
-    Verdict::Accepted
+    buffer_fault(list.frame.h as usize, room)
 }
 
 // The value check, then rows 13 and 11.
@@ -48,25 +57,31 @@ fn shown_checks(list: DayList, k: usize, room: usize) -> Verdict
     if list.n as usize <= k {
         return Verdict::Refused(Refusal::UnknownPlace(k));
     }
-    plan_checks(list, room)
+    buffer_fault(list.frame.h as usize, room)
 }
 
-// Narrows a list that passed the checks before 9; their refusal is handed on.
-fn settled_after(checks: Verdict, list: DayList) -> NarrowAnswer
-    requires { ⌜ (verdictOf checks ≡ answered tt → WellFormed list) ⌝ }
-    ensures { λ a. ⌜ NarrowsAfter (verdictOf checks) list a ⌝ }
+// Narrows the windows of a list that passed the checks before 9; their refusal is handed on.
+fn narrowed_after(checks: Verdict, whole: [bool; 64], windows: WindowSet) -> WindowsAnswer
+    ensures { λ a. ⌜ narrowedOf a ≡ andThen (verdictOf checks) (λ _. narrowWindows (marked whole) (windowsIn windows)) ⌝ }
 {
     let Verdict::Accepted = checks else {
-        return refused_with(checks);
+        return WindowsAnswer {
+            verdict: checks,
+            windows: windows,
+            moves: 0,
+        };
     };
-    narrow::settle(list)
+    narrow_windows(whole, windows)
 }
 
 // Plans a list: the value check, row 11, row 9 for the windows as given, then rounds and row 10, and Jackson's schedule of what they leave.
 pub fn plan_day(list: DayList, plan: &mut [u8]) -> PlanAnswer
     ensures { λ a. ⌜ PlansDay list (now (plan .entry)) a (now (plan .exit)) ⌝ }
 {
-    let narrowed = settled_after(plan_checks(list, plan.len()), list);
+    let whole = whole_places(list);
+    let checks = plan_checks(list, plan.len());
+    let found = narrowed_after(checks, whole, unchecked_windows(list));
+    let narrowed = answer_with(list, found);
     let verdict = narrowed.verdict;
     let Verdict::Accepted = verdict else {
         return PlanAnswer {
@@ -76,14 +91,16 @@ pub fn plan_day(list: DayList, plan: &mut [u8]) -> PlanAnswer
             starts: zeros(),
         };
     };
-    let settled = narrowed.list;
-    let settled_windows = unchecked_windows(settled);
-    let _filled = unchecked_schedule(settled_windows, plan);
+    let _filled = unchecked_schedule(found.windows, plan);
+    let broken = broken_in(whole, found.windows, plan);
+    let bounds = bounds_of(whole, found.windows);
+    let ends = bounds.ends;
+    let starts = bounds.starts;
     PlanAnswer {
         narrowed: narrowed,
-        broken: broken_in(settled, settled_windows.h as usize, plan),
-        ends: least_ends(settled, settled_windows),
-        starts: greatest_starts(settled, settled_windows),
+        broken: broken,
+        ends: ends,
+        starts: starts,
     }
 }
 
@@ -91,7 +108,10 @@ pub fn plan_day(list: DayList, plan: &mut [u8]) -> PlanAnswer
 fn show_plan(shown: Shown, list: DayList, k: usize, plan: &mut [u8]) -> ShownAnswer
     ensures { λ a. ⌜ Shows shown list k (now (plan .entry)) a (now (plan .exit)) ⌝ }
 {
-    let narrowed = settled_after(shown_checks(list, k, plan.len()), list);
+    let whole = whole_places(list);
+    let checks = shown_checks(list, k, plan.len());
+    let found = narrowed_after(checks, whole, unchecked_windows(list));
+    let narrowed = answer_with(list, found);
     let verdict = narrowed.verdict;
     let Verdict::Accepted = verdict else {
         return ShownAnswer {
@@ -99,16 +119,10 @@ fn show_plan(shown: Shown, list: DayList, k: usize, plan: &mut [u8]) -> ShownAns
             bound: 0,
         };
     };
-    let settled = narrowed.list;
+    let stored = store_plan(shown, whole[k], found.windows, k, plan);
     ShownAnswer {
         narrowed: narrowed,
-        bound: store_shown(
-            shown,
-            unchecked_windows(settled),
-            k,
-            whole_at(settled, k),
-            plan,
-        ),
+        bound: stored.bound,
     }
 }
 

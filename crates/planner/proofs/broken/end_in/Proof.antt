@@ -2,7 +2,7 @@
 -- Assumes nothing.
 use borrow.Author.Needs.{needs}
 use Rattle.planner.proofs.BrokenCases.{SoughtBack, back-none, back-next, back-found, back-all}
-use Rattle.bounds.proofs.broken.end_in.Statement.{statement}
+use Rattle.planner.proofs.broken.end_in.Statement.{statement}
 use Rattle.planner.proofs.broken.end_in.Tie as tie
 
 abbrev Inv-loop : tie.InvT-loop

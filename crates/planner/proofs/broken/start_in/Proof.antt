@@ -3,7 +3,7 @@
 use borrow.Author.Needs.{needs}
 use Prim.Native.Nat.{_-_}
 use Rattle.planner.proofs.BrokenCases.{Sought, sought-none, sought-next, sought-found, sought-all}
-use Rattle.bounds.proofs.broken.start_in.Statement.{statement}
+use Rattle.planner.proofs.broken.start_in.Statement.{statement}
 use Rattle.planner.proofs.broken.start_in.Tie as tie
 
 abbrev Inv-loop : tie.InvT-loop

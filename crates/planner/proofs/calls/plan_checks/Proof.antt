@@ -1,8 +1,8 @@
 -- The value check, then row 11.
 -- Assumes nothing.
 use borrow.Author.Needs.{needs}
-use Rattle.planner.proofs.CallCases.{plan-failed, buffer-short, buffer-fine}
-use Rattle.bounds.proofs.calls.plan_checks.Statement.{statement}
+use Rattle.planner.proofs.CallCases.{plan-failed, plan-buffer}
+use Rattle.planner.proofs.calls.plan_checks.Statement.{statement}
 use Rattle.planner.proofs.calls.plan_checks.Tie as tie
 
 check-requires : tie.Need-check-requires
@@ -19,21 +19,27 @@ returns c =
     let args = c .before .before .before .args in
     plan-failed (args .list) _ (c .before .before .check .ensures) _ (c .enum-told2 .given .1) (args .room)
 
-cast-h : tie.Need-cast-h
-cast-h c = search needs
+cast-buffer-fault : tie.Need-cast-buffer-fault
+cast-buffer-fault c = search needs
+
+buffer-fault-requires : tie.Need-buffer-fault-requires
+buffer-fault-requires c κs = search needs
 
 returns-2 : tie.Need-returns-2
 returns-2 c =
     let check = c .before .before .before .before in
     let args = check .before .args in
-    buffer-short (args .list) _ (check .check .ensures) (args .room) (c .before .before .enum-told .given .1) (c .if1 .taken)
-
-returns-3 : tie.Need-returns-3
-returns-3 c =
-    let check = c .before .before .before .before in
-    let args = check .before .args in
-    buffer-fine (args .list) _ (check .check .ensures) (args .room) (c .before .before .enum-told .given .1) (c .if1 .left)
+    plan-buffer (args .list) _ (check .check .ensures) (args .room) (c .before .before .enum-told .given .1) (c .buffer-fault .result)
+    (c .buffer-fault .ensures)
 
 pub plan-checks-spec : {M : Type 1} → statement M
 plan-checks-spec =
-    tie.close (tie.spec check-requires enum-told enum-told-2 returns cast-h returns-2 returns-3)
+    tie.close
+    (tie.spec
+    check-requires
+    enum-told
+    enum-told-2
+    returns
+    cast-buffer-fault
+    buffer-fault-requires
+    returns-2)

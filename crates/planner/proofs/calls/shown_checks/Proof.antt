@@ -2,7 +2,7 @@
 -- Assumes nothing.
 use borrow.Author.Needs.{needs}
 use Rattle.planner.proofs.CallCases.{shown-failed, place-unknown, place-known}
-use Rattle.bounds.proofs.calls.shown_checks.Statement.{statement}
+use Rattle.planner.proofs.calls.shown_checks.Statement.{statement}
 use Rattle.planner.proofs.calls.shown_checks.Tie as tie
 
 check-requires : tie.Need-check-requires
@@ -28,15 +28,19 @@ returns-2 c =
     let args = check .before .args in
     place-unknown (args .list) _ (check .check .ensures) (args .room) (c .before .before .enum-told .given .1) (args .k) (c .if1 .taken)
 
-plan-checks-requires : tie.Need-plan-checks-requires
-plan-checks-requires c κs = search needs
+cast-buffer-fault : tie.Need-cast-buffer-fault
+cast-buffer-fault c = search needs
+
+buffer-fault-requires : tie.Need-buffer-fault-requires
+buffer-fault-requires c κs = search needs
 
 returns-3 : tie.Need-returns-3
 returns-3 c =
-    let check = c .before .before .before .before .before in
+    let check = c .before .before .before .before .before .before in
     let args = check .before .args in
-    place-known (args .list) _ (check .check .ensures) (args .room) (c .before .before .before .enum-told .given .1) (args .k)
-    (c .before .if1 .left) (c .plan-checks .result) (c .plan-checks .ensures)
+    let enum-told = c .before .before .before .before .enum-told in
+    place-known (args .list) _ (check .check .ensures) (args .room) (enum-told .given .1) (args .k) (c .before .before .if1 .left)
+    (c .buffer-fault .result) (c .buffer-fault .ensures)
 
 pub shown-checks-spec : {M : Type 1} → statement M
 shown-checks-spec =
@@ -48,5 +52,6 @@ shown-checks-spec =
     returns
     cast-if1
     returns-2
-    plan-checks-requires
+    cast-buffer-fault
+    buffer-fault-requires
     returns-3)

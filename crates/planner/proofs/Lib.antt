@@ -1,0 +1,13 @@
+-- Entries counted as broken are those whose minutes are not consecutive.
+mod BrokenFacts
+-- Demand 3 of what is told by these definitions, and demand 2 of Jackson's schedule. The crates above are to cite this.
+pub mod Demands
+-- Lists that are planned alike, and document 01's examples.
+pub mod Alike
+pub mod Examples
+-- The contracts, and demand 3 alone, leave one answer.
+pub mod OneAnswer
+-- What the code's proofs cite, case by case.
+mod BrokenCases
+mod CallCases
+mod AnswerCases

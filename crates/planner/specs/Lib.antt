@@ -1,0 +1,6 @@
+pub mod BrokenEntries
+pub mod Demand2
+pub mod Demand3
+pub mod Calls
+pub mod Examples
+pub mod Internal
