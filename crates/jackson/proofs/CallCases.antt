@@ -95,15 +95,17 @@ module _ (s : State) (h : ℕ) (old : List ℕ) where
       (set-at (listOf i (placeAt s)) (getD old i 0) (drop (suc i) old) (placeAt s i) i (list-length i (placeAt s))
       ∙ sym (append-snoc (listOf i (placeAt s)) (placeAt s i) (drop (suc i) old)))
 
-  pub store-next : (new : List ℕ) (day next : Day) (i x : ℕ) → Stored s h old new day i → i < h → Advances day (record { place = x; day = next })
+  pub store-next : (new : List ℕ) (day next : Day) (i x : ℕ) → Stored s h old new day i → i < h
+      → Advances day (record { place = x; day = next })
       → Stored s h old (set new i x) next (i + 1)
   unfolding later
   store-next new day next i x so below turn =
+      let place : x ≡ placeAt s i = turn .place ∙ ap (λ (z : State). minuteOf z .place) (so .now) in
       record {
         room = so .room;
         passed = omega (arith, below);
         now = rw add-one (turn .next ∙ ap (λ (z : State). minuteOf z .next) (so .now));
-        bytes = rw (so .bytes) (store-one i x (omega (arith, below, so .room)) (turn .place ∙ ap (λ (z : State). minuteOf z .place) (so .now)));
+        bytes = rw (so .bytes) (store-one i x (omega (arith, below, so .room)) place);
       }
 
   pub store-done : (new : List ℕ) (day : Day) (i : ℕ) → Stored s h old new day i → h ≤ i → new ≡ listOf h (placeAt s) ++ drop h old
@@ -177,6 +179,7 @@ module _ (w : Windows) (old : List ℕ) where
   pub no-room : length old < w .h → FillsWindows w old (Refused (PlanBufferShort (w .h))) old
   no-room h = let z = lt-ltb (length old) (w .h) h in record { outcome = rw z refl; buffer = rw z refl }
 
-  pub has-room : (new : List ℕ) → w .h ≤ length old → new ≡ listOf (w .h) (placeAt (dayStart w)) ++ drop (w .h) old → FillsWindows w old Accepted new
+  pub has-room : (new : List ℕ) → w .h ≤ length old → new ≡ listOf (w .h) (placeAt (dayStart w)) ++ drop (w .h) old
+      → FillsWindows w old Accepted new
   unfolding schedule
   has-room new h bytes = let z = le-ltb (length old) (w .h) h in record { outcome = rw z refl; buffer = rw z bytes }

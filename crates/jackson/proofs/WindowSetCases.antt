@@ -40,10 +40,11 @@ module _ (field : Entry → ℕ) (es : List Entry) where
 
   column-next : (xs : List ℕ) (i x : ℕ) → i < 64 → Column field es xs i → x ≡ field (getD es i blank) → Column field es (set xs i x) (i + 1)
   column-next xs i x h so e =
+      let taken : getD (take (i + 1) es) i blank ≡ getD es i blank = getD-take (i + 1) es i blank (omega arith) in
       record {
         long = length-set xs i x ∙ so .long;
         is = λ j. same-cases i j
-            (λ z _. rw (← z) (getD-set-same xs i x 0 (omega (arith, so .long)) ∙ e ∙ ap field (sym (getD-take (i + 1) es i blank (omega arith)))))
+            (λ z _. rw (← z) (getD-set-same xs i x 0 (omega (arith, so .long)) ∙ e ∙ ap field (sym taken)))
             (λ z _. getD-set-other xs i j x 0 (λ q. z (sym q)) ∙ so .is j ∙ ap field (others i j z));
       }
 
@@ -113,5 +114,5 @@ module _ (l : DayList) (long : length (l .entries) ≡ 64) where
 pub copy-none : (r d p : List ℕ) → r ≡ replicate 64 0 → d ≡ replicate 64 0 → p ≡ replicate 64 0
     → Holds emptyList (record { h = 0; n = 0; r = r; d = d; p = p })
 copy-none r d p x y z =
-    rw (x, y, z)
-    (copy-done emptyList (length-replicate {A = Entry} 64 blank) _ _ _ 0 0 refl (copy-start (replicate 64 blank) 0 (omega arith)) (omega arith))
+    let start = copy-start (replicate 64 blank) 0 (omega arith) in
+    rw (x, y, z) (copy-done emptyList (length-replicate {A = Entry} 64 blank) _ _ _ 0 0 refl start (omega arith))
