@@ -16,7 +16,7 @@ use Rattle.format.specs.EntryFields.{entryOf, entryAnswerOf}
 use Rattle.list.specs.DayLists.{blank, dayList, emptyList}
 use Rattle.list.specs.Checks.{headerFault}
 use Rattle.format.specs.Reading.{entriesFrom, frameOf, countOf, bodyOf, readOf}
-use Rattle.format.specs.Internal.{AnswersAs}
+use Rattle.format.specs.Internal.{ReadsAs}
 use Rattle.list.specs.declared.types.Entry.{Entry}
 use Rattle.list.specs.declared.types.Frame.{Frame}
 use Rattle.list.specs.declared.types.DayList.{DayList}
@@ -152,10 +152,10 @@ module _ (bs : List ℕ) (f : Frame) (n : ℕ) (p : f ≡ frameOf bs) (q : n ≡
 
 -- an answer made of a refusal, and one made of a list
 pub answers-refused : (o : Outcome DayList) (a : ReadAnswer) (x : Refusal) → a ≡ record { verdict = Refused x; list = emptyList }
-    → o ≡ refused (codeOf x) → AnswersAs o a
+    → o ≡ refused (codeOf x) → ReadsAs o a
 answers-refused o a x p q = record { outcome = rw (p, q); beside = rw (p, q) }
 
-pub answers-list : (o : Outcome DayList) (l : DayList) → o ≡ answered l → AnswersAs o (record { verdict = Accepted; list = l })
+pub answers-list : (o : Outcome DayList) (l : DayList) → o ≡ answered l → ReadsAs o (record { verdict = Accepted; list = l })
 answers-list o l q = record { outcome = sym q; beside = rw q }
 
 -- the header

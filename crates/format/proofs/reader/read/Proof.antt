@@ -7,7 +7,7 @@ use Rattle.format.specs.Reading.{frameOf, countOf}
 use Rattle.list.proofs.Verdicts.{by-accepted}
 use Rattle.list.proofs.Sound.{header-of}
 use Rattle.format.proofs.ReadCases.{answers-refused, read-short, read-header, read-body}
-use Rattle.format.proofs.Promised.{reads}
+use Rattle.format.proofs.CallCases.{reads}
 use Rattle.format.proofs.reader.read.Statement.{statement}
 use Rattle.format.proofs.reader.read.Tie as tie
 
