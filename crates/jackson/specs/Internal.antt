@@ -9,7 +9,7 @@ use Rattle.base.specs.Counting.{better, smaller, larger}
 use Rattle.jackson.specs.Windows.{Windows, columns}
 use Rattle.jackson.specs.Plans.{idle}
 use Rattle.jackson.specs.Intervals.{leftOf, rightOf}
-use Rattle.jackson.specs.Minutes.{State, stateOf, isReady, after}
+use Rattle.jackson.specs.Minutes.{State, stateIn, isReady, after}
 use Rattle.jackson.specs.declared.types.Day.{Day}
 
 -- the windows of n entries held in arrays: their work and their intervals ask for no H
@@ -33,7 +33,7 @@ betterReady s i k = better idle (isReady s) (smaller (s .windows .d)) i k
 
 -- the day after place k, or none, had its minute
 pub record IsAfter (day : Day) (k : ℕ) (next : Day) : Type 0 where
-  pub state : stateOf next ≡ after (stateOf day) k
+  pub state : stateIn next ≡ after (stateIn day) k
   pub n : next .windows .n ≡ day .windows .n
 
 -- one side of the mirrored windows: of the first count entries h minus the other side, of the rest the side as it is
