@@ -8,7 +8,7 @@ use lib.ListN.{getD}
 use mir.Syntax.{w64}
 use mir.Val.{Fits}
 use lib.Seq.{length-take-le}
-use Rattle.report.proofs.Promised.{line-fits, line-stored}
+use Rattle.report.proofs.PromiseCases.{line-fits, line-stored}
 use Rattle.report.proofs.refusal_line.Statement.{statement}
 use Rattle.report.proofs.refusal_line.Tie as tie
 
