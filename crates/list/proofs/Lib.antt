@@ -1,7 +1,8 @@
--- What the crates above may cite: what a well-formed list is, what a verdict tells and that number and values tell one, what the machine's
--- types say of a list, and lists that are filled from their first place on. The rest serves this crate alone.
-mod CheckCases
-pub mod Verdicts
+-- Theory, which the crates above may cite: what a well-formed list is, what a verdict tells and that number and values tell one, what the
+-- machine's types say of a list, and lists that are filled from their first place on.
 pub mod Sound
+pub mod Verdicts
 pub mod InTypes
 pub mod Filling
+-- What the code's proofs cite, case by case.
+mod CheckCases
