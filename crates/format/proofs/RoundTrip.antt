@@ -16,7 +16,7 @@ use Rattle.format.specs.Forms.{entryBytes}
 use Rattle.list.specs.DayLists.{entriesOf, blank, dayList, SameList}
 use Rattle.list.specs.Checks.{WellFormed, checkOf, headerFault, entriesFault}
 use Rattle.format.specs.Reading.{entriesFrom, frameOf, countOf, bodyOf, readOf, PlaceIn}
-use Rattle.format.specs.Writing.{bytesOfEntries, bytesOf, writeOf, bufferAfter}
+use Rattle.format.specs.Writing.{bytesOfEntries, bytesOf, longestList, writeOf, bufferAfter}
 use Rattle.list.specs.declared.types.Seal.the-variants.{Number}
 use Rattle.list.specs.declared.types.Kind.the-variants.{Pause}
 use Rattle.list.specs.declared.types.Entry.{Entry}
@@ -186,16 +186,16 @@ module _ (bs : List ℕ) where
         let written : writeOf l (length old) ≡ answered (length bs) = rw form at done in
         (written, rw (written, form))
 
--- no list's one form has more than 963 bytes
-pub longest : (l : DayList) → WellFormed l → length (bytesOf l) ≤ 963
+-- no list's one form is longer
+pub longest : (l : DayList) → WellFormed l → length (bytesOf l) ≤ longestList
 longest l w = list-short l (has-room l w)
 
 -- 64 entries that write all their fields
 fullest : DayList
 fullest = dayList (record { h = 1440 }) (replicate 64 (record { serial = 0; seal = Number 0; r = 1; d = 2; p = 1; kind = Pause }))
 
--- some list's one form has 963 bytes
-pub longest-reached : (l : DayList) × WellFormed l × (length (bytesOf l) ≡ 963)
+-- some list's one form is as long
+pub longest-reached : (l : DayList) × WellFormed l × (length (bytesOf l) ≡ longestList)
 unfolding fullest checkOf headerFault entriesFault entryFault bytesOf bytesOfEntries entryBytes
 longest-reached = (fullest, refl, refl)
 

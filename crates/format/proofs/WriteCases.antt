@@ -13,7 +13,7 @@ use Rattle.format.specs.Maps.{sizeOf}
 use Rattle.format.specs.Forms.{fieldsIn, entryBytes}
 use Rattle.list.specs.DayLists.{entriesOf}
 use Rattle.list.specs.Checks.{WellFormed}
-use Rattle.format.specs.Writing.{bytesOfEntries, bytesOf, writeOf}
+use Rattle.format.specs.Writing.{bytesOfEntries, bytesOf, longestList, writeOf}
 use Rattle.base.specs.Storing.{Wrote}
 use Rattle.list.specs.declared.types.Entry.{Entry}
 use Rattle.list.specs.declared.types.Frame.{Frame}
@@ -93,8 +93,7 @@ module _ (l : DayList) where
   unfolding bytesOf
   list-length = simp length-append (omega arith)
 
-  -- so a list takes 963 at most
-  pub list-short : l .n ≤ 64 → length (bytesOf l) ≤ 963
+  pub list-short : l .n ≤ 64 → length (bytesOf l) ≤ longestList
   list-short h = omega (arith, list-length, entries-short (l .frame) (entriesOf l), length-take (l .n) (l .entries))
 
   pub sized-start : SizedSoFar l 3 0
