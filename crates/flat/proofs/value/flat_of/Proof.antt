@@ -34,7 +34,8 @@ loop-holds : tie.Need-loop-holds Inv-loop μ-loop
 loop-holds c =
     let list = c .before .before .before .args .t1 in
     let k : length (list .entries) ≡ 64 = search (needs, length-mapped) in
-    numbers-start list (c .before .zeros .result) (rw (c .before .zeros .ensures)) k
+    let zeros = c .before .zeros in
+    numbers-start list (zeros .result) (rw (zeros .ensures)) k
 
 mul-put-entry-numbers : tie.Need-mul-put-entry-numbers Inv-loop μ-loop
 mul-put-entry-numbers c = search needs

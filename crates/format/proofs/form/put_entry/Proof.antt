@@ -26,10 +26,12 @@ map-room c =
 
 serial-room : (c : tie.After-put-u32)
     → let e = c .before .before .before .before .before .args .e in
-    c .put-u32 .result + length (afterSerial (c .before .before .before .fields-in .result) e) ≤ length (c .put-u32 .last .0)
+    let m = c .before .before .before .fields-in .result in
+    c .put-u32 .result + length (afterSerial m e) ≤ length (c .put-u32 .last .0)
 serial-room c =
     let e = c .before .before .before .before .before .args .e in
-    room-after (c .put-u32 .ensures) (afterSerial (c .before .before .before .fields-in .result) e) (map-room (c .before .before))
+    let m = c .before .before .before .fields-in .result in
+    room-after (c .put-u32 .ensures) (afterSerial m e) (map-room (c .before .before))
 
 -- the entry's one form was stored
 stored : (c : tie.After-put-times)

@@ -23,8 +23,8 @@ enough c = let len : length (c .args .t1 .entries) ≡ 64 = search (needs, lengt
 
 -- one entry more was counted
 sized : (c : tie.After-size-of Inv-loop μ-loop)
-    → let loop = c .before .before .before .before .before .loop in
-    SizedSoFar (c .before .before .before .before .before .before .args .t1) (loop .size + c .size-of .result) (loop .i + 1)
+    → let turn = c .before .before .before .before .before in
+    SizedSoFar (turn .before .args .t1) (turn .loop .size + c .size-of .result) (turn .loop .i + 1)
 sized c =
     let start = c .before .before .before .before .before .before in
     let loop = c .before .before .before .before .before .loop in
