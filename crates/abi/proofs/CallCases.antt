@@ -34,7 +34,8 @@ abbrev pub RefusedAs : Refusal → Answer → Type 0
 RefusedAs x b = b ≡ record { number = codeOf x .number; values = three (codeOf x .carries) }
 
 module _ (bs old : List ℕ) (a : ReadAnswer) (w : Reads bs a) where
-  pub read-accepted : (fields : List ℕ) → a .verdict ≡ Accepted → fields ≡ flatOf (a .list) → ReadCall bs old (record { number = 0; values = 0 ∷ 0 ∷ 0 ∷ [] }) fields
+  pub read-accepted : (fields : List ℕ) → a .verdict ≡ Accepted → fields ≡ flatOf (a .list)
+      → ReadCall bs old (record { number = 0; values = 0 ∷ 0 ∷ 0 ∷ [] }) fields
   read-accepted fields v q =
       let o : readOf bs ≡ answered (a .list) = sym (w .outcome) ∙ ap (λ (t : Verdict). outcomeOf t (a .list)) v in
       record { answer = rw o; buffer = rw o q }
@@ -69,7 +70,8 @@ module _ (old : List ℕ) (a : NarrowAnswer) (second : ℕ) where
       → NarrowCall (narrowAnswerOf a) second old (record { number = 0; values = a .moves ∷ second ∷ 0 ∷ [] }) fields
   narrowed-given fields v q = rw v (record { answer = refl; buffer = q })
 
-  pub narrowed-refused : (x : Refusal) (b : Answer) → a .verdict ≡ Refused x → RefusedAs x b → NarrowCall (narrowAnswerOf a) second old b old
+  pub narrowed-refused : (x : Refusal) (b : Answer) → a .verdict ≡ Refused x → RefusedAs x b
+      → NarrowCall (narrowAnswerOf a) second old b old
   narrowed-refused x b v q = rw v (record { answer = q; buffer = refl })
 
 -- a call that narrows the list value that xs say, with the outcome o
@@ -83,7 +85,8 @@ pub bounds-given : (a : PlanAnswer) (old new : List ℕ) → a .narrowed .verdic
 bounds-given a old new v q = rw v q
 
 -- planning the list value that xs say
-pub plan-said : (xs oldPlan newPlan oldFields newFields oldBounds newBounds : List ℕ) (l : DayList) → l ≡ valueOf xs → (a : PlanAnswer) (b : Answer)
+pub plan-said : (xs oldPlan newPlan oldFields newFields oldBounds newBounds : List ℕ) (l : DayList) → l ≡ valueOf xs
+    → (a : PlanAnswer) (b : Answer)
     → PlansDay l oldPlan a newPlan
     → newBounds ≡ settledOr oldBounds (λ _. a .ends ++ a .starts) (narrowedIn (a .narrowed))
     → NarrowCall (narrowAnswerOf (a .narrowed)) (a .broken) oldFields b newFields
@@ -105,8 +108,8 @@ shown-said : {l : DayList} {k : ℕ} {oldPlan newPlan oldFields newFields : List
 shown-said w given = record { narrowed = rw (← (w .answers .outcome), ← (w .bound)) given; plan = w .buffer }
 
 -- of the list value that xs say
-module _ (xs : List ℕ) (k : ℕ) (oldPlan newPlan oldFields newFields : List ℕ) (l : DayList) (p : l ≡ valueOf xs) (a : ShownAnswer) (b : Answer)
-    (given : NarrowCall (narrowAnswerOf (a .narrowed)) (a .bound) oldFields b newFields) where
+module _ (xs : List ℕ) (k : ℕ) (oldPlan newPlan oldFields newFields : List ℕ) (l : DayList) (p : l ≡ valueOf xs)
+    (a : ShownAnswer) (b : Answer) (given : NarrowCall (narrowAnswerOf (a .narrowed)) (a .bound) oldFields b newFields) where
   pub early-said : ShowsEarly l k oldPlan a newPlan → EarlyCall xs k oldPlan oldFields b newPlan newFields
   early-said w =
       let f : ShowsEarly (valueOf xs) k oldPlan a newPlan = subst (λ (v : DayList). ShowsEarly v k oldPlan a newPlan) p w in

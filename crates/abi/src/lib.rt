@@ -140,7 +140,8 @@ pub extern "C" fn dock_settle(fields: &[u32; 450], narrowed: &mut [u32; 450]) ->
 
 // The bounds that planning answered; refused, `bounds` keeps its values.
 fn give_bounds(answer: PlanAnswer, bounds: &mut [u32; 128])
-    ensures { λ _. ⌜ now (bounds .exit) ≡ settledOr (now (bounds .entry)) (λ _. answer .ends ++ answer .starts) (narrowedIn (answer .narrowed)) ⌝ }
+    ensures { λ _. ⌜ now (bounds .exit)
+        ≡ settledOr (now (bounds .entry)) (λ _. answer .ends ++ answer .starts) (narrowedIn (answer .narrowed)) ⌝ }
 {
     let narrowed = answer.narrowed;
     let verdict = narrowed.verdict;
@@ -162,7 +163,8 @@ pub extern "C" fn dock_plan(
     narrowed: &mut [u32; 450],
     bounds: &mut [u32; 128],
 ) -> Answer
-    ensures { λ a. ⌜ PlanCall (now (fields .entry)) (now (plan .entry)) (now (narrowed .entry)) (now (bounds .entry)) a (now (plan .exit)) (now (narrowed .exit)) (now (bounds .exit)) ⌝ }
+    ensures { λ a. ⌜ PlanCall (now (fields .entry)) (now (plan .entry)) (now (narrowed .entry)) (now (bounds .entry)) a
+        (now (plan .exit)) (now (narrowed .exit)) (now (bounds .exit)) ⌝ }
 {
     let answer = plan_day(list_in(fields), plan);
     give_bounds(answer, bounds);
@@ -178,7 +180,8 @@ pub extern "C" fn dock_early(
     plan: &mut [u8],
     narrowed: &mut [u32; 450],
 ) -> Answer
-    ensures { λ a. ⌜ EarlyCall (now (fields .entry)) place (now (plan .entry)) (now (narrowed .entry)) a (now (plan .exit)) (now (narrowed .exit)) ⌝ }
+    ensures { λ a. ⌜ EarlyCall (now (fields .entry)) place (now (plan .entry)) (now (narrowed .entry)) a
+        (now (plan .exit)) (now (narrowed .exit)) ⌝ }
 {
     let answer = show_early(list_in(fields), place as usize, plan);
     give_narrowed(answer.narrowed, answer.bound as u64, narrowed)
@@ -192,7 +195,8 @@ pub extern "C" fn dock_late(
     plan: &mut [u8],
     narrowed: &mut [u32; 450],
 ) -> Answer
-    ensures { λ a. ⌜ LateCall (now (fields .entry)) place (now (plan .entry)) (now (narrowed .entry)) a (now (plan .exit)) (now (narrowed .exit)) ⌝ }
+    ensures { λ a. ⌜ LateCall (now (fields .entry)) place (now (plan .entry)) (now (narrowed .entry)) a
+        (now (plan .exit)) (now (narrowed .exit)) ⌝ }
 {
     let answer = show_late(list_in(fields), place as usize, plan);
     give_narrowed(answer.narrowed, answer.bound as u64, narrowed)

@@ -28,7 +28,8 @@ module _ {A : Type 0} (P : A → Type 0) (R : Code → Type 0) where
   by-row false k o p q = q refl
 
   -- one step, then the rest
-  pub by-step : {B : Type 0} (Q : B → Type 0) (o : Outcome A) (f : A → Outcome B) → Says P R o → ((a : A) → P a → Says Q R (f a)) → Says Q R (andThen o f)
+  pub by-step : {B : Type 0} (Q : B → Type 0) (o : Outcome A) (f : A → Outcome B) → Says P R o → ((a : A) → P a → Says Q R (f a))
+      → Says Q R (andThen o f)
   by-step Q (answered a) f p q = q a p
   by-step Q (refused k) f p q = p
 

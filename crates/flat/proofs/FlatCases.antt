@@ -43,14 +43,17 @@ module _ {xs : List ℕ} {entries : List Entry} {i : ℕ} (s : ReadInSoFar xs en
       record {
         passed = omega arith;
         long = length-set entries i e ∙ s .long;
-        rest = s .rest ∙ rw z (ap (λ (x : Entry). take i entries ++ (x ∷ entriesIn (64 - (i + 1)) (i + 1) xs)) (sym q) ∙ one-more);
+        rest = s .rest ∙ rw z (ap (λ (x : Entry). take i entries ++ (x ∷ more)) (sym q) ∙ one-more);
       }
     where
-      one-more : take i entries ++ (e ∷ entriesIn (64 - (i + 1)) (i + 1) xs) ≡ take (i + 1) (set entries i e) ++ entriesIn (64 - (i + 1)) (i + 1) xs
-      one-more = sym (append-assoc (take i entries) (e ∷ []) (entriesIn (64 - (i + 1)) (i + 1) xs)) ∙ ap (λ (l : List Entry). l ++ entriesIn (64 - (i + 1)) (i + 1) xs) taken
-        where
-          taken : take i entries ++ (e ∷ []) ≡ take (i + 1) (set entries i e)
-          taken = rw (add-one i) (sym (take-suc-set entries i e (omega (arith, s .long))))
+      more : List Entry
+      more = entriesIn (64 - (i + 1)) (i + 1) xs
+
+      taken : take i entries ++ (e ∷ []) ≡ take (i + 1) (set entries i e)
+      taken = rw (add-one i) (sym (take-suc-set entries i e (omega (arith, s .long))))
+
+      one-more : take i entries ++ (e ∷ more) ≡ take (i + 1) (set entries i e) ++ more
+      one-more = sym (append-assoc (take i entries) (e ∷ []) more) ∙ ap (λ (l : List Entry). l ++ more) taken
 
   pub read-in-done : 64 ≤ i → entriesIn 64 0 xs ≡ entries
   unfolding entriesIn
@@ -59,7 +62,7 @@ module _ {xs : List ℕ} {entries : List Entry} {i : ℕ} (s : ReadInSoFar xs en
       s .rest ∙ rw z (append-nil (take i entries) ∙ take-all i entries (omega (arith, s .long)))
 
 -- i entries were stored as numbers
-pub record PutSoFar (l : DayList) (fields : List ℕ) (i : ℕ) : Type 0 where
+pub record NumbersPut (l : DayList) (fields : List ℕ) (i : ℕ) : Type 0 where
   pub passed : i ≤ 64
   pub long : length fields ≡ 450
   pub rest : sets fields (2 + 7 * i) (flatEntries (drop i (l .entries))) ≡ flatOf l
@@ -69,8 +72,9 @@ unfolding flatEntries
 flat-length [] = refl
 flat-length (e ∷ es) = omega (arith, flat-length es)
 
-pub put-start : (l : DayList) (old : List ℕ) → length old ≡ 450 → length (l .entries) ≡ 64 → PutSoFar l (set (set old 0 (l .frame .h)) 1 (l .n)) 0
-put-start l old h k =
+pub numbers-start : (l : DayList) (old : List ℕ) → length old ≡ 450 → length (l .entries) ≡ 64
+    → NumbersPut l (set (set old 0 (l .frame .h)) 1 (l .n)) 0
+numbers-start l old h k =
     let flat : length (flatOf l) ≡ 450 = omega (arith, flat-length (l .entries)) in
     let short : length old ≤ 0 + length (flatOf l) = omega (arith, h, flat) in
     let none : drop (0 + length (flatOf l)) old ≡ [] = drop-of-length-le old short in
@@ -80,21 +84,23 @@ put-start l old h k =
       rest = sets-eq (flatOf l) old 0 (omega (arith, h, flat)) ∙ rw none (append-nil (flatOf l));
     }
 
-module _ {l : DayList} {fields : List ℕ} {i : ℕ} (s : PutSoFar l fields i) (k : length (l .entries) ≡ 64) where
-  pub put-next : (new : List ℕ) (e₀ : Entry) → i < 64 → new ≡ sets fields (2 + 7 * i) (flatEntry (getD (l .entries) i e₀)) → PutSoFar l new (i + 1)
+module _ {l : DayList} {fields : List ℕ} {i : ℕ} (s : NumbersPut l fields i) (k : length (l .entries) ≡ 64) where
+  pub numbers-next : (new : List ℕ) (e₀ : Entry) → i < 64 → new ≡ sets fields (2 + 7 * i) (flatEntry (getD (l .entries) i e₀))
+      → NumbersPut l new (i + 1)
   unfolding flatEntries
-  put-next new e₀ h q =
+  numbers-next new e₀ h q =
       let e = getD (l .entries) i e₀ in
-      let next : drop i (l .entries) ≡ e ∷ drop (i + 1) (l .entries) = rw (add-one i) (drop-cons (l .entries) i e₀ (omega (arith, k))) in
+      let more = drop (i + 1) (l .entries) in
+      let next : drop i (l .entries) ≡ e ∷ more = rw (add-one i) (drop-cons (l .entries) i e₀ (omega (arith, k))) in
       let z : 2 + 7 * i + 7 ≡ 2 + 7 * (i + 1) = omega arith in
       record {
         passed = omega arith;
         long = rw q (length-sets fields (2 + 7 * i) (flatEntry e) ∙ s .long);
-        rest = rw (q, ← z) (sym (sets-append fields (2 + 7 * i) (flatEntry e) (flatEntries (drop (i + 1) (l .entries)))) ∙ rw next at (s .rest));
+        rest = rw (q, ← z) (sym (sets-append fields (2 + 7 * i) (flatEntry e) (flatEntries more)) ∙ rw next at (s .rest));
       }
 
-  pub put-done : 64 ≤ i → fields ≡ flatOf l
+  pub numbers-done : 64 ≤ i → fields ≡ flatOf l
   unfolding flatEntries
-  put-done h =
+  numbers-done h =
       let short : length (l .entries) ≤ i = omega (arith, k) in
       rw (drop-of-length-le (l .entries) short) at (s .rest)

@@ -15,18 +15,18 @@ pub record PlacesSoFar (old : List ℕ) (at : ℕ) (xs now : List ℕ) (i : ℕ)
   pub passed : i ≤ 64
   pub rest : sets now (at + i) (drop i xs) ≡ sets old at xs
 
-pub stored-start : (old : List ℕ) (at : ℕ) (xs : List ℕ) → PlacesSoFar old at xs old 0
-stored-start old at xs = record { passed = omega arith; rest = rw (add-zero at) }
+pub places-start : (old : List ℕ) (at : ℕ) (xs : List ℕ) → PlacesSoFar old at xs old 0
+places-start old at xs = record { passed = omega arith; rest = rw (add-zero at) }
 
 module _ {old : List ℕ} {at : ℕ} {xs now : List ℕ} {i : ℕ} (s : PlacesSoFar old at xs now i) (k : length xs ≡ 64) where
-  pub stored-next : (x₀ : ℕ) → i < 64 → PlacesSoFar old at xs (set now (at + i) (getD xs i x₀)) (i + 1)
-  stored-next x₀ h =
+  pub places-next : (x₀ : ℕ) → i < 64 → PlacesSoFar old at xs (set now (at + i) (getD xs i x₀)) (i + 1)
+  places-next x₀ h =
       let next : drop i xs ≡ getD xs i x₀ ∷ drop (i + 1) xs = rw (add-one i) (drop-cons xs i x₀ (omega (arith, k))) in
       let z : at + i + 1 ≡ at + (i + 1) = omega arith in
       record { passed = omega arith; rest = rw (← z, add-one (at + i)) (rw next at (s .rest)) }
 
-  pub stored-done : 64 ≤ i → now ≡ sets old at xs
-  stored-done h =
+  pub places-done : 64 ≤ i → now ≡ sets old at xs
+  places-done h =
       let short : length xs ≤ i = omega (arith, k) in
       rw (drop-of-length-le xs short) at (s .rest)
 

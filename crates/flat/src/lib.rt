@@ -1,7 +1,7 @@
 // A list value as 450 numbers, and numbers by place, as they cross to other languages.
-// Promises: `list_in` is the list value that numbers say, whatever they are, `flat_of` the numbers that say a list value, `joined` least ends
-// and greatest starts one after the other. Each is total: its contract states the answer by equality with definitions of specs/. Uses the
-// types of the crate list, and of format two definitions and laws of stores.
+// Promises: `list_in` is the list value that numbers say, whatever they are, `flat_of` the numbers that say a list value, `joined` least
+// ends and greatest starts one after the other. Each is total: its contract states the answer by equality with definitions of specs/. Uses
+// the types of the crate list, two definitions of format, and laws of stores of base.
 mod places;
 mod value;
 

@@ -114,7 +114,7 @@ fn whole_flag(kind: Kind) -> u32
     }
 }
 
-fn put_entry(e: Entry, fields: &mut [u32; 450], at: usize)
+fn put_entry_numbers(e: Entry, fields: &mut [u32; 450], at: usize)
     requires { ⌜ at + 7 ≤ 450 ⌝ }
     ensures { λ _. ⌜ now (fields .exit) ≡ sets (now (fields .entry)) at (flatEntry e) ⌝ }
 {
@@ -145,7 +145,7 @@ pub fn flat_of(list: DayList) -> [u32; 450]
     fields[1] = list.n as u32;
     let mut i: usize = 0;
     while i < 64 {
-        put_entry(list.entries[i], &mut fields, 2 + 7 * i);
+        put_entry_numbers(list.entries[i], &mut fields, 2 + 7 * i);
         i += 1;
     }
     fields

@@ -62,7 +62,8 @@ module _ (f : Frame) (at : ℕ) (m : Fields) (bs : List ℕ) where
   fields-default e q h t = rw (← q) (simp (le-ltb _ _ h, t))
 
   -- the verdict v on rows 6 and 7 decides
-  module _ (e : Entry) (v : Verdict) (q : e ≡ entryAt f m bs) (h : sizeOf m ≤ length bs) (t : defaultWritten f m e ≡ false) (w : verdictOf v ≡ entryFault f at e) where
+  module _ (e : Entry) (v : Verdict) (q : e ≡ entryAt f m bs) (h : sizeOf m ≤ length bs) (t : defaultWritten f m e ≡ false)
+      (w : verdictOf v ≡ entryFault f at e) where
     verdict : fieldsEntry f at m bs ≡ andThen (verdictOf v) (λ _. answered (e, sizeOf m))
     unfolding fieldsEntry
     verdict = rw (← q) (simp (le-ltb _ _ h, t, w))

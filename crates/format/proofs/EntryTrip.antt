@@ -35,7 +35,7 @@ use Rattle.format.proofs.FormCases.{seal-length, minute-length, entry-l
 use Rattle.format.proofs.EntryCases.{entry-is, entry-legal, fields-taken}
 
 -- an entry's serial and seal fit their bytes
-pub record Fits (e : Entry) : Type 0 where
+pub record EntryFits (e : Entry) : Type 0 where
   pub serial : e .serial < 2 ^ 32
   pub seal : SealFits (e .seal)
 
@@ -57,11 +57,13 @@ module _ (bs : List ℕ) (i : ℕ) (tail : List ℕ) where
   seal-read Missing h e = refl
   seal-read (Number x) h e = ap Number (sym (u32-read bs i x tail h e))
 
-  minute-read : (x x₀ : ℕ) → x < 65536 → (t : Bool) → eqb x x₀ ≡ t → drop i bs ≡ minuteBytes (not t) x ++ tail → x ≡ cond (not t) (u16At bs i) x₀
+  minute-read : (x x₀ : ℕ) → x < 65536 → (t : Bool) → eqb x x₀ ≡ t → drop i bs ≡ minuteBytes (not t) x ++ tail
+      → x ≡ cond (not t) (u16At bs i) x₀
   minute-read x x₀ h true q e = eqb-true _ _ q
   minute-read x x₀ h false q e = sym (u16-read bs i x tail h e)
 
-entry-back : (f : Frame) (e : Entry) (rest : List ℕ) → f .h < 65536 → Fits e → Sound f e → e ≡ entryAt f (fieldsIn f e) (formBefore f e rest)
+entry-back : (f : Frame) (e : Entry) (rest : List ℕ) → f .h < 65536 → EntryFits e → Sound f e
+    → e ≡ entryAt f (fieldsIn f e) (formBefore f e rest)
 entry-back f e rest h fits s =
     let m = fieldsIn f e in
     let bs = formBefore f e rest in
@@ -76,14 +78,16 @@ entry-back f e rest h fits s =
     (sym (u16-read bs (pPlace m) (e .p) _ (omega arith) p-here)) refl
 
 -- an entry that fits and is sound is read back from its one form, whatever follows
-pub entry-reads-back : (f : Frame) (at : ℕ) (e : Entry) (rest : List ℕ) → f .h < 65536 → Fits e → Sound f e
+pub entry-reads-back : (f : Frame) (at : ℕ) (e : Entry) (rest : List ℕ) → f .h < 65536 → EntryFits e → Sound f e
     → entryOf f at (entryBytes f e ++ rest) ≡ answered (e, length (entryBytes f e))
 entry-reads-back f at e rest h fits s =
     let m = fieldsIn f e in
     let bs = formBefore f e rest in
-    let long : sizeOf m ≤ length bs = omega (arith, entry-length f e, length-append (entryBytes f e) rest, ap length (form-before f e rest)) in
+    let size = entry-length f e in
+    let long : sizeOf m ≤ length bs = omega (arith, size, length-append (entryBytes f e) rest, ap length (form-before f e rest)) in
+    let back = entry-back f e rest h fits s in
     rw form-before (sym
-    (fields-taken f at m bs e Accepted (entry-back f e rest h fits s) long (simp not-and-self) (sym (faultless f at e s)) _ (entry-length f e) refl
+    (fields-taken f at m bs e Accepted back long (simp not-and-self) (sym (faultless f at e s)) _ size refl
     ∙ entry-legal f at bs (omega arith) (Follow m) (map-back m) m refl))
 
 -- a minute that is not a written default: its field follows again exactly if it did
@@ -114,7 +118,9 @@ module _ (f : Frame) (m : Fields) (bs : List ℕ) (r-kept : m .r && eqb (entryAt
   fields-again : fieldsIn f (entryAt f m bs) ≡ m
   unfolding entryAt
   fields-again =
-      rw (sealed-again, written-again (m .r) (u16At bs (rPlace m)) (defaultR f) r-kept, written-again (m .d) (u16At bs (dPlace m)) (defaultD f) d-kept)
+      let r-again = written-again (m .r) (u16At bs (rPlace m)) (defaultR f) r-kept in
+      let d-again = written-again (m .d) (u16At bs (dPlace m)) (defaultD f) d-kept in
+      rw (sealed-again, r-again, d-again)
 
   entry-stands : Bytes bs → sizeOf m ≤ length bs → mapOf (fieldsIn f (entryAt f m bs)) ≡ getD bs 0 0
       → bs ≡ formBefore f (entryAt f m bs) (drop (sizeOf m) bs)
@@ -136,7 +142,7 @@ pub record TakenEntry (f : Frame) (bs : List ℕ) (x : Entry × ℕ) : Type 0 wh
   pub short : x .1 ≤ 15
   pub sound : Sound f (x .0)
   pub form : Bytes bs → bs ≡ entryBytes f (x .0) ++ drop (x .1) bs
-  pub fits : Bytes bs → Fits (x .0)
+  pub fits : Bytes bs → EntryFits (x .0)
 
 -- bs is what is left, from the place at on, of an input of length len
 module _ (f : Frame) (at : ℕ) (bs : List ℕ) (len : ℕ) (all : at + length bs ≡ len) where
@@ -168,21 +174,26 @@ module _ (f : Frame) (at : ℕ) (bs : List ℕ) (len : ℕ) (all : at + length b
   fields-say : legalMap (getD bs 0 0) ≡ true → 1 ≤ length bs → Says (TakenEntry f bs) (PlaceIn len) (fieldsEntry f at m bs)
   unfolding fieldsEntry
   fields-say legal h =
-      by-row (TakenEntry f bs) (PlaceIn len) (ltb (length bs) (sizeOf m)) _ _ (λ t. at-end len _ all)
-      (λ l. by-row (TakenEntry f bs) (PlaceIn len) (defaultWritten f m e) _ _ (λ t. here h 5 (omega arith) (omega arith))
-      (λ w. by-step (λ _. Sound f e) (PlaceIn len) (TakenEntry f bs) (entryFault f at e) _
-      (fault-says f at e (PlaceIn len) (here h 6 (omega arith) (omega arith)) (here h 7 (omega arith) (omega arith)))
+      let P = TakenEntry f bs in
+      let R = PlaceIn len in
+      by-row P R (ltb (length bs) (sizeOf m)) _ _ (λ t. at-end len _ all)
+      (λ l. by-row P R (defaultWritten f m e) _ _ (λ t. here h 5 (omega arith) (omega arith))
+      (λ w. by-step (λ _. Sound f e) R P (entryFault f at e) _
+      (fault-says f at e R (here h 6 (omega arith) (omega arith)) (here h 7 (omega arith) (omega arith)))
       (λ _ s. taken legal (ltb-false _ _ l) w s)))
 
   -- what reading one entry says
   pub entry-says : Says (TakenEntry f bs) (PlaceIn len) (entryOf f at bs)
   unfolding entryOf
   entry-says =
-      by-row (TakenEntry f bs) (PlaceIn len) (eqb (length bs) 0) _ _ (λ t. at-end len _ all)
+      let P = TakenEntry f bs in
+      let R = PlaceIn len in
+      let map = getD bs 0 0 in
+      by-row P R (eqb (length bs) 0) _ _ (λ t. at-end len _ all)
       (λ n.
       let h : 1 ≤ length bs = omega (arith, eqb-false (length bs) 0 n) in
-      by-step (λ n. Says (TakenEntry f bs) (PlaceIn len) (fieldsEntry f at n bs)) (PlaceIn len) (TakenEntry f bs) (mapFields at (getD bs 0 0)) _
-      (by-row (λ n. Says (TakenEntry f bs) (PlaceIn len) (fieldsEntry f at n bs)) (PlaceIn len) (not (legalMap (getD bs 0 0))) _ _
+      by-step (λ n. Says P R (fieldsEntry f at n bs)) R P (mapFields at map) _
+      (by-row (λ n. Says P R (fieldsEntry f at n bs)) R (not (legalMap map)) _ _
       (λ t. here h 4 (omega arith) (omega arith))
       (λ t. fields-say (not-false _ t) h))
       (λ n s. s))

@@ -15,6 +15,7 @@ use Rattle.format.specs.Maps.{rPlace, dPlace, pPlace, sizeOf}
 use Rattle.format.specs.EntryFields.{entryAt, fieldsEntry, entryOf}
 use Rattle.list.specs.Checks.{headerFault}
 use Rattle.format.specs.Reading.{entriesFrom, frameOf, countOf, bodyOf, readOf, PlaceIn}
+use Rattle.format.specs.Writing.{readLimit}
 use Rattle.list.specs.declared.types.Frame.{Frame}
 use Rattle.format.specs.declared.map.Fields.{Fields}
 use Rattle.format.proofs.Places.{r-place-small, d-place-small, p-place-small}
@@ -79,7 +80,7 @@ entries-same f (suc k) at {ys = ys} a =
     (same-after (TakenEntry f ys) (PlaceIn _) (entryOf f at ys) _ _ (entry-says f at ys _ refl)
     (λ x one. rw (entries-same f k (at + x .1) (agree-drop a (x .1) (15 * k) (omega arith)))))
 
-module _ {xs ys : List ℕ} (a : Agree 964 xs ys) where
+module _ {xs ys : List ℕ} (a : Agree readLimit xs ys) where
   abbrev f : Frame
   f = frameOf ys
 
@@ -111,11 +112,12 @@ module _ {xs ys : List ℕ} (a : Agree 964 xs ys) where
       (same-after (λ _. Header f n) Anything (headerFault 2 f n) _ _ (header-says 2 f n Anything tt tt) (λ _ h. body-same (h .room)))
 
 -- an input is read as its first 964 bytes are
-pub first-bytes : (bs : List ℕ) → readOf (take 964 bs) ≡ readOf bs
-first-bytes bs = go (leb (length bs) 964) refl
+pub first-bytes : (bs : List ℕ) → readOf (take readLimit bs) ≡ readOf bs
+first-bytes bs = go (leb (length bs) readLimit) refl
   where
-    go : (t : Bool) → leb (length bs) 964 ≡ t → readOf (take 964 bs) ≡ readOf bs
-    go true e = ap readOf (take-all 964 bs (leb-true _ _ e))
+    go : (t : Bool) → leb (length bs) readLimit ≡ t → readOf (take readLimit bs) ≡ readOf bs
+    go true e = ap readOf (take-all readLimit bs (leb-true _ _ e))
     go false e =
-        let long : 964 < length bs = leb-false _ _ e in
-        read-same (record { left = omega (arith, length-take 964 bs); right = omega arith; byte = λ i l. getD-take 964 bs i 0 l })
+        let long : readLimit < length bs = leb-false _ _ e in
+        let taken = length-take readLimit bs in
+        read-same (record { left = omega (arith, taken); right = omega arith; byte = λ i l. getD-take readLimit bs i 0 l })

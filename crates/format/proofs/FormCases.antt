@@ -55,13 +55,15 @@ module _ (f : Frame) (e : Entry) where
   unfolding entryBytes
   entry-parts m k p q = ap (λ (n : Fields). partsOf n (mapOf n)) (sym p) ∙ ap (λ (x : ℕ). partsOf m x) (sym q)
 
-  pub entry-room : (m : Fields) (k at n : ℕ) → m ≡ fieldsIn f e → k ≡ mapOf m → at + length (entryBytes f e) ≤ n → at + length (partsOf m k) ≤ n
+  pub entry-room : (m : Fields) (k at n : ℕ) → m ≡ fieldsIn f e → k ≡ mapOf m → at + length (entryBytes f e) ≤ n
+      → at + length (partsOf m k) ≤ n
   entry-room m k at n p q h = rw (entry-parts m k p q) at h
 
   -- the map byte and the fields one after the other
   pub entry-stored : {old o₁ o₂ new : List ℕ} {at a b next k : ℕ} {m : Fields}
       → m ≡ fieldsIn f e → k ≡ mapOf m
-      → Wrote (set old at k) (at + 1) (u32Bytes (e .serial)) o₁ a → Wrote o₁ a (sealBytes (e .seal)) o₂ b → Wrote o₂ b (timesBytes m e) new next
+      → Wrote (set old at k) (at + 1) (u32Bytes (e .serial)) o₁ a → Wrote o₁ a (sealBytes (e .seal)) o₂ b
+      → Wrote o₂ b (timesBytes m e) new next
       → Wrote old at (entryBytes f e) new next
   entry-stored {old} {at = at} {k = k} {m = m} p q w₁ w₂ w₃ =
       rw (entry-parts m k p q) (wrote-then (wrote-one old at k) (wrote-then w₁ (wrote-then w₂ w₃)))

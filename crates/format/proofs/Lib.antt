@@ -1,15 +1,16 @@
--- What the crates above may cite: the round trips, and that the first 964 bytes decide how an input is read. The rest serves this crate
--- alone.
+-- The round trips, with what they rest on: map bytes, the places of fields and those that refusals carry; and that the first 964 bytes
+-- decide how an input is read. The crates above may cite RoundTrip and FirstBytes.
 mod MapBytes
 mod Places
 mod CarriedPlaces
+mod FieldTrip
+mod EntryTrip
+mod ListTrip
+pub mod RoundTrip
+pub mod FirstBytes
+-- What the code's proofs cite, case by case. The round trips cite some of it too.
 mod EntryCases
 mod ReadCases
 mod FormCases
 mod WriteCases
-mod FieldTrip
-mod EntryTrip
-mod ListTrip
-mod Promised
-pub mod RoundTrip
-pub mod FirstBytes
+mod CallCases

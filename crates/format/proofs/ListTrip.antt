@@ -20,7 +20,7 @@ use Rattle.list.specs.declared.types.Frame.{Frame}
 use Rattle.base.proofs.Inversion.{Says, by-step}
 use Rattle.list.proofs.Sound.{Sound, Every}
 use Rattle.format.proofs.FieldTrip.{bytes-drop}
-use Rattle.format.proofs.EntryTrip.{Fits, TakenEntry, entry-says, entry-reads-back}
+use Rattle.format.proofs.EntryTrip.{EntryFits, TakenEntry, entry-says, entry-reads-back}
 
 -- from a fact of every place to one of the first n entries
 pub every-take : (P : Entry → Type 0) (es : List Entry) (n : ℕ) → ((i : ℕ) → P (getD es i blank)) → Every P (take n es)
@@ -37,7 +37,7 @@ every-at P (e ∷ es) k zero b s = s .0
 every-at P (e ∷ es) k (suc i) b s = every-at P es k i b (s .1)
 
 -- entries that fit and are sound are read back from their one forms
-pub entries-read-back : (f : Frame) (at : ℕ) (es : List Entry) → f .h < 65536 → Every Fits es → Every (Sound f) es
+pub entries-read-back : (f : Frame) (at : ℕ) (es : List Entry) → f .h < 65536 → Every EntryFits es → Every (Sound f) es
     → entriesFrom f (length es) at (bytesOfEntries f es) ≡ answered (es, at + length (bytesOfEntries f es))
 unfolding entriesFrom bytesOfEntries
 entries-read-back f at [] h fits s = rw add-zero
@@ -54,16 +54,18 @@ entries-read-back f at (e ∷ es) h fits s =
 pub record TakenEntries (f : Frame) (k : ℕ) (bs : List ℕ) (len : ℕ) (x : List Entry × ℕ) : Type 0 where
   pub count : length (x .0) ≡ k
   pub sound : Every (Sound f) (x .0)
-  pub fits : Bytes bs → Every Fits (x .0)
+  pub fits : Bytes bs → Every EntryFits (x .0)
   pub rest : List ℕ
   pub left : x .1 + length rest ≡ len
   pub short : length bs ≤ 15 * k + length rest
   pub form : Bytes bs → bs ≡ bytesOfEntries f (x .0) ++ rest
 
 -- what reading k entries says of bs, what is left, from the place at on, of an input of length len
-pub entries-say : (f : Frame) (k at : ℕ) (bs : List ℕ) (len : ℕ) → at + length bs ≡ len → Says (TakenEntries f k bs len) (PlaceIn len) (entriesFrom f k at bs)
+pub entries-say : (f : Frame) (k at : ℕ) (bs : List ℕ) (len : ℕ) → at + length bs ≡ len
+    → Says (TakenEntries f k bs len) (PlaceIn len) (entriesFrom f k at bs)
 unfolding entriesFrom bytesOfEntries
-entries-say f zero at bs len all = record { count = refl; sound = tt; fits = λ b. tt; rest = bs; left = all; short = omega arith; form = λ b. refl }
+entries-say f zero at bs len all =
+    record { count = refl; sound = tt; fits = λ b. tt; rest = bs; left = all; short = omega arith; form = λ b. refl }
 entries-say f (suc k) at bs len all =
     by-step (TakenEntry f bs) (PlaceIn len) (TakenEntries f (suc k) bs len) (entryOf f at bs) _ (entry-says f at bs len all)
     (λ x one.

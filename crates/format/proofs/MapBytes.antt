@@ -1,5 +1,5 @@
--- The bit meanings of all 256 map bytes, by computed tests: the legal ones are the eight pairs k and k + 32 that code names, and each is the
--- map byte of its fields.
+-- The bit meanings of all 256 map bytes, by computed tests: the legal ones are the eight pairs k and k + 32 that code names, and each is
+-- the map byte of its fields.
 -- Assumes nothing.
 use mathlib.Core.Path.{_≡_, refl, _∙_, sym}
 use mathlib.Core.Bool.{Bool, true, false, not, _||_, Bool·beq}

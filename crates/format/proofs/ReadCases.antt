@@ -16,7 +16,7 @@ use Rattle.format.specs.EntryFields.{entryOf, entryAnswerOf}
 use Rattle.list.specs.DayLists.{blank, dayList, emptyList}
 use Rattle.list.specs.Checks.{headerFault}
 use Rattle.format.specs.Reading.{entriesFrom, frameOf, countOf, bodyOf, readOf}
-use Rattle.format.specs.Internal.{AnswersAs}
+use Rattle.format.specs.Internal.{ReadsAs}
 use Rattle.list.specs.declared.types.Entry.{Entry}
 use Rattle.list.specs.declared.types.Frame.{Frame}
 use Rattle.list.specs.declared.types.DayList.{DayList}
@@ -125,8 +125,8 @@ module _ {f : Frame} {n : ℕ} {bs : List ℕ} {entries : List Entry} {at i : �
       let z : n - i ≡ 0 = omega arith in
       s .rest ∙ rw z (ap (λ (l : List Entry). answered (l, at)) (append-nil (take i entries)))
 
-  pub list-is : n ≤ 64 → n ≤ i → record { frame = f; n = n; entries = entries } ≡ dayList f (take i entries)
-  list-is room h =
+  pub list-read : n ≤ 64 → n ≤ i → record { frame = f; n = n; entries = entries } ≡ dayList f (take i entries)
+  list-read room h =
       let z : i ≡ n = omega (arith, s .passed) in
       let k : length (take i entries) ≡ n = simp length-take (omega (arith, s .long, s .passed)) in
       filled-list f n (take i entries) entries k (rw z) (rw z at (s .unused))
@@ -151,12 +151,12 @@ module _ (bs : List ℕ) (f : Frame) (n : ℕ) (p : f ≡ frameOf bs) (q : n ≡
   body-done es end e h = rw (body, e) (simp (le-ltb _ _ h))
 
 -- an answer made of a refusal, and one made of a list
-pub answers-refused : (o : Outcome DayList) (a : ReadAnswer) (x : Refusal) → a ≡ record { verdict = Refused x; list = emptyList }
-    → o ≡ refused (codeOf x) → AnswersAs o a
-answers-refused o a x p q = record { outcome = rw (p, q); beside = rw (p, q) }
+pub reads-refused : (o : Outcome DayList) (a : ReadAnswer) (x : Refusal) → a ≡ record { verdict = Refused x; list = emptyList }
+    → o ≡ refused (codeOf x) → ReadsAs o a
+reads-refused o a x p q = record { outcome = rw (p, q); beside = rw (p, q) }
 
-pub answers-list : (o : Outcome DayList) (l : DayList) → o ≡ answered l → AnswersAs o (record { verdict = Accepted; list = l })
-answers-list o l q = record { outcome = sym q; beside = rw q }
+pub reads-list : (o : Outcome DayList) (l : DayList) → o ≡ answered l → ReadsAs o (record { verdict = Accepted; list = l })
+reads-list o l q = record { outcome = sym q; beside = rw q }
 
 -- the header
 module _ (bs : List ℕ) where

@@ -16,7 +16,7 @@ use Rattle.format.specs.Forms.{entryBytes}
 use Rattle.list.specs.DayLists.{entriesOf, blank, dayList, SameList}
 use Rattle.list.specs.Checks.{WellFormed, checkOf, headerFault, entriesFault}
 use Rattle.format.specs.Reading.{entriesFrom, frameOf, countOf, bodyOf, readOf, PlaceIn}
-use Rattle.format.specs.Writing.{bytesOfEntries, bytesOf, writeOf, bufferAfter}
+use Rattle.format.specs.Writing.{bytesOfEntries, bytesOf, longestList, writeOf, bufferAfter}
 use Rattle.list.specs.declared.types.Seal.the-variants.{Number}
 use Rattle.list.specs.declared.types.Kind.the-variants.{Pause}
 use Rattle.list.specs.declared.types.Entry.{Entry}
@@ -27,7 +27,7 @@ use Rattle.base.proofs.Inversion.{Says, by-row, by-step, Anything}
 use Rattle.format.proofs.CarriedPlaces.{at-end, at-place}
 use Rattle.list.proofs.Sound.{Header, header-says, header-passes, SoundList, check-says, sound-list, well-formed}
 use Rattle.format.proofs.FieldTrip.{bytes-drop, u16-back, u16-stands, byte-stands}
-use Rattle.format.proofs.EntryTrip.{Fits}
+use Rattle.format.proofs.EntryTrip.{EntryFits}
 use Rattle.format.proofs.ReadCases.{read-body, body-done}
 use Rattle.format.proofs.WriteCases.{list-short, has-room, list-written}
 use Rattle.format.proofs.ListTrip.{TakenEntries, entries-say, entries-read-back, every-take, every-at}
@@ -45,7 +45,7 @@ module _ (l : DayList) (t : Typed l) (w : WellFormed l) where
   entries-back : entriesFrom (l .frame) (l .n) 3 (bytesOfEntries (l .frame) (entriesOf l))
       ≡ answered (entriesOf l, 3 + length (bytesOfEntries (l .frame) (entriesOf l)))
   entries-back =
-      let fits = every-take Fits (l .entries) (l .n) (λ i. record { serial = t .serial i; seal = t .seal i }) in
+      let fits = every-take EntryFits (l .entries) (l .n) (λ i. record { serial = t .serial i; seal = t .seal i }) in
       rw counted at (entries-read-back (l .frame) 3 (entriesOf l) small fits (sound .entries))
 
   -- a well-formed list is read back from its one form: the same entries, and blank places after them
@@ -123,8 +123,8 @@ module _ (bs : List ℕ) where
 
     in-types : Bytes bs → Typed (dayList f es)
     in-types b =
-        let fits : (i : ℕ) → Fits (getD (dayList f es .entries) i blank) =
-        λ i. every-at Fits es (64 - length es) i (record { serial = omega arith; seal = tt }) (taken .fits (bytes-drop bs 3 b)) in
+        let fits : (i : ℕ) → EntryFits (getD (dayList f es .entries) i blank) =
+        λ i. every-at EntryFits es (64 - length es) i (record { serial = omega arith; seal = tt }) (taken .fits (bytes-drop bs 3 b)) in
         record {
           long = simp (length-append, length-replicate) (omega (arith, taken .count, h .room));
           serial = λ i. fits i .serial;
@@ -148,9 +148,12 @@ module _ (bs : List ℕ) where
       by-row P R (ltb (length bs) 3) _ _ (λ t. at-end (length bs) _ refl)
       (λ t.
       let long : 3 ≤ length bs = ltb-false _ _ t in
+      let two = at-place (length bs) 2 0 (omega arith) (omega arith) (omega arith) in
+      let three = at-place (length bs) 3 2 (omega arith) (omega arith) (omega arith) in
+      let rest : 3 + length (drop 3 bs) ≡ length bs = simp length-drop (omega arith) in
       by-step (λ _. Header f n) R P (headerFault 2 f n) _
-      (header-says 2 f n R (at-place _ 2 0 (omega arith) (omega arith) (omega arith)) (at-place _ 3 2 (omega arith) (omega arith) (omega arith)))
-      (λ _ h. by-step Entries R P (entriesFrom f n 3 (drop 3 bs)) _ (entries-say f n 3 (drop 3 bs) (length bs) (simp length-drop (omega arith)))
+      (header-says 2 f n R two three)
+      (λ _ h. by-step Entries R P (entriesFrom f n 3 (drop 3 bs)) _ (entries-say f n 3 (drop 3 bs) (length bs) rest)
       (λ x taken. by-row P R (ltb (x .1) (length bs)) _ _ (λ l. at-place _ 8 (x .1) (omega arith) (omega arith) (ltb-true _ _ l))
       (λ l. read-as long h x taken (ltb-false _ _ l)))))
 
@@ -179,19 +182,20 @@ module _ (bs : List ℕ) where
         → (writeOf l (length old) ≡ answered (length bs)) × (bufferAfter (writeOf l (length old)) l old ≡ bs ++ drop (length bs) old)
     read-writes-back b old h =
         let form = read-one-form b in
-        let written : writeOf l (length old) ≡ answered (length bs) = rw form at (list-written l (length old) read-well-formed (rw form h)) in
+        let done = list-written l (length old) read-well-formed (rw form h) in
+        let written : writeOf l (length old) ≡ answered (length bs) = rw form at done in
         (written, rw (written, form))
 
--- no list's one form has more than 963 bytes
-pub longest : (l : DayList) → WellFormed l → length (bytesOf l) ≤ 963
+-- no list's one form is longer
+pub longest : (l : DayList) → WellFormed l → length (bytesOf l) ≤ longestList
 longest l w = list-short l (has-room l w)
 
 -- 64 entries that write all their fields
 fullest : DayList
 fullest = dayList (record { h = 1440 }) (replicate 64 (record { serial = 0; seal = Number 0; r = 1; d = 2; p = 1; kind = Pause }))
 
--- some list's one form has 963 bytes
-pub longest-reached : (l : DayList) × WellFormed l × (length (bytesOf l) ≡ 963)
+-- some list's one form is as long
+pub longest-reached : (l : DayList) × WellFormed l × (length (bytesOf l) ≡ longestList)
 unfolding fullest checkOf headerFault entriesFault entryFault bytesOf bytesOfEntries entryBytes
 longest-reached = (fullest, refl, refl)
 
@@ -217,5 +221,6 @@ module _ (a b : DayList) (same : SameList a b) where
 
   -- they are written alike: the same answer, and the same buffer afterwards
   pub same-written : (old : List ℕ)
-      → (writeOf a (length old) ≡ writeOf b (length old)) × (bufferAfter (writeOf a (length old)) a old ≡ bufferAfter (writeOf b (length old)) b old)
+      → (writeOf a (length old) ≡ writeOf b (length old))
+      × (bufferAfter (writeOf a (length old)) a old ≡ bufferAfter (writeOf b (length old)) b old)
   same-written old = (same-answer (length old), rw (same-answer (length old)) (same-buffer (writeOf b (length old)) old))

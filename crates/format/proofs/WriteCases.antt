@@ -13,7 +13,7 @@ use Rattle.format.specs.Maps.{sizeOf}
 use Rattle.format.specs.Forms.{fieldsIn, entryBytes}
 use Rattle.list.specs.DayLists.{entriesOf}
 use Rattle.list.specs.Checks.{WellFormed}
-use Rattle.format.specs.Writing.{bytesOfEntries, bytesOf, writeOf}
+use Rattle.format.specs.Writing.{bytesOfEntries, bytesOf, longestList, writeOf}
 use Rattle.base.specs.Storing.{Wrote}
 use Rattle.list.specs.declared.types.Entry.{Entry}
 use Rattle.list.specs.declared.types.Frame.{Frame}
@@ -28,8 +28,8 @@ use Rattle.base.proofs.Walk.{walk-next, walk-done}
 abbrev pub restBytes : DayList → ℕ → List ℕ
 restBytes l i = bytesOfEntries (l .frame) (drop i (entriesOf l))
 
--- i entries were counted
-pub record Counted (l : DayList) (size i : ℕ) : Type 0 where
+-- the bytes of i entries were counted
+pub record SizedSoFar (l : DayList) (size i : ℕ) : Type 0 where
   pub passed : i ≤ l .n
   pub total : size + length (restBytes l i) ≡ length (bytesOf l)
 
@@ -49,9 +49,9 @@ module _ (l : DayList) (enough : l .n ≤ length (l .entries)) where
   unfolding bytesOfEntries
   rest-done i h = rw (walk-done (l .entries) (l .n) enough i h)
 
-  pub counted-next : (size k i : ℕ) (e₀ : Entry) (m : Fields) → Counted l size i → i < l .n
-      → m ≡ fieldsIn (l .frame) (getD (l .entries) i e₀) → k ≡ sizeOf m → Counted l (size + k) (i + 1)
-  counted-next size k i e₀ m c h p z =
+  pub sized-next : (size k i : ℕ) (e₀ : Entry) (m : Fields) → SizedSoFar l size i → i < l .n
+      → m ≡ fieldsIn (l .frame) (getD (l .entries) i e₀) → k ≡ sizeOf m → SizedSoFar l (size + k) (i + 1)
+  sized-next size k i e₀ m c h p z =
       let e = getD (l .entries) i e₀ in
       let q : length (restBytes l i) ≡ length (entryBytes (l .frame) e) + length (restBytes l (i + 1)) =
       rw (rest-next i e₀ h) (length-append (entryBytes (l .frame) e) (restBytes l (i + 1))) in
@@ -61,8 +61,8 @@ module _ (l : DayList) (enough : l .n ≤ length (l .entries)) where
         total = omega (arith, c .total, q, w);
       }
 
-  pub counted-done : (size i : ℕ) → Counted l size i → l .n ≤ i → size ≡ length (bytesOf l)
-  counted-done size i c h = omega (arith, c .total, ap (λ (bs : List ℕ). length bs) (rest-done i h))
+  pub sized-done : (size i : ℕ) → SizedSoFar l size i → l .n ≤ i → size ≡ length (bytesOf l)
+  sized-done size i c h = omega (arith, c .total, ap (λ (bs : List ℕ). length bs) (rest-done i h))
 
   pub stored-room : (from out : List ℕ) (at i : ℕ) (e₀ : Entry) → StoredSoFar l from out at i → i < l .n
       → at + length (entryBytes (l .frame) (getD (l .entries) i e₀)) ≤ length out
@@ -93,15 +93,15 @@ module _ (l : DayList) where
   unfolding bytesOf
   list-length = simp length-append (omega arith)
 
-  -- so a list takes 963 at most
-  pub list-short : l .n ≤ 64 → length (bytesOf l) ≤ 963
+  pub list-short : l .n ≤ 64 → length (bytesOf l) ≤ longestList
   list-short h = omega (arith, list-length, entries-short (l .frame) (entriesOf l), length-take (l .n) (l .entries))
 
-  pub counted-start : Counted l 3 0
-  counted-start = record { passed = omega arith; total = sym list-length }
+  pub sized-start : SizedSoFar l 3 0
+  sized-start = record { passed = omega arith; total = sym list-length }
 
   -- the header and the entries one after the other
-  pub list-stored : {old o : List ℕ} {next : ℕ} → Wrote old 0 (u16Bytes (l .frame .h)) o next → sets (set o 2 (l .n)) 3 (restBytes l 0) ≡ sets old 0 (bytesOf l)
+  pub list-stored : {old o : List ℕ} {next : ℕ} → Wrote old 0 (u16Bytes (l .frame .h)) o next
+      → sets (set o 2 (l .n)) 3 (restBytes l 0) ≡ sets old 0 (bytesOf l)
   unfolding bytesOf
   list-stored {old} {o} w = rw (w .stored)
 

@@ -1,9 +1,5 @@
 -- What private functions promise each other. No public promise cites these.
-use Prim.Native.Nat.{ℕ, _+_}
 use mathlib.Core.Path.{_≡_}
-use mathlib.Core.List.{List}
-use lib.ListN.{length}
-use lib.Seq.{sets}
 use Rattle.base.specs.Outcomes.{Outcome}
 use Rattle.list.specs.Refusals.{readAnswerOf}
 use Rattle.format.specs.Reading.{listOr}
@@ -11,6 +7,6 @@ use Rattle.list.specs.declared.types.DayList.{DayList}
 use Rattle.list.specs.declared.types.ReadAnswer.{ReadAnswer}
 
 -- an answer that says an outcome, with its list beside it
-pub record AnswersAs (o : Outcome DayList) (a : ReadAnswer) : Type 0 where
+pub record ReadsAs (o : Outcome DayList) (a : ReadAnswer) : Type 0 where
   pub outcome : readAnswerOf a ≡ o
   pub beside : a .list ≡ listOr o

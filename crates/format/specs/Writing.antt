@@ -1,5 +1,5 @@
 -- Writing: "The writer gives the list's one form; bytes after it keep their values." and "A refusal writes nothing to any lent buffer."
-use Prim.Native.Nat.{ℕ}
+use Prim.Native.Nat.{ℕ, suc}
 use mathlib.Core.List.{List, [], _∷_, _++_}
 use lib.ListN.{length, drop}
 use lib.Dec.{ltb}
@@ -20,6 +20,14 @@ bytesOfEntries f (e ∷ es) = entryBytes f e ++ bytesOfEntries f es
 -- the list's one form
 unfoldable pub bytesOf : DayList → List ℕ
 bytesOf l = u16Bytes (l .frame .h) ++ (l .n ∷ bytesOfEntries (l .frame) (entriesOf l))
+
+-- "a longest list has 963" bytes: 3 of the header, and 15 for each of 64 entries that write all their fields
+abbrev pub longestList : ℕ
+longestList = 963
+
+-- so one byte more decides how an input is read
+abbrev pub readLimit : ℕ
+readLimit = suc longestList
 
 -- row 12 for bytes that are to stand at the start of a buffer of the length given: how many are stored, or how many are needed
 abbrev pub storing : List ℕ → ℕ → Outcome ℕ

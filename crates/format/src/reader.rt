@@ -14,7 +14,7 @@ ghost use Prim.Native.Nat.{_≤_};
 ghost use lib.ListN.{length};
 ghost use Rattle.list.specs.DayLists.{emptyList};
 ghost use Rattle.format.specs.Reading.{frameOf, countOf, bodyOf};
-ghost use Rattle.format.specs.Internal.{AnswersAs};
+ghost use Rattle.format.specs.Internal.{ReadsAs};
 ghost use Rattle.format.specs.Calls.{Reads};
 
 // A refusal, with the empty list beside it.
@@ -30,7 +30,7 @@ fn refused_with(x: Refusal) -> ReadAnswer
 // The entries after a sound header, and row 8.
 fn read_body(bytes: &[u8], frame: Frame, n: u8) -> ReadAnswer
     requires { ⌜ (3 ≤ length (now bytes)) × (n ≤ 64) × (frame ≡ frameOf (now bytes)) × (n ≡ countOf (now bytes)) ⌝ }
-    ensures { λ a. ⌜ AnswersAs (bodyOf (now (bytes .entry))) a ⌝ }
+    ensures { λ a. ⌜ ReadsAs (bodyOf (now (bytes .entry))) a ⌝ }
 {
     let none = empty_list();
     let mut entries = none.entries;

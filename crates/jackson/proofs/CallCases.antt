@@ -20,7 +20,7 @@ use Rattle.list.specs.declared.types.DayList.{DayList}
 use Rattle.list.proofs.Verdicts.{by-accepted, by-refused}
 use Rattle.base.specs.Counting.{listOf}
 use Rattle.jackson.specs.Windows.{Windows, windowsOf, windowsIn}
-use Rattle.jackson.specs.Minutes.{State, stateOf, dayStart, chosen, minuteOf, later, placeAt, schedule}
+use Rattle.jackson.specs.Minutes.{State, stateIn, dayStart, chosen, minuteOf, later, placeAt, schedule}
 use Rattle.jackson.specs.Intervals.{overloadOf}
 use Rattle.jackson.specs.Plans.{PlanBytes}
 use Rattle.jackson.specs.Calls.{Holds, Tests, testOf, Advances, Starts, Fills, FillsWindows, listBeside, fillOf, planAfter}
@@ -36,13 +36,13 @@ use Rattle.jackson.proofs.ListLaws.{test-decides, fill-decides, fill-pl
 module _ (day : Day) where
   pub advances-over : day .windows .h ≤ day .t → Advances day (record { place = 255; day = day })
   advances-over h =
-      let e = minute-over (stateOf day) h in
+      let e = minute-over (stateIn day) h in
       record { place = rw e refl; next = rw e refl; n = refl }
 
-  pub advances-on : (next : Day) (k : ℕ) → day .t < day .windows .h → k ≡ chosen (stateOf day) → IsAfter day k next
+  pub advances-on : (next : Day) (k : ℕ) → day .t < day .windows .h → k ≡ chosen (stateIn day) → IsAfter day k next
       → Advances day (record { place = k; day = next })
   advances-on next k h place step =
-      let e = minute-on (stateOf day) h in
+      let e = minute-on (stateIn day) h in
       record { place = rw e place; next = rw e (rw (← place) (step .state)); n = step .n }
 
 -- starting a day with these windows
@@ -79,11 +79,11 @@ module _ (l : DayList) (v : Verdict) (checked : verdictOf v ≡ checkOf l) where
 pub record Stored (s : State) (h : ℕ) (old new : List ℕ) (day : Day) (i : ℕ) : Type 0 where
   pub room : h ≤ length old
   pub passed : i ≤ h
-  pub now : stateOf day ≡ later i s
+  pub now : stateIn day ≡ later i s
   pub bytes : new ≡ listOf i (placeAt s) ++ drop i old
 
 module _ (s : State) (h : ℕ) (old : List ℕ) where
-  pub store-start : (day : Day) → h ≤ length old → s ≡ stateOf day → Stored s h old old day 0
+  pub store-start : (day : Day) → h ≤ length old → s ≡ stateIn day → Stored s h old old day 0
   unfolding later listOf
   store-start day room e = record { room = room; passed = omega arith; now = sym e; bytes = refl }
 
@@ -95,15 +95,17 @@ module _ (s : State) (h : ℕ) (old : List ℕ) where
       (set-at (listOf i (placeAt s)) (getD old i 0) (drop (suc i) old) (placeAt s i) i (list-length i (placeAt s))
       ∙ sym (append-snoc (listOf i (placeAt s)) (placeAt s i) (drop (suc i) old)))
 
-  pub store-next : (new : List ℕ) (day next : Day) (i x : ℕ) → Stored s h old new day i → i < h → Advances day (record { place = x; day = next })
+  pub store-next : (new : List ℕ) (day next : Day) (i x : ℕ) → Stored s h old new day i → i < h
+      → Advances day (record { place = x; day = next })
       → Stored s h old (set new i x) next (i + 1)
   unfolding later
   store-next new day next i x so below turn =
+      let place : x ≡ placeAt s i = turn .place ∙ ap (λ (z : State). minuteOf z .place) (so .now) in
       record {
         room = so .room;
         passed = omega (arith, below);
         now = rw add-one (turn .next ∙ ap (λ (z : State). minuteOf z .next) (so .now));
-        bytes = rw (so .bytes) (store-one i x (omega (arith, below, so .room)) (turn .place ∙ ap (λ (z : State). minuteOf z .place) (so .now)));
+        bytes = rw (so .bytes) (store-one i x (omega (arith, below, so .room)) place);
       }
 
   pub store-done : (new : List ℕ) (day : Day) (i : ℕ) → Stored s h old new day i → h ≤ i → new ≡ listOf h (placeAt s) ++ drop h old
@@ -144,7 +146,7 @@ module _ (l : DayList) (old : List ℕ) (a : DayAnswer) (starts : Starts l a) wh
     well-formed : checkOf l ≡ answered tt
     well-formed = by-accepted (starts .outcome) e
 
-    begins : stateOf (a .day) ≡ dayStart (windowsOf l)
+    begins : stateIn (a .day) ≡ dayStart (windowsOf l)
     begins = rw well-formed at (starts .beside)
 
     tests : overloadOf (windowsIn (a .day .windows)) ≡ overloadOf (windowsOf l)
@@ -164,7 +166,7 @@ module _ (l : DayList) (old : List ℕ) (a : DayAnswer) (starts : Starts l a) wh
           let nine : overloadOf (windowsOf l) ≡ refused (codeOf x) = sym tests ∙ sym test ∙ ap verdictOf r in
           fills-of l old _ _ (rw (well-formed, z) (test ∙ tests)) (rw (well-formed, z, nine) refl)
 
-      pub planned : (new : List ℕ) → u ≡ Accepted → new ≡ listOf (l .frame .h) (placeAt (stateOf (a .day))) ++ drop (l .frame .h) old
+      pub planned : (new : List ℕ) → u ≡ Accepted → new ≡ listOf (l .frame .h) (placeAt (stateIn (a .day))) ++ drop (l .frame .h) old
           → Fills l old Accepted new
       unfolding fillOf schedule
       planned new r bytes =
@@ -177,6 +179,7 @@ module _ (w : Windows) (old : List ℕ) where
   pub no-room : length old < w .h → FillsWindows w old (Refused (PlanBufferShort (w .h))) old
   no-room h = let z = lt-ltb (length old) (w .h) h in record { outcome = rw z refl; buffer = rw z refl }
 
-  pub has-room : (new : List ℕ) → w .h ≤ length old → new ≡ listOf (w .h) (placeAt (dayStart w)) ++ drop (w .h) old → FillsWindows w old Accepted new
+  pub has-room : (new : List ℕ) → w .h ≤ length old → new ≡ listOf (w .h) (placeAt (dayStart w)) ++ drop (w .h) old
+      → FillsWindows w old Accepted new
   unfolding schedule
   has-room new h bytes = let z = le-ltb (length old) (w .h) h in record { outcome = rw z refl; buffer = rw z bytes }

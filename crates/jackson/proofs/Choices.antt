@@ -41,7 +41,8 @@ module _ (s : State) where
         best-some idle (isReady s) (smaller (s .windows .d)) (smaller-ranks (s .windows .d)) (s .windows .n) few i (h .place) (to-test i h)
 
     least-found : (i : ℕ) → Ready (s .windows) (s .t) i → s .windows .d (earliestDeadline s) ≤ s .windows .d i
-    least-found i h = best-smallest (s .windows .n) (isReady s) (s .windows .d) (earliestDeadline s) (scan-some i h) i (h .place) (to-test i h)
+    least-found i h =
+        best-smallest (s .windows .n) (isReady s) (s .windows .d) (earliestDeadline s) (scan-some i h) i (h .place) (to-test i h)
 
     -- ready places below the one found have a larger d
     larger-below : (i : ℕ) → i < earliestDeadline s → Ready (s .windows) (s .t) i → s .windows .d (earliestDeadline s) < s .windows .d i
@@ -66,7 +67,8 @@ module _ (s : State) where
     -- or else the lowest of the ready places with the smallest d
     takes-earliest-deadline : goesOn s ≡ false → Takes s (earliestDeadline s)
     takes-earliest-deadline e =
-        best-cases idle (isReady s) (smaller (s .windows .d)) (smaller-ranks (s .windows .d)) (s .windows .n) few (Takes s (earliestDeadline s))
+        let d = s .windows .d in
+        best-cases idle (isReady s) (smaller d) (smaller-ranks d) (s .windows .n) few (Takes s (earliestDeadline s))
         (λ q empty.
         record {
           deadline =

@@ -12,7 +12,7 @@ use Rattle.jackson.specs.Windows.{Windows}
 use Rattle.jackson.specs.Intervals.{work, Fits, Overloaded, NoOverload}
 use Rattle.base.proofs.Scans.{Best, smaller-ranks, larger-ranks, best-some, best-smallest, best-largest}
 use Rattle.base.proofs.Sums.{le-or-lt, some-term}
-use Rattle.jackson.proofs.Counted.{counted, counted-is, counted-le, counted-in, work-under}
+use Rattle.jackson.proofs.IntervalWork.{inInterval, in-interval-is, in-interval-le, in-interval-in, work-under}
 
 pub fits-none : (w : Windows) → Fits w → NoOverload w
 fits-none w fits a b o = omega (arith, fits a b, o .exceeds)
@@ -21,34 +21,34 @@ module _ (w : Windows) (room : (i : ℕ) → i < w .n → 1 ≤ w .p i → w .r 
   module _ (a b : ℕ) where
     -- whether the entry at place i adds to the work of [a, b)
     abbrev adds : ℕ → Bool
-    adds i = ltb 0 (counted w a b i)
+    adds i = ltb 0 (inInterval w a b i)
 
     -- j and k have the least r and the largest d among those that do
     module _ (j k : ℕ) (first : Best (w .n) adds (smaller (w .r)) j) (last : Best (w .n) adds (larger (w .d)) k) where
-      spanned : (i : ℕ) → i < w .n → 1 ≤ counted w a b i → (w .r j ≤ w .r i) × (w .d i ≤ w .d k)
+      spanned : (i : ℕ) → i < w .n → 1 ≤ inInterval w a b i → (w .r j ≤ w .r i) × (w .d i ≤ w .d k)
       spanned i l some =
-          let z = lt-ltb 0 (counted w a b i) some in
+          let z = lt-ltb 0 (inInterval w a b i) some in
           (best-smallest (w .n) adds (w .r) j first i l z, best-largest (w .n) adds (w .d) k last i l z)
 
       -- no work is lost
       no-less : work w a b ≤ work w (w .r j) (w .d k)
       unfolding work
-      no-less = work-under w a b (counted w (w .r j) (w .d k)) each
+      no-less = work-under w a b (inInterval w (w .r j) (w .d k)) each
         where
-          each : (i : ℕ) → i < w .n → a ≤ w .r i → w .d i ≤ b → w .p i ≤ counted w (w .r j) (w .d k) i
+          each : (i : ℕ) → i < w .n → a ≤ w .r i → w .d i ≤ b → w .p i ≤ inInterval w (w .r j) (w .d k) i
           each i l r d =
               le-or-lt 1 (w .p i)
               (λ h.
-              let z = spanned i l (omega (arith, counted-is w a b i r d)) in
-              omega (arith, counted-is w (w .r j) (w .d k) i (z .0) (z .1)))
+              let z = spanned i l (omega (arith, in-interval-is w a b i r d)) in
+              omega (arith, in-interval-is w (w .r j) (w .d k) i (z .0) (z .1)))
               (λ h. omega arith)
 
       shrunk : b - a < work w a b → Overloaded w (w .r j) (w .d k)
       shrunk more =
-          let some : 1 ≤ counted w a b j = ltb-true _ _ (first .passes) in
-          let u = counted-in w a b j some in
-          let v = counted-in w a b k (ltb-true _ _ (last .passes)) in
-          let needs : 1 ≤ w .p j = omega (arith, counted-le w a b j (w .p j) (λ r d. omega arith)) in
+          let some : 1 ≤ inInterval w a b j = ltb-true _ _ (first .passes) in
+          let u = in-interval-in w a b j some in
+          let v = in-interval-in w a b k (ltb-true _ _ (last .passes)) in
+          let needs : 1 ≤ w .p j = omega (arith, in-interval-le w a b j (w .p j) (λ r d. omega arith)) in
           let filled : w .r j < w .d j = omega (arith, room j (first .below) needs) in
           record {
             earliest = (j, first .below, refl);
@@ -61,7 +61,7 @@ module _ (w : Windows) (room : (i : ℕ) → i < w .n → 1 ≤ w .p i → w .r 
     some-overloaded : b - a < work w a b → (x : ℕ) × (y : ℕ) × Overloaded w x y
     unfolding work
     some-overloaded more =
-        let z = some-term (w .n) (counted w a b) (omega arith) in
+        let z = some-term (w .n) (inInterval w a b) (omega arith) in
         let t : adds (z .0) ≡ true = lt-ltb _ _ (z .2) in
         let first = best-some (w .n) adds _ (smaller-ranks (w .r)) (w .n) (omega arith) (z .0) (z .1) t in
         let last = best-some (w .n) adds _ (larger-ranks (w .d)) (w .n) (omega arith) (z .0) (z .1) t in

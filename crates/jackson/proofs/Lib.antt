@@ -4,7 +4,7 @@ pub mod Room
 pub mod PlanFacts
 -- The law that a plan exists exactly without overload: its steps, its form for windows and its form for lists. The crates above are to
 -- cite Law and ListLaws, and RunningDays and Schedules for days that are running.
-mod Counted
+mod IntervalWork
 mod OneMinute
 mod PlanWork
 pub mod RunningDays

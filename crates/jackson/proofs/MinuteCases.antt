@@ -9,11 +9,11 @@ use borrow.Author.Tests.{le-leb, lt-leb, lt-ltb, le-ltb, not-true, not-false}
 use lib.Dec.{leb, ltb}
 use lib.ListN.{length, getD, set, List·getD-eq-default}
 use lib.Seq.{set-out, getD-set-same, getD-set-other}
-use Rattle.base.specs.Counting.{same, better, smaller}
+use Rattle.base.specs.Counting.{same, smaller}
 use Rattle.jackson.specs.Windows.{withLeft, windowsIn}
 use Rattle.jackson.specs.Plans.{idle}
 use Rattle.jackson.specs.Minutes.{State, isReady, earliestDeadline, chosen}
-use Rattle.jackson.specs.Internal.{stateAt, IsAfter}
+use Rattle.jackson.specs.Internal.{stateAt, betterReady, IsAfter}
 use Rattle.jackson.specs.declared.types.WindowSet.{WindowSet}
 use Rattle.jackson.specs.declared.types.Day.{Day}
 use Rattle.base.proofs.Sums.{le-or-lt, same-cases}
@@ -29,27 +29,31 @@ module _ (t r left : ℕ) where
 
 -- the better of place i and the best so far: b says whether i is ready
 module _ (i k t : ℕ) (r d left : List ℕ) (b : Bool) (says : b ≡ leb (getD r i 0) t && ltb 0 (getD left i 0)) where
+  abbrev held : State
+  held = stateAt 64 t r d left
+
   abbrev passes : ℕ → Bool
-  passes = isReady (stateAt 64 t r d left)
+  passes = isReady held
 
   abbrev sooner : ℕ → ℕ → Bool
-  sooner = smaller (λ j. getD d j 0)
+  sooner = smaller (held .windows .d)
 
-  pub not-ready : not b ≡ true → k ≡ better idle passes sooner i k
+  pub not-ready : not b ≡ true → k ≡ betterReady held i k
   not-ready e = unfit idle passes sooner i k (sym says ∙ not-true b e)
 
-  pub first-ready : not b ≡ false → k ≡ 255 → i ≡ better idle passes sooner i k
+  pub first-ready : not b ≡ false → k ≡ 255 → i ≡ betterReady held i k
   first-ready e z = first idle passes sooner i k (sym says ∙ not-false b e) z
 
-  pub smaller-deadline : not b ≡ false → (k ≡ 255 → ⊥) → getD d i 0 < getD d k 0 → i ≡ better idle passes sooner i k
+  pub smaller-deadline : not b ≡ false → (k ≡ 255 → ⊥) → getD d i 0 < getD d k 0 → i ≡ betterReady held i k
   smaller-deadline e z h = wins idle passes sooner i k (sym says ∙ not-false b e) z (lt-ltb (getD d i 0) (getD d k 0) h)
 
-  pub no-smaller : (k ≡ 255 → ⊥) → getD d k 0 ≤ getD d i 0 → k ≡ better idle passes sooner i k
+  pub no-smaller : (k ≡ 255 → ⊥) → getD d k 0 ≤ getD d i 0 → k ≡ betterReady held i k
   no-smaller z h = stays idle passes sooner i k z (le-ltb (getD d i 0) (getD d k 0) h)
 
--- the choice: k is the ready place with the smallest d of the n that the arrays hold, b says whether the entry that had the minute before is
--- ready
-module _ (s : WindowSet) (n : ℕ) (holds : n ≡ min (s .n) 64) (t last k : ℕ) (first : k ≡ earliestDeadline (stateAt n t (s .r) (s .d) (s .p))) where
+-- the choice: k is the ready place with the smallest d of the n that the arrays hold, b says whether the entry that had the minute before
+-- is ready
+module _ (s : WindowSet) (n : ℕ) (holds : n ≡ min (s .n) 64) (t last k : ℕ)
+    (first : k ≡ earliestDeadline (stateAt n t (s .r) (s .d) (s .p))) where
   abbrev now : State
   now = record { windows = windowsIn s; t = t; last = last }
 
@@ -66,7 +70,8 @@ module _ (s : WindowSet) (n : ℕ) (holds : n ≡ min (s .n) 64) (t last k : ℕ
     pub found-place : n ≤ 64 → not b ≡ false → k < n
     found-place few e =
         let ranks = smaller-ranks (now .windows .d) in
-        let found = best-some idle (isReady now) (smaller (now .windows .d)) ranks n (omega (arith, few)) last h (sym says ∙ not-false b e) in
+        let passes = sym says ∙ not-false b e in
+        let found = best-some idle (isReady now) (smaller (now .windows .d)) ranks n (omega (arith, few)) last h passes in
         rw (← first) at (found .below)
 
     pub interrupted : not b ≡ false → getD (s .d) k 0 < getD (s .d) last 0 → k ≡ chosen now

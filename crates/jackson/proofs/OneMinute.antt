@@ -8,7 +8,7 @@ use Rattle.jackson.specs.Windows.{Windows, withLeft, restFrom}
 use Rattle.jackson.specs.Intervals.{work, Fits}
 use Rattle.jackson.specs.Rules.{Ready, EarliestDeadlineFirst}
 use Rattle.base.proofs.Sums.{le-or-lt, same-refl, sum-lt}
-use Rattle.jackson.proofs.Counted.{counted, counted-is, counted-le, work-under}
+use Rattle.jackson.proofs.IntervalWork.{inInterval, in-interval-is, in-interval-le, work-under}
 
 module _ (w : Windows) (p : ℕ → ℕ) (t k : ℕ) where
   -- the rest of the day before and after place k has minute t
@@ -26,7 +26,7 @@ module _ (w : Windows) (p : ℕ → ℕ) (t k : ℕ) where
         omega (
           arith,
           fits a b,
-          work-under after a b (counted before a b) (λ i _ r d. omega (arith, counted-is before a b i (omega arith) d)),
+          work-under after a b (inInterval before a b) (λ i _ r d. omega (arith, in-interval-is before a b i (omega arith) d)),
         )
 
     -- the entry that has the minute is counted: the work is less than it was from t on
@@ -36,33 +36,33 @@ module _ (w : Windows) (p : ℕ → ℕ) (t k : ℕ) where
         omega (
           arith,
           fits t b,
-          sum-lt (w .n) (counted after a b) (counted before t b)
-              (λ i _. counted-le after a b i _ (λ r d. omega (arith, counted-is before t b i (omega arith) d)))
+          sum-lt (w .n) (inInterval after a b) (inInterval before t b)
+              (λ i _. in-interval-le after a b i _ (λ r d. omega (arith, in-interval-is before t b i (omega arith) d)))
               k (ready .place) less,
         )
       where
-        less : counted after a b k < counted before t b k
+        less : inInterval after a b k < inInterval before t b k
         less =
             omega (
               arith,
               ready .unfinished,
-              counted-is before t b k (omega arith) due,
-              counted-le after a b k (p k - 1) (λ r d. omega (arith, same-refl k)),
+              in-interval-is before t b k (omega arith) due,
+              in-interval-le after a b k (p k - 1) (λ r d. omega (arith, same-refl k)),
             )
 
     -- no ready entry is counted: the work is at most what it was from t + 1 on
     spared : a ≤ suc t → ((i : ℕ) → Ready (withLeft w p) t i → w .d i ≤ b → ⊥) → work after a b ≤ b - a
     unfolding work
-    spared h none = omega (arith, fits (suc t) b, work-under after a b (counted before (suc t) b) (λ i l r d. each i l d))
+    spared h none = omega (arith, fits (suc t) b, work-under after a b (inInterval before (suc t) b) (λ i l r d. each i l d))
       where
-        each : (i : ℕ) → i < w .n → w .d i ≤ b → p i - same k i ≤ counted before (suc t) b i
+        each : (i : ℕ) → i < w .n → w .d i ≤ b → p i - same k i ≤ inInterval before (suc t) b i
         each i l d =
             le-or-lt (w .r i) t
             (λ r.
             le-or-lt 1 (p i)
             (λ u. absurd (none i (record { place = l; released = r; unfinished = u }) d))
             (λ u. omega arith))
-            (λ r. omega (arith, counted-is before (suc t) b i (omega arith) d))
+            (λ r. omega (arith, in-interval-is before (suc t) b i (omega arith) d))
 
   pub minute-fits : Fits (restFrom t (withLeft w p))
       → EarliestDeadlineFirst (withLeft w p) t k

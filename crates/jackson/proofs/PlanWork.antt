@@ -9,7 +9,7 @@ use Rattle.jackson.specs.Windows.{Windows}
 use Rattle.jackson.specs.Plans.{Plan}
 use Rattle.jackson.specs.Intervals.{Fits}
 use Rattle.base.proofs.Sums.{same-cases, between-is, between-le, sum-le, sum-swap, sum-guard, sum-same-le, count-between}
-use Rattle.jackson.proofs.Counted.{work-under}
+use Rattle.jackson.proofs.IntervalWork.{work-under}
 
 module _ (w : Windows) (m : ℕ → ℕ) (plan : Plan w m) where
   module _ (a b : ℕ) where

@@ -11,7 +11,7 @@ use Rattle.jackson.specs.Plans.{minutesOf, Plan}
 use Rattle.jackson.specs.Intervals.{work, Fits}
 use Rattle.jackson.specs.Rules.{Ready, Follows}
 use Rattle.base.proofs.Sums.{le-or-lt, from-to, same-cases, same-ne, sum-zero}
-use Rattle.jackson.proofs.Counted.{counted, counted-is, work-over, work-under}
+use Rattle.jackson.proofs.IntervalWork.{inInterval, in-interval-is, work-over, work-under}
 use Rattle.jackson.proofs.OneMinute.{minute-fits}
 
 -- at minute 0 the rest of the day is the day
@@ -25,8 +25,8 @@ fewer-fit w p q fewer fits a b =
     omega (
       arith,
       fits a b,
-      work-under (withLeft w q) a b (counted (withLeft w p) a b)
-          (λ i l r d. omega (arith, fewer i l, counted-is (withLeft w p) a b i r d)),
+      work-under (withLeft w q) a b (inInterval (withLeft w p) a b)
+          (λ i l r d. omega (arith, fewer i l, in-interval-is (withLeft w p) a b i r d)),
     )
 
 module _ (w : Windows) (t₀ : ℕ) (m : ℕ → ℕ) (left : ℕ → ℕ → ℕ) (run : Follows w t₀ m left) where

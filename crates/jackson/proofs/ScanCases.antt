@@ -41,7 +41,8 @@ module _ {none : ℕ} {f : ℕ → Bool} {before : ℕ → ℕ → Bool} {n : �
   unfolding best
   search-start h = record { held = h; passed = omega arith; is = refl }
 
-  pub search-next : {i k : ℕ} (k′ : ℕ) → Searched none f before n k i → i < n → k′ ≡ better none f before i k → Searched none f before n k′ (i + 1)
+  pub search-next : {i k : ℕ} (k′ : ℕ) → Searched none f before n k i → i < n → k′ ≡ better none f before i k
+      → Searched none f before n k′ (i + 1)
   unfolding best
   search-next {i} {k} k′ so h e =
       record { held = so .held; passed = omega (arith, h); is = rw add-one (e ∙ ap (better none f before i) (so .is)) }
@@ -61,4 +62,5 @@ module _ {none : ℕ} {f : ℕ → Bool} {before : ℕ → ℕ → Bool} {n : �
 module _ {f : ℕ → Bool} {before : ℕ → ℕ → Bool} {n i k : ℕ} where
   pub search-in : Ranks before → Searched n f before n k i → k ≤ n
   search-in ranks so =
-      best-cases n f before ranks i (so .passed) (k ≤ n) (λ e _. omega (arith, so .is, e)) (λ found. omega (arith, so .is, so .passed, found .below))
+      best-cases n f before ranks i (so .passed) (k ≤ n) (λ e _. omega (arith, so .is, e))
+      (λ found. omega (arith, so .is, so .passed, found .below))

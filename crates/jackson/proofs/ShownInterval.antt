@@ -9,7 +9,8 @@ use lib.Dec.{ltb}
 use Rattle.base.specs.Outcomes.{Code, Outcome, answered, refused}
 use Rattle.base.proofs.Inversion.{Says, by-row}
 use Rattle.jackson.specs.Windows.{Windows}
-use Rattle.jackson.specs.Intervals.{work, Overloaded, Shown, NoOverload, ShowsOverload, isOverloaded, leftOf, leftEnd, rightOf, rightEnd, overloadOf}
+use Rattle.jackson.specs.Intervals.{work, Overloaded, IntervalShown, NoOverload, ShowsOverload}
+use Rattle.jackson.specs.Intervals.{isOverloaded, leftOf, leftEnd, rightOf, rightEnd, overloadOf}
 use Rattle.base.proofs.Scans.{smaller-ranks, larger-ranks, best-below, best-some, best-smallest, best-largest}
 
 -- what the overload test says by its answer, and by a refusal
@@ -53,7 +54,7 @@ module _ (w : Windows) where
       (best .below, rw (← e) (best-smallest (w .n) _ (w .d) _ best j h passes))
 
   -- what the two ends found are
-  ends-shown : rightEnd w < w .n → Shown w (w .r (leftEnd w (w .d (rightEnd w)))) (w .d (rightEnd w))
+  ends-shown : rightEnd w < w .n → IntervalShown w (w .r (leftEnd w (w .d (rightEnd w)))) (w .d (rightEnd w))
   ends-shown h =
       let b = w .d (rightEnd w) in
       let z = left-found b (right-found h) in
@@ -92,7 +93,7 @@ module _ (w : Windows) where
   refused-shown k e = rw e at test-says
 
   -- one interval only is shown
-  pub shown-one : (a b a′ b′ : ℕ) → Shown w a b → Shown w a′ b′ → (a ≡ a′) × (b ≡ b′)
+  pub shown-one : (a b a′ b′ : ℕ) → IntervalShown w a b → IntervalShown w a′ b′ → (a ≡ a′) × (b ≡ b′)
   shown-one a b a′ b′ s s′ =
       let e : b ≡ b′ = omega (arith, s .smallest a′ b′ (s′ .overloaded), s′ .smallest a b (s .overloaded)) in
       (omega (arith, s .largest a′ (rw e (s′ .overloaded)), s′ .largest a (rw (← e) (s .overloaded))), e)

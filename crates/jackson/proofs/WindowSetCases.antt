@@ -68,5 +68,5 @@ module _ (l : DayList) (long : length (l .entries) ≡ 64) where
 pub copy-none : (r d p : List ℕ) → r ≡ replicate 64 0 → d ≡ replicate 64 0 → p ≡ replicate 64 0
     → Holds emptyList (record { h = 0; n = 0; r = r; d = d; p = p })
 copy-none r d p x y z =
-    rw (x, y, z)
-    (copy-done emptyList (length-replicate {A = Entry} 64 blank) _ _ _ 0 0 refl (copy-start (replicate 64 blank) 0 (omega arith)) (omega arith))
+    let start = copy-start (replicate 64 blank) 0 (omega arith) in
+    rw (x, y, z) (copy-done emptyList (length-replicate {A = Entry} 64 blank) _ _ _ 0 0 refl start (omega arith))

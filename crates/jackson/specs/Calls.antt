@@ -13,7 +13,7 @@ use Rattle.list.specs.declared.types.Verdict.{Verdict}
 use Rattle.jackson.specs.Windows.{Windows, windowsOf, windowsIn}
 use Rattle.jackson.specs.Plans.{Plannable, PlanBytes}
 use Rattle.jackson.specs.Intervals.{ShowsOverload, overloadOf}
-use Rattle.jackson.specs.Minutes.{stateOf, dayStart, schedule, minuteOf}
+use Rattle.jackson.specs.Minutes.{stateIn, dayStart, schedule, minuteOf}
 use Rattle.jackson.specs.declared.types.WindowSet.{WindowSet}
 use Rattle.jackson.specs.declared.types.Day.{Day}
 use Rattle.jackson.specs.declared.types.Minute.{Minute}
@@ -41,8 +41,8 @@ pub record Tests (l : DayList) (v : Verdict) : Type 0 where
 
 -- what a minute gives: the place chosen together with the advanced day
 pub record Advances (day : Day) (m : Minute) : Type 0 where
-  pub place : m .place ≡ minuteOf (stateOf day) .place
-  pub next : stateOf (m .day) ≡ minuteOf (stateOf day) .next
+  pub place : m .place ≡ minuteOf (stateIn day) .place
+  pub next : stateIn (m .day) ≡ minuteOf (stateIn day) .next
   pub n : m .day .windows .n ≡ day .windows .n
 
 -- the list whose day stands in an answer: the one given, or the empty one beside a refusal
@@ -53,7 +53,7 @@ listBeside (refused _) l = emptyList
 -- what starting a day answers: the value check, and the day's first state
 pub record Starts (l : DayList) (a : DayAnswer) : Type 0 where
   pub outcome : verdictOf (a .verdict) ≡ checkOf l
-  pub beside : stateOf (a .day) ≡ dayStart (windowsOf (listBeside (checkOf l) l))
+  pub beside : stateIn (a .day) ≡ dayStart (windowsOf (listBeside (checkOf l) l))
   pub n : a .day .windows .n ≡ listBeside (checkOf l) l .n
 
 -- "plan buffer under H bytes": row 11, which carries H

@@ -25,7 +25,7 @@ pub record Overloaded (w : Windows) (a b : ℕ) : Type 0 where
   pub exceeds : b - a < work w a b
 
 -- "The interval shown has the smallest b, and with it the largest a."
-pub record Shown (w : Windows) (a b : ℕ) : Type 0 where
+pub record IntervalShown (w : Windows) (a b : ℕ) : Type 0 where
   pub overloaded : Overloaded w a b
   pub smallest : (a′ b′ : ℕ) → Overloaded w a′ b′ → b ≤ b′
   pub largest : (a′ : ℕ) → Overloaded w a′ b → a′ ≤ a
@@ -39,7 +39,7 @@ pub record ShowsOverload (w : Windows) (k : Code) : Type 0 where
   pub a : ℕ
   pub b : ℕ
   pub carries : k ≡ code 9 (a ∷ b ∷ work w a b ∷ [])
-  pub shown : Shown w a b
+  pub shown : IntervalShown w a b
 
 -- the test of an interval between an earliest and a latest minute
 abbrev pub isOverloaded : Windows → ℕ → ℕ → Bool

@@ -16,8 +16,8 @@ pub record State : Type 0 where
   pub last : ℕ
 
 -- the state that a value of the code's type holds
-abbrev pub stateOf : Day → State
-stateOf day = record { windows = windowsIn (day .windows); t = day .t; last = day .last }
+abbrev pub stateIn : Day → State
+stateIn day = record { windows = windowsIn (day .windows); t = day .t; last = day .last }
 
 -- the state in which a day begins
 abbrev pub dayStart : Windows → State

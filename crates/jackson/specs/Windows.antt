@@ -51,7 +51,8 @@ columns h n r d p = record { h = h; n = n; r = λ i. getD r i 0; d = λ i. getD 
 abbrev pub windowsIn : WindowSet → Windows
 windowsIn s = columns (s .h) (min (s .n) 64) (s .r) (s .d) (s .p)
 
--- "A window [r, d) lies in 0 to H and holds at least p minutes." An entry that needs none needs no room, as a finished one in a running day.
+-- "A window [r, d) lies in 0 to H and holds at least p minutes." An entry that needs none needs no room, as a finished one in a running
+-- day.
 pub record Roomy (w : Windows) : Type 0 where
   pub in-day : (i : ℕ) → i < w .n → 1 ≤ w .p i → w .d i ≤ w .h
   pub room : (i : ℕ) → i < w .n → 1 ≤ w .p i → w .r i + w .p i ≤ w .d i

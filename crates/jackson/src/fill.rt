@@ -15,7 +15,7 @@ ghost use lib.ListN.{length, drop};
 ghost use Rattle.base.specs.Counting.{listOf};
 ghost use Rattle.jackson.specs.Windows.{windowsIn};
 ghost use Rattle.jackson.specs.Plans.{idle};
-ghost use Rattle.jackson.specs.Minutes.{stateOf, placeAt};
+ghost use Rattle.jackson.specs.Minutes.{stateIn, placeAt};
 ghost use Rattle.jackson.specs.Calls.{Starts, Fills, FillsWindows};
 
 // A day's first state.
@@ -49,7 +49,7 @@ pub fn start_day(list: DayList) -> DayAnswer
 // Stores the places of the next h minutes.
 fn store_places(day: Day, h: usize, plan: &mut [u8])
     requires { ⌜ h ≤ length (now plan) ⌝ }
-    ensures { λ _. ⌜ now (plan .exit) ≡ listOf h (placeAt (stateOf day)) ++ drop h (now (plan .entry)) ⌝ }
+    ensures { λ _. ⌜ now (plan .exit) ≡ listOf h (placeAt (stateIn day)) ++ drop h (now (plan .entry)) ⌝ }
 {
     let mut today = day;
     let mut i: usize = 0;

@@ -9,12 +9,11 @@ ghost use mathlib.Core.Path.{_≡_};
 ghost use mathlib.Core.Bool.{_&&_, cond};
 ghost use Prim.Native.Nat.{_<_, _≤_};
 ghost use lib.Dec.{leb};
-ghost use lib.ListN.{getD};
 ghost use Rattle.list.specs.Refusals.{verdictOf};
-ghost use Rattle.base.specs.Counting.{better, smaller, larger};
-ghost use Rattle.jackson.specs.Windows.{columns, windowsIn};
-ghost use Rattle.jackson.specs.Intervals.{work, isOverloaded, leftOf, leftEnd, rightOf, rightEnd, overloadOf};
+ghost use Rattle.jackson.specs.Windows.{windowsIn};
+ghost use Rattle.jackson.specs.Intervals.{work, isOverloaded, leftEnd, rightEnd, overloadOf};
 ghost use Rattle.jackson.specs.Calls.{Tests};
+ghost use Rattle.jackson.specs.Internal.{windowsHeld, betterLeft, betterRight};
 
 // An entry's part in the work of [a, b).
 fn share(a: u16, b: u16, r: u16, d: u16, p: u16) -> u16
@@ -32,7 +31,7 @@ fn share(a: u16, b: u16, r: u16, d: u16, p: u16) -> u16
 // The work of [a, b).
 fn work_in(count: usize, r: &[u16; 64], d: &[u16; 64], p: &[u16; 64], a: u16, b: u16) -> u32
     requires { ⌜ count ≤ 64 ⌝ }
-    ensures { λ x. ⌜ x ≡ work (columns 0 count (now (r .entry)) (now (d .entry)) (now (p .entry))) a b ⌝ }
+    ensures { λ x. ⌜ x ≡ work (windowsHeld count (now (r .entry)) (now (d .entry)) (now (p .entry))) a b ⌝ }
 {
     let mut sum: u32 = 0;
     let mut i: usize = 0;
@@ -46,7 +45,7 @@ fn work_in(count: usize, r: &[u16; 64], d: &[u16; 64], p: &[u16; 64], a: u16, b:
 // Whether [a, b) is an interval with more work than minutes.
 fn is_overloaded(count: usize, r: &[u16; 64], d: &[u16; 64], p: &[u16; 64], a: u16, b: u16) -> bool
     requires { ⌜ count ≤ 64 ⌝ }
-    ensures { λ x. ⌜ x ≡ isOverloaded (columns 0 count (now (r .entry)) (now (d .entry)) (now (p .entry))) a b ⌝ }
+    ensures { λ x. ⌜ x ≡ isOverloaded (windowsHeld count (now (r .entry)) (now (d .entry)) (now (p .entry))) a b ⌝ }
 {
     if b <= a {
         return false;
@@ -67,7 +66,7 @@ fn larger_left(
     requires { ⌜ count ≤ 64 ⌝ }
     requires { ⌜ i < count ⌝ }
     requires { ⌜ k ≤ count ⌝ }
-    ensures { λ x. ⌜ x ≡ better count (leftOf (columns 0 count (now (r .entry)) (now (d .entry)) (now (p .entry))) b) (larger (λ j. getD (now (r .entry)) j 0)) i k ⌝ }
+    ensures { λ x. ⌜ x ≡ betterLeft (windowsHeld count (now (r .entry)) (now (d .entry)) (now (p .entry))) b i k ⌝ }
 {
     if k < count {
         if r[i] <= r[k] {
@@ -84,7 +83,7 @@ fn larger_left(
 // The place whose r is the largest left end of an overloaded interval that ends at b, count for none.
 fn left_end(count: usize, r: &[u16; 64], d: &[u16; 64], p: &[u16; 64], b: u16) -> usize
     requires { ⌜ count ≤ 64 ⌝ }
-    ensures { λ k. ⌜ k ≡ leftEnd (columns 0 count (now (r .entry)) (now (d .entry)) (now (p .entry))) b ⌝ }
+    ensures { λ k. ⌜ k ≡ leftEnd (windowsHeld count (now (r .entry)) (now (d .entry)) (now (p .entry))) b ⌝ }
 {
     let mut k: usize = count;
     let mut i: usize = 0;
@@ -107,7 +106,7 @@ fn smaller_right(
     requires { ⌜ count ≤ 64 ⌝ }
     requires { ⌜ i < count ⌝ }
     requires { ⌜ k ≤ count ⌝ }
-    ensures { λ x. ⌜ x ≡ better count (rightOf (columns 0 count (now (r .entry)) (now (d .entry)) (now (p .entry)))) (smaller (λ j. getD (now (d .entry)) j 0)) i k ⌝ }
+    ensures { λ x. ⌜ x ≡ betterRight (windowsHeld count (now (r .entry)) (now (d .entry)) (now (p .entry))) i k ⌝ }
 {
     if k < count {
         if d[k] <= d[i] {
@@ -124,7 +123,7 @@ fn smaller_right(
 // The place whose d is the smallest right end of an overloaded interval, count for none.
 fn right_end(count: usize, r: &[u16; 64], d: &[u16; 64], p: &[u16; 64]) -> usize
     requires { ⌜ count ≤ 64 ⌝ }
-    ensures { λ k. ⌜ k ≡ rightEnd (columns 0 count (now (r .entry)) (now (d .entry)) (now (p .entry))) ⌝ }
+    ensures { λ k. ⌜ k ≡ rightEnd (windowsHeld count (now (r .entry)) (now (d .entry)) (now (p .entry))) ⌝ }
 {
     let mut k: usize = count;
     let mut i: usize = 0;

@@ -7,13 +7,11 @@ ghost use mathlib.Core.Path.{_≡_};
 ghost use mathlib.Core.Bool.{_&&_};
 ghost use Prim.Native.Nat.{_-_, _<_, _≤_};
 ghost use lib.Dec.{leb, ltb};
-ghost use lib.ListN.{getD};
-ghost use Rattle.base.specs.Counting.{better, smaller};
 ghost use Rattle.jackson.specs.Windows.{windowsIn};
 ghost use Rattle.jackson.specs.Plans.{idle};
-ghost use Rattle.jackson.specs.Minutes.{isReady, earliestDeadline, chosen};
+ghost use Rattle.jackson.specs.Minutes.{earliestDeadline, chosen};
 ghost use Rattle.jackson.specs.Calls.{Advances};
-ghost use Rattle.jackson.specs.Internal.{stateAt, IsAfter};
+ghost use Rattle.jackson.specs.Internal.{stateAt, betterReady, IsAfter};
 
 // An entry has its r reached and minutes left.
 fn is_ready(t: u16, r: u16, left: u16) -> bool
@@ -26,7 +24,7 @@ fn is_ready(t: u16, r: u16, left: u16) -> bool
 fn sooner(i: usize, k: u8, t: u16, r: &[u16; 64], d: &[u16; 64], left: &[u16; 64]) -> u8
     requires { ⌜ i < 64 ⌝ }
     requires { ⌜ ((k ≡ idle → ⊥) → k < 64) ⌝ }
-    ensures { λ x. ⌜ x ≡ better idle (isReady (stateAt 64 t (now (r .entry)) (now (d .entry)) (now (left .entry)))) (smaller (λ j. getD (now (d .entry)) j 0)) i k ⌝ }
+    ensures { λ x. ⌜ x ≡ betterReady (stateAt 64 t (now (r .entry)) (now (d .entry)) (now (left .entry))) i k ⌝ }
 {
     if !is_ready(t, r[i], left[i]) {
         return k;

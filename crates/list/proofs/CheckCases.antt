@@ -5,7 +5,7 @@ use mathlib.Core.List.{[], _∷_}
 use Prim.Native.Nat.{ℕ, _+_, _≤_, _<_}
 use borrow.Author.Tests.{eq-eqb, ne-eqb, lt-ltb, le-ltb}
 use lib.ListN.{length, getD, drop}
-use Rattle.base.specs.Outcomes.{answered, andThen, code, refused}
+use Rattle.base.specs.Outcomes.{Outcome, answered, andThen, code, refused}
 use Rattle.list.specs.Refusals.{verdictOf}
 use Rattle.list.specs.Entries.{entryFault}
 use Rattle.list.specs.DayLists.{entriesOf}
@@ -47,26 +47,32 @@ module _ (f : Frame) (place : ℕ) (e : Entry) where
   too-short z h w = simp (ne-eqb _ _ z, le-ltb _ _ h, lt-ltb _ _ w)
 
 module _ (l : DayList) where
+  -- rows 6 and 7 of the entries from place i on
+  abbrev pub faultFrom : ℕ → Outcome (Unit {0})
+  faultFrom i = entriesFault (l .frame) i (drop i (entriesOf l))
+
   -- the header is turned back, or the entries decide
-  pub check-header : (v : Verdict) (x : Refusal) → verdictOf v ≡ headerFault 0 (l .frame) (l .n) → v ≡ Refused x → verdictOf v ≡ checkOf l
+  pub check-header : (v : Verdict) (x : Refusal) → verdictOf v ≡ headerFault 0 (l .frame) (l .n) → v ≡ Refused x
+      → verdictOf v ≡ checkOf l
   unfolding checkOf
   check-header v x w a = rw (← w, a)
 
-  pub check-entries : (v : Verdict) → verdictOf v ≡ headerFault 0 (l .frame) (l .n) → v ≡ Accepted → checkOf l ≡ entriesFault (l .frame) 0 (entriesOf l)
+  pub check-entries : (v : Verdict) → verdictOf v ≡ headerFault 0 (l .frame) (l .n) → v ≡ Accepted → checkOf l ≡ faultFrom 0
   unfolding checkOf
   check-entries v w a = rw (← w, a)
 
-  module _ (enough : l .n ≤ length (l .entries)) (i : ℕ) (e₀ : Entry) (v : Verdict) (w : verdictOf v ≡ entryFault (l .frame) i (getD (l .entries) i e₀)) (h : i < l .n) where
-    turn : entriesFault (l .frame) i (drop i (entriesOf l)) ≡ andThen (verdictOf v) (λ _. entriesFault (l .frame) (i + 1) (drop (i + 1) (entriesOf l)))
+  module _ (enough : l .n ≤ length (l .entries)) (i : ℕ) (e₀ : Entry) (v : Verdict)
+      (w : verdictOf v ≡ entryFault (l .frame) i (getD (l .entries) i e₀)) (h : i < l .n) where
+    turn : faultFrom i ≡ andThen (verdictOf v) (λ _. faultFrom (i + 1))
     unfolding entriesFault
     turn = rw (walk-next (l .entries) (l .n) enough i e₀ h, w)
 
-    pub check-refused : (x : Refusal) → v ≡ Refused x → verdictOf v ≡ entriesFault (l .frame) i (drop i (entriesOf l))
+    pub check-refused : (x : Refusal) → v ≡ Refused x → verdictOf v ≡ faultFrom i
     check-refused x a = rw (turn, a)
 
-    pub check-next : v ≡ Accepted → entriesFault (l .frame) i (drop i (entriesOf l)) ≡ entriesFault (l .frame) (i + 1) (drop (i + 1) (entriesOf l))
+    pub check-next : v ≡ Accepted → faultFrom i ≡ faultFrom (i + 1)
     check-next a = rw (turn, a)
 
-  pub check-done : (enough : l .n ≤ length (l .entries)) (i : ℕ) → l .n ≤ i → entriesFault (l .frame) i (drop i (entriesOf l)) ≡ answered tt
+  pub check-done : (enough : l .n ≤ length (l .entries)) (i : ℕ) → l .n ≤ i → faultFrom i ≡ answered tt
   unfolding entriesFault
   check-done enough i h = rw (walk-done (l .entries) (l .n) enough i h)

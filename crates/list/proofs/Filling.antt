@@ -18,7 +18,8 @@ blank-after entries i e h unused =
     drop-set-lt (i + 1) entries i e (omega arith) ∙ sym (drop-drop 1 i entries) ∙ rw (unused, z)
 
 -- so it is the list value with the entries filled
-pub filled-list : (f : Frame) (n : ℕ) (es entries : List Entry) → length es ≡ n → take n entries ≡ es → drop n entries ≡ replicate (64 - n) blank
+pub filled-list : (f : Frame) (n : ℕ) (es entries : List Entry) → length es ≡ n → take n entries ≡ es
+    → drop n entries ≡ replicate (64 - n) blank
     → record { frame = f; n = n; entries = entries } ≡ dayList f es
 filled-list f n es entries count filled unused = padded (sym (take-append-drop n entries) ∙ rw (filled, unused))
   where

@@ -1,9 +1,10 @@
--- What the crates above may cite: what a well-formed list is, what a verdict tells and that number and values tell one, what the machine's
--- types say of a list, lists that are filled from their first place on, and arrays that hold a field of the entries. The rest serves this crate alone.
-mod CheckCases
-mod PlaceCases
-pub mod Verdicts
+-- Theory, which the crates above may cite: what a well-formed list is, what a verdict tells and that number and values tell one, what the
+-- machine's types say of a list, lists that are filled from their first place on, and arrays that hold a field of the entries.
 pub mod Sound
+pub mod Verdicts
 pub mod InTypes
 pub mod Filling
 pub mod Columns
+-- What the code's proofs cite, case by case.
+mod CheckCases
+mod PlaceCases

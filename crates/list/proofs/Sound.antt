@@ -102,7 +102,8 @@ module _ (l : DayList) where
       → Says (λ _. SoundList l) R (checkOf l)
   unfolding checkOf
   check-says R two three six seven =
-      by-step (λ _. Header (l .frame) (l .n)) R (λ _. SoundList l) (headerFault 0 (l .frame) (l .n)) _ (header-says 0 (l .frame) (l .n) R two three)
+      let f = l .frame in
+      by-step (λ _. Header f (l .n)) R (λ _. SoundList l) (headerFault 0 f (l .n)) _ (header-says 0 f (l .n) R two three)
       (λ _ h. checked-say (l .frame) R six seven (SoundList l) 0 (entriesOf l) (λ s. record { header = h; entries = s }))
 
   -- a list is well-formed exactly if it is sound

@@ -6,14 +6,14 @@ use mathlib.Core.List.{List, [], _∷_}
 use lib.Dec.{eqb, ltb}
 use Rattle.base.specs.Outcomes.{Outcome, answered, Row, row, firstOf, andThen}
 use Rattle.list.specs.Entries.{entryFault}
-use Rattle.list.specs.DayLists.{entriesOf}
+use Rattle.list.specs.DayLists.{mostEntries, longestDay, entriesOf}
 use Rattle.list.specs.declared.types.Entry.{Entry}
 use Rattle.list.specs.declared.types.Frame.{Frame}
 use Rattle.list.specs.declared.types.DayList.{DayList}
 
 -- rows 2 and 3, for the day's length and the number of entries; 3 carries the place given
 abbrev pub headerRows : ℕ → Frame → ℕ → List Row
-headerRows place f n = row 2 (eqb (f .h) 0 || ltb 1440 (f .h)) 0 ∷ row 3 (ltb 64 n) place ∷ []
+headerRows place f n = row 2 (eqb (f .h) 0 || ltb longestDay (f .h)) 0 ∷ row 3 (ltb mostEntries n) place ∷ []
 
 unfoldable pub headerFault : ℕ → Frame → ℕ → Outcome (Unit {0})
 headerFault place f n = firstOf (headerRows place f n) (answered tt)

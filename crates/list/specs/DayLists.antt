@@ -11,6 +11,13 @@ use Rattle.list.specs.declared.types.Entry.{Entry}
 use Rattle.list.specs.declared.types.Frame.{Frame}
 use Rattle.list.specs.declared.types.DayList.{DayList}
 
+-- a list's entries at most, which is also the places that a list value has, and the minutes of the longest day
+abbrev pub mostEntries : ℕ
+mostEntries = 64
+
+abbrev pub longestDay : ℕ
+longestDay = 1440
+
 -- the entries that count: the first n
 abbrev pub entriesOf : DayList → List Entry
 entriesOf l = take (l .n) (l .entries)
@@ -34,7 +41,7 @@ marked marks i = getD marks i false
 
 -- the list value with these entries
 abbrev pub dayList : Frame → List Entry → DayList
-dayList f es = record { frame = f; n = length es; entries = es ++ replicate (64 - length es) blank }
+dayList f es = record { frame = f; n = length es; entries = es ++ replicate (mostEntries - length es) blank }
 
 -- the list value that stands beside a refusal
 abbrev pub emptyList : DayList

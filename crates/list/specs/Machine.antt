@@ -3,7 +3,7 @@ use Prim.Native.Nat.{ℕ, _<_, _^_}
 use mathlib.Core.Path.{_≡_}
 use mathlib.Core.List.{List}
 use lib.ListN.{length, getD}
-use Rattle.list.specs.DayLists.{blank}
+use Rattle.list.specs.DayLists.{mostEntries, blank}
 use Rattle.list.specs.declared.types.Seal.{Seal}
 use Rattle.list.specs.declared.types.Seal.the-variants.{Missing, Number}
 use Rattle.list.specs.declared.types.DayList.{DayList}
@@ -17,8 +17,8 @@ abbrev pub SealFits : Seal → Type 0
 SealFits Missing = Unit {0}
 SealFits (Number x) = x < 2 ^ 32
 
--- 64 entries, whose serials and seals have 32 bits
+-- an entry at each place, whose serials and seals have 32 bits
 pub record Typed (l : DayList) : Type 0 where
-  pub long : length (l .entries) ≡ 64
+  pub long : length (l .entries) ≡ mostEntries
   pub serial : (i : ℕ) → getD (l .entries) i blank .serial < 2 ^ 32
   pub seal : (i : ℕ) → SealFits (getD (l .entries) i blank .seal)

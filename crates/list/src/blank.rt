@@ -1,5 +1,6 @@
 // What stands where nothing counts: at the places from n on, and beside a refusal.
 use crate::types::DayList;
+use crate::types::ENTRIES;
 use crate::types::Entry;
 use crate::types::Frame;
 use crate::types::Kind;
@@ -22,6 +23,6 @@ pub fn empty_list() -> DayList
     DayList {
         frame: Frame { h: 0 },
         n: 0,
-        entries: [blank; 64],
+        entries: [blank; ENTRIES],
     }
 }

@@ -1,7 +1,9 @@
 // The tests of list values: rows 2, 3, 6 and 7; and whether a verdict is no refusal.
 use crate::types::DayList;
+use crate::types::ENTRIES;
 use crate::types::Entry;
 use crate::types::Frame;
+use crate::types::LONGEST_DAY;
 use crate::types::Refusal;
 use crate::types::Verdict;
 ghost use mathlib.Core.Path.{_≡_};
@@ -18,10 +20,10 @@ pub fn header_fault(place: usize, frame: Frame, n: u8) -> Verdict
     if h == 0 {
         return Verdict::Refused(Refusal::BadDayLength);
     }
-    if 1440 < h {
+    if LONGEST_DAY < h {
         return Verdict::Refused(Refusal::BadDayLength);
     }
-    if 64 < n {
+    if ENTRIES < n as usize {
         return Verdict::Refused(Refusal::TooManyEntries(place));
     }
     Verdict::Accepted

@@ -1,5 +1,11 @@
 // The values that travel between the crates.
 
+// The places of a list, and so its entries at most.
+pub const ENTRIES: usize = 64;
+
+// The minutes of the longest day.
+pub const LONGEST_DAY: u16 = 1440;
+
 // "A seal is either missing or a number, and it travels inside its entry."
 pub enum Seal {
     Missing,
@@ -31,7 +37,7 @@ pub struct Frame {
 pub struct DayList {
     pub frame: Frame,
     pub n: u8,
-    pub entries: [Entry; 64],
+    pub entries: [Entry; ENTRIES],
 }
 
 // The refusals of every call of the planner, a case for each number of "Where a list is turned back".

@@ -19,7 +19,7 @@ use Rattle.report.specs.Runs.{beginsRun, runEnd}
 use Rattle.report.specs.Reports.{entryLine, entryLineAt, runLine, runLineAt, refusalLine}
 use Rattle.report.specs.Calls.{lineOf}
 use Rattle.report.specs.Internal.{Puts, timesText, carriedText}
-use Rattle.report.proofs.Steps.{puts-nothing, puts-then}
+use Rattle.report.proofs.StepCases.{puts-nothing, puts-then}
 
 -- A refusal's line: its number, what it carries, and the newline.
 refusal-text : (number : ℕ) (values : List ℕ)

@@ -2,7 +2,7 @@
 -- Assumes nothing.
 use mathlib.Core.Path.{_≡_, refl, sym, ap, _∙_}
 use mathlib.Core.Logic.{_⊎_, inl, inr}
-use mathlib.Core.Bool.{Bool}
+use mathlib.Core.Bool.{Bool, cond}
 use mathlib.Core.List.{List, []}
 use Prim.Native.Nat.{ℕ, _+_, _*_, _-_, _<_, _≤_}
 use native.Mathlib.Omega.{arith}
@@ -47,7 +47,10 @@ use Rattle.report.proofs.RunFacts.{begins-entry, run-in-day}
 broken-few : (whole : ℕ → Bool) (w : Windows) (m : ℕ → ℕ) → brokenIn whole w m ≤ w .n
 unfolding brokenIn
 broken-few whole w m =
-    omega (arith, sum-most (w .n) 1 _ (λ i _. by-test (λ (x : ℕ). x ≤ 1) (isBroken whole (w .h) m i) 1 0 (λ _. omega arith) (λ _. omega arith)))
+    omega (arith, sum-most (w .n) 1 _ one)
+  where
+    one : (i : ℕ) → i < w .n → cond (isBroken whole (w .h) m i) 1 0 ≤ 1
+    one i _ = by-test (λ (x : ℕ). x ≤ 1) (isBroken whole (w .h) m i) 1 0 (λ _. omega arith) (λ _. omega arith)
 
 -- A day of at most 1,440 minutes with at most 64 entries.
 module _ (w : Windows) (formed : Formed w) (day : w .h ≤ 1440) (few : w .n ≤ 64) where

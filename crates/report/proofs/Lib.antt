@@ -14,8 +14,8 @@ pub mod Example
 -- The contracts leave one answer and one buffer.
 pub mod OneReport
 -- What the code's proofs cite, case by case.
-mod Steps
+mod StepCases
 mod RunCases
 mod CallCases
 mod DayCases
-mod Promised
+mod PromiseCases

@@ -5,7 +5,7 @@ use mathlib.Core.List.{List}
 use lib.ListN.{length, take}
 use Rattle.base.specs.Outcomes.{code, Outcome, answered, refused, andThen}
 use Rattle.list.specs.Refusals.{writeAnswerOf}
-use Rattle.format.specs.Writing.{storing, stored}
+use Rattle.format.specs.Writing.{readLimit, storing, stored}
 use Rattle.list.specs.declared.types.WriteAnswer.{WriteAnswer}
 use Rattle.codes.specs.declared.RefusalCode.{RefusalCode}
 use Rattle.report.specs.Reports.{refusalLine, reportOf}
@@ -35,7 +35,7 @@ pub record Reports (bs old : List ℕ) (a : WriteAnswer) (new : List ℕ) : Type
   -- so a buffer of this length is never too short
   pub room : (text : List ℕ) → reportOf bs ≡ answered text → length text ≤ enough
   -- "it takes 964 bytes at most; a longest list has 963": where bs are the first bytes of an input, 964 or more, this is its report too
-  pub first-bytes : (limit : ℕ) → 964 ≤ limit → (input : List ℕ) → take limit input ≡ bs → reportOf input ≡ reportOf bs
+  pub first-bytes : (limit : ℕ) → readLimit ≤ limit → (input : List ℕ) → take limit input ≡ bs → reportOf input ≡ reportOf bs
 
 -- the line of a refusal's number and values
 abbrev pub lineOf : RefusalCode → List ℕ

@@ -1,5 +1,5 @@
 // The text of a day: head, entries, runs; or the refusal of its list.
-use crate::lines::put_entry;
+use crate::lines::put_entry_line;
 use crate::lines::put_head;
 use crate::runs::put_runs;
 use bounds::plan_day;
@@ -8,10 +8,9 @@ use list::types::DayList;
 use list::types::Verdict;
 use list::types::WriteAnswer;
 ghost use Prim.Native.Nat.{_≤_};
-ghost use lib.ListN.{getD};
 ghost use Rattle.list.specs.Checks.{WellFormed};
-ghost use Rattle.report.specs.Reports.{entryLines, plannedText, reportOf};
-ghost use Rattle.report.specs.Internal.{Puts, PutsOr, answerText};
+ghost use Rattle.report.specs.Reports.{plannedText, reportOf};
+ghost use Rattle.report.specs.Internal.{Puts, PutsOr, entriesText, answerText};
 
 // The entries' lines, with a least end and a greatest start for each place.
 fn put_entries(
@@ -22,13 +21,13 @@ fn put_entries(
     starts: [u16; 64],
 ) -> usize
     requires { ⌜ list .n ≤ 64 ⌝ }
-    ensures { λ next. ⌜ Puts (now (out .entry)) at (entryLines list (λ i. getD ends i 0) (λ i. getD starts i 0)) (now (out .exit)) next ⌝ }
+    ensures { λ next. ⌜ Puts (now (out .entry)) at (entriesText list ends starts) (now (out .exit)) next ⌝ }
 {
     let n = list.n as usize;
     let mut next = at;
     let mut i: usize = 0;
     while i < n {
-        next = put_entry(out, next, i, list.entries[i], ends[i], starts[i]);
+        next = put_entry_line(out, next, i, list.entries[i], ends[i], starts[i]);
         i += 1;
     }
     next

@@ -24,7 +24,7 @@ pub(crate) fn put_head(out: &mut [u8], at: usize, h: u16, n: u8, moves: u32, bro
 }
 
 // ` 77` or ` -`
-fn put_seal(out: &mut [u8], at: usize, seal: Seal) -> usize
+fn put_seal_text(out: &mut [u8], at: usize, seal: Seal) -> usize
     ensures { λ next. ⌜ Puts (now (out .entry)) at (ascii " " ++ sealText seal) (now (out .exit)) next ⌝ }
 {
     match seal {
@@ -34,7 +34,7 @@ fn put_seal(out: &mut [u8], at: usize, seal: Seal) -> usize
 }
 
 // ` pause` or ` whole`
-fn put_kind(out: &mut [u8], at: usize, kind: Kind) -> usize
+fn put_kind_text(out: &mut [u8], at: usize, kind: Kind) -> usize
     ensures { λ next. ⌜ Puts (now (out .entry)) at (ascii " " ++ kindText kind) (now (out .exit)) next ⌝ }
 {
     match kind {
@@ -44,7 +44,7 @@ fn put_kind(out: &mut [u8], at: usize, kind: Kind) -> usize
 }
 
 // The end of an entry's line: r, d and p, its least end and greatest start.
-fn put_times(out: &mut [u8], at: usize, e: Entry, end: u16, start: u16) -> usize
+fn put_times_text(out: &mut [u8], at: usize, e: Entry, end: u16, start: u16) -> usize
     ensures { λ next. ⌜ Puts (now (out .entry)) at (timesText e end start) (now (out .exit)) next ⌝ }
 {
     let a = put_after(out, at, b" ", e.r as u64);
@@ -56,7 +56,7 @@ fn put_times(out: &mut [u8], at: usize, e: Entry, end: u16, start: u16) -> usize
 }
 
 // `1 502 77 whole 5 8 3 8 5`
-pub(crate) fn put_entry(
+pub(crate) fn put_entry_line(
     out: &mut [u8],
     at: usize,
     place: usize,
@@ -70,9 +70,9 @@ pub(crate) fn put_entry(
     let kind = e.kind;
     let a = put_decimal(out, at, place as u64);
     let b = put_after(out, a, b" ", e.serial as u64);
-    let c = put_seal(out, b, seal);
-    let d = put_kind(out, c, kind);
-    put_times(out, d, e, end, start)
+    let c = put_seal_text(out, b, seal);
+    let d = put_kind_text(out, c, kind);
+    put_times_text(out, d, e, end, start)
 }
 
 // `5 8 1`

@@ -5,8 +5,7 @@ ghost use Prim.Native.Nat.{_<_};
 ghost use lib.ListN.{length};
 ghost use Rattle.jackson.specs.Plans.{placesIn};
 ghost use Rattle.report.specs.Runs.{beginsRun, runEnd};
-ghost use Rattle.report.specs.Reports.{runLineAt, runLines};
-ghost use Rattle.report.specs.Internal.{Puts};
+ghost use Rattle.report.specs.Internal.{Puts, runTextAt, runsText};
 
 // Whether an entry has minute t that did not have the minute before.
 fn begins_run(plan: &[u8], t: usize) -> bool
@@ -42,7 +41,7 @@ fn run_end(plan: &[u8], t: usize) -> usize
 // The line of the run that begins at minute t, if one does.
 fn put_run_at(out: &mut [u8], at: usize, plan: &[u8], t: usize) -> usize
     requires { ⌜ t < length (now plan) ⌝ }
-    ensures { λ next. ⌜ Puts (now (out .entry)) at (runLineAt (length (now (plan .entry))) (placesIn (now (plan .entry))) t) (now (out .exit)) next ⌝ }
+    ensures { λ next. ⌜ Puts (now (out .entry)) at (runTextAt (now (plan .entry)) t) (now (out .exit)) next ⌝ }
 {
     if begins_run(plan, t) {
         return put_run(out, at, t, run_end(plan, t), plan[t]);
@@ -52,7 +51,7 @@ fn put_run_at(out: &mut [u8], at: usize, plan: &[u8], t: usize) -> usize
 
 // The lines of all runs of a plan.
 pub(crate) fn put_runs(out: &mut [u8], at: usize, plan: &[u8]) -> usize
-    ensures { λ next. ⌜ Puts (now (out .entry)) at (runLines (length (now (plan .entry))) (placesIn (now (plan .entry)))) (now (out .exit)) next ⌝ }
+    ensures { λ next. ⌜ Puts (now (out .entry)) at (runsText (now (plan .entry))) (now (out .exit)) next ⌝ }
 {
     let mut next = at;
     let mut t: usize = 0;

@@ -8,7 +8,7 @@ use lib.ListN.{getD}
 use mir.Syntax.{w64}
 use mir.Val.{Fits}
 use lib.Seq.{length-take-le}
-use Rattle.report.proofs.Promised.{line-fits, line-stored}
+use Rattle.report.proofs.PromiseCases.{line-fits, line-stored}
 use Rattle.report.proofs.refusal_line.Statement.{statement}
 use Rattle.report.proofs.refusal_line.Tie as tie
 
@@ -28,16 +28,16 @@ put-refusal-requires c κs = search needs
 array-share-prefix-line : tie.Need-array-share-prefix-line
 array-share-prefix-line c =
     let start = c .before .before .before .before in
-    line-fits (start .args .code) (number-fits start) (values-fit start) _ _ refl (c .before .put-refusal .result)
-    (c .before .put-refusal .ensures)
+    let put-refusal = c .before .put-refusal in
+    line-fits (start .args .code) (number-fits start) (values-fit start) _ _ refl (put-refusal .result) (put-refusal .ensures)
 
 slice-aggregate-store : tie.Need-slice-aggregate-store
 slice-aggregate-store c =
     let start = c .before .before .before .before .before in
+    let put-refusal = c .before .before .put-refusal in
     sym
     (length-take-le _ _
-    (line-fits (start .args .code) (number-fits start) (values-fit start) _ _ refl (c .before .before .put-refusal .result)
-    (c .before .before .put-refusal .ensures)))
+    (line-fits (start .args .code) (number-fits start) (values-fit start) _ _ refl (put-refusal .result) (put-refusal .ensures)))
 
 store-requires : tie.Need-store-requires
 store-requires c κs = search needs
@@ -49,8 +49,9 @@ returns : tie.Need-returns
 returns c =
     let start = c .before .before .before .before .before .before .before .before .before in
     let put-refusal = c .before .before .before .before .before .before .put-refusal in
+    let store = c .before .before .store in
     line-stored (start .args .code) (number-fits start) (values-fit start) _ _ refl (put-refusal .result) (put-refusal .ensures)
-    (start .args .out .now) _ (c .before .before .store .result) (c .before .before .store .ensures)
+    (start .args .out .now) _ (store .result) (store .ensures)
 
 pub refusal-line-spec : {M : Type 1} → statement M
 refusal-line-spec =

@@ -3,7 +3,7 @@
 use borrow.Author.Needs.{needs}
 use mathlib.Core.Path.{refl, sym}
 use lib.Seq.{length-take-le}
-use Rattle.report.proofs.Promised.{text-fits, report-stored, report-refused}
+use Rattle.report.proofs.PromiseCases.{text-fits, report-stored, report-refused}
 use Rattle.report.proofs.report.Statement.{statement}
 use Rattle.report.proofs.report.Tie as tie
 

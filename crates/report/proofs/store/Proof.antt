@@ -1,7 +1,7 @@
 -- `store` meets its contract.
 -- Assumes nothing.
 use borrow.Author.Needs.{needs}
-use Rattle.report.proofs.Promised.{store-short, store-whole}
+use Rattle.report.proofs.PromiseCases.{store-short, store-whole}
 use Rattle.report.proofs.store.Statement.{statement}
 use Rattle.report.proofs.store.Tie as tie
 

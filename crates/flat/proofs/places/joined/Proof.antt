@@ -18,9 +18,12 @@ put-places-requires-2 c κs = search needs
 
 returns : tie.Need-returns
 returns c =
-    let e : length (c .before .before .before .before .before .args .ends) ≡ 64 = search needs in
-    let s : length (c .before .before .before .before .before .args .starts) ≡ 64 = search needs in
-    rw (c .put-places2 .ensures, c .before .before .put-places .ensures) (both-stored (c .before .before .before .before .zeros .result) (c .before .before .before .before .before .args .ends) (c .before .before .before .before .before .args .starts) (rw (c .before .before .before .before .zeros .ensures)) e s)
+    let zeros = c .before .before .before .before .zeros in
+    let args = c .before .before .before .before .before .args in
+    let e : length (args .ends) ≡ 64 = search needs in
+    let s : length (args .starts) ≡ 64 = search needs in
+    rw (c .put-places2 .ensures, c .before .before .put-places .ensures)
+    (both-stored (zeros .result) (args .ends) (args .starts) (rw (zeros .ensures)) e s)
 
 pub joined-spec : {M : Type 1} → statement M
 joined-spec = tie.close (tie.spec zeros-requires put-places-requires put-places-requires-2 returns)

@@ -4,7 +4,7 @@ use borrow.Author.Needs.{needs}
 use mathlib.Core.Path.{_≡_}
 use Prim.Native.Nat.{_-_}
 use lib.ListN.{length}
-use Rattle.flat.proofs.PlacesCases.{PlacesSoFar, stored-start, stored-next, stored-done}
+use Rattle.flat.proofs.PlacesCases.{PlacesSoFar, places-start, places-next, places-done}
 use Rattle.flat.proofs.places.put_places.Statement.{statement}
 use Rattle.flat.proofs.places.put_places.Tie as tie
 
@@ -15,7 +15,7 @@ abbrev μ-loop : tie.MeasureT-loop
 μ-loop bounds₀ at xs i₀ bounds i = 64 - i
 
 loop-holds : tie.Need-loop-holds Inv-loop μ-loop
-loop-holds c = stored-start _ _ _
+loop-holds c = places-start _ _ _
 
 mul-bounds : tie.Need-mul-bounds Inv-loop μ-loop
 mul-bounds c = search needs
@@ -44,12 +44,12 @@ loop-less c = search needs
 loop-again : tie.Need-loop-again Inv-loop μ-loop
 loop-again c =
     let k : length (c .before .before .args .t1) ≡ 64 = search needs in
-    stored-next (c .before .loop .inv) k _ (c .loop-test .taken)
+    places-next (c .before .loop .inv) k _ (c .loop-test .taken)
 
 returns : tie.Need-returns Inv-loop μ-loop
 returns c =
     let k : length (c .before .before .args .t1) ≡ 64 = search needs in
-    stored-done (c .before .loop .inv) k (c .loop-test .left)
+    places-done (c .before .loop .inv) k (c .loop-test .left)
 
 pub put-places-spec : {M : Type 1} → statement M
 put-places-spec =

@@ -82,7 +82,11 @@ u16-of-requires-3 c κs = search needs
 
 returns : tie.Need-returns
 returns c =
-    entry-in-is (c .before .before .before .before .before .before .before .before .before .before .before .before .args .fields .now) (c .before .before .before .before .before .before .before .before .before .before .before .before .args .at) (c .before .before .before .before .before .before .before .before .before .seal-in .ensures) (c .before .before .before .before .u16-of .ensures) (c .before .before .u16-of2 .ensures) (c .u16-of3 .ensures) (c .before .before .before .before .before .before .before .kind-in .ensures)
+    let kind-in = c .before .before .before .before .before .before .before .kind-in in
+    let seal-in = c .before .before .before .before .before .before .before .before .before .seal-in in
+    let args = c .before .before .before .before .before .before .before .before .before .before .before .before .args in
+    entry-in-is (args .fields .now) (args .at) (seal-in .ensures) (c .before .before .before .before .u16-of .ensures)
+    (c .before .before .u16-of2 .ensures) (c .u16-of3 .ensures) (kind-in .ensures)
 
 pub entry-in-spec : {M : Type 1} → statement M
 entry-in-spec =

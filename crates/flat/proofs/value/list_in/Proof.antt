@@ -58,7 +58,10 @@ u8-of-requires : tie.Need-u8-of-requires Inv-loop μ-loop
 u8-of-requires c κs = search needs
 
 returns : tie.Need-returns Inv-loop μ-loop
-returns c = rw (c .u8-of .ensures, c .before .before .u16-of .ensures, read-in-done (c .before .before .before .before .before .loop .inv) (c .before .before .before .before .loop-test .left))
+returns c =
+    let loop-test = c .before .before .before .before .loop-test in
+    let loop = c .before .before .before .before .before .loop in
+    rw (c .u8-of .ensures, c .before .before .u16-of .ensures, read-in-done (loop .inv) (loop-test .left))
 
 pub list-in-spec : {M : Type 1} → statement M
 list-in-spec =

@@ -26,11 +26,9 @@ mul-result c = omega (arith, c .shared-slice-known2 .given (c .before .before .a
 
 add-result-2 : tie.Need-add-result-2
 add-result-2 c =
-    omega (
-      arith,
-      c .shared-slice-known2 .given (c .before .before .args .i + 1),
-      c .shared-slice-known2 .given (c .before .before .args .i),
-    )
+    let i = c .before .before .args .i in
+    let bytes = c .shared-slice-known2 in
+    omega (arith, bytes .given (i + 1), bytes .given i)
 
 returns : tie.Need-returns
 returns c = search needs

@@ -11,7 +11,9 @@ add-t9 : tie.Need-add-t9
 add-t9 c = search needs
 
 returns : tie.Need-returns
-returns c = entry-none (c .before .before .args .frame) (c .before .before .args .at) (now (c .before .before .args .rest)) (c .if1 .taken)
+returns c =
+    let args = c .before .before .args in
+    entry-none (args .frame) (args .at) (now (args .rest)) (c .if1 .taken)
 
 shared-slice-read-map-answer : tie.Need-shared-slice-read-map-answer
 shared-slice-read-map-answer c = search needs

@@ -15,7 +15,8 @@ use Rattle.format.proofs.form.put_entry.Tie as tie
 -- room for what follows the map byte, and for what follows the serial
 map-room : (c : tie.After-map-of)
     → let args = c .before .before .before .args in
-    (args .at + 1) + length (afterMap (c .before .fields-in .result) (args .e)) ≤ length (set (args .out .now) (args .at) (c .map-of .result))
+    let rest = afterMap (c .before .fields-in .result) (args .e) in
+    (args .at + 1) + length rest ≤ length (set (args .out .now) (args .at) (c .map-of .result))
 map-room c =
     let start = c .before .before .before in
     let args = start .args in
@@ -25,22 +26,24 @@ map-room c =
 
 serial-room : (c : tie.After-put-u32)
     → let e = c .before .before .before .before .before .args .e in
-    c .put-u32 .result + length (afterSerial (c .before .before .before .fields-in .result) e) ≤ length (c .put-u32 .last .0)
+    let m = c .before .before .before .fields-in .result in
+    c .put-u32 .result + length (afterSerial m e) ≤ length (c .put-u32 .last .0)
 serial-room c =
     let e = c .before .before .before .before .before .args .e in
-    room-after (c .put-u32 .ensures) (afterSerial (c .before .before .before .fields-in .result) e) (map-room (c .before .before))
+    let m = c .before .before .before .fields-in .result in
+    room-after (c .put-u32 .ensures) (afterSerial m e) (map-room (c .before .before))
 
 -- the entry's one form was stored
 stored : (c : tie.After-put-times)
     → let args = c .before .before .before .before .before .before .before .before .before .before .before .before .before .args in
     Wrote (args .out .now) (args .at) (entryBytes (args .frame) (args .e)) (c .put-times .last .0) (c .put-times .result)
 stored c =
-    let args = c .before .before .before .before .before .before .before .before .before .before .before .before .before .args in
-    let fields-in = c .before .before .before .before .before .before .before .before .before .before .before .fields-in in
-    let map-of = c .before .before .before .before .before .before .before .before .before .before .map-of in
-    let put-u32 = c .before .before .before .before .before .before .before .before .put-u32 in
-    let put-seal = c .before .before .before .before .put-seal in
-    entry-stored (args .frame) (args .e) (fields-in .ensures) (map-of .ensures) (put-u32 .ensures) (put-seal .ensures) (c .put-times .ensures)
+    let sealed = c .before .before .before .before in
+    let serial = sealed .before .before .before .before in
+    let mapped = serial .before .before in
+    let args = mapped .before .before .before .args in
+    entry-stored (args .frame) (args .e) (mapped .before .fields-in .ensures) (mapped .map-of .ensures) (serial .put-u32 .ensures)
+    (sealed .put-seal .ensures) (c .put-times .ensures)
 
 fields-in-requires : tie.Need-fields-in-requires
 fields-in-requires c κs = search needs

@@ -71,13 +71,19 @@ returns-10 : tie.Need-returns-10
 returns-10 c = breaks _ (c .before .before .before .before .fits .map .fits) (c .before .before .before .match .rest)
 
 returns-11 : tie.Need-returns-11
-returns-11 c = breaks _ (c .before .before .before .before .before .fits .map .fits) (c .before .before .before .before .match .rest)
+returns-11 c =
+    let tested = c .before .before .before .before in
+    breaks _ (tested .before .fits .map .fits) (tested .match .rest)
 
 returns-12 : tie.Need-returns-12
-returns-12 c = breaks _ (c .before .before .before .fits .map .fits) (c .before .before .match .rest)
+returns-12 c =
+    let tested = c .before .before in
+    breaks _ (tested .before .fits .map .fits) (tested .match .rest)
 
 returns-13 : tie.Need-returns-13
-returns-13 c = breaks _ (c .before .before .before .before .before .fits .map .fits) (c .before .before .before .before .match .rest)
+returns-13 c =
+    let tested = c .before .before .before .before in
+    breaks _ (tested .before .fits .map .fits) (tested .match .rest)
 
 pub map-answer-spec : {M : Type 1} → statement M
 map-answer-spec =

@@ -6,8 +6,8 @@ use Prim.Native.Nat.{ℕ}
 use Rattle.format.specs.Reading.{frameOf, countOf}
 use Rattle.list.proofs.Verdicts.{by-accepted}
 use Rattle.list.proofs.Sound.{header-of}
-use Rattle.format.proofs.ReadCases.{answers-refused, read-short, read-header, read-body}
-use Rattle.format.proofs.Promised.{reads}
+use Rattle.format.proofs.ReadCases.{reads-refused, read-short, read-header, read-body}
+use Rattle.format.proofs.CallCases.{reads}
 use Rattle.format.proofs.reader.read.Statement.{statement}
 use Rattle.format.proofs.reader.read.Tie as tie
 
@@ -22,7 +22,7 @@ returns : tie.Need-returns
 returns c =
     let args = c .before .before .before .args in
     reads (args .bytes .now) _ (λ i. c .before .before .shared-slice-known .given i .fits)
-    (answers-refused _ _ _ (c .refused-with .ensures) (read-short (args .bytes .now) (c .before .if1 .taken)))
+    (reads-refused _ _ _ (c .refused-with .ensures) (read-short (args .bytes .now) (c .before .if1 .taken)))
 
 u16-at-requires : tie.Need-u16-at-requires
 u16-at-requires c κs = search needs
@@ -68,7 +68,7 @@ returns-3 c =
     let frame = frame-read (c .before .before .before .before .before .before) in
     let header-fault = c .before .before .before .before .header-fault in
     reads bytes _ (λ i. shared-slice-known .given i .fits)
-    (answers-refused _ _ _ (c .refused-with2 .ensures)
+    (reads-refused _ _ _ (c .refused-with2 .ensures)
     (read-header bytes _ (header-fault .result) frame (if1 .left) (header-fault .ensures) _ (c .before .before .header .given .1)))
 
 pub read-spec : {M : Type 1} → statement M

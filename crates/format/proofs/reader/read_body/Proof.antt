@@ -6,7 +6,8 @@ use mathlib.Core.Path.{sym, ap, _∙_}
 use native.Mathlib.Omega.{arith}
 use Prim.Native.Nat.{_-_}
 use Rattle.base.specs.Outcomes.{answered}
-use Rattle.format.proofs.ReadCases.{SoFar, start, entry-refused, next, done, list-is, size-here, body-refused, body-left, body-done, answers-refused, answers-list}
+use Rattle.format.proofs.ReadCases.{SoFar, start, entry-refused, next, done, list-read, size-here}
+use Rattle.format.proofs.ReadCases.{body-refused, body-left, body-done, reads-refused, reads-list}
 use Rattle.format.proofs.reader.read_body.Statement.{statement}
 use Rattle.format.proofs.reader.read_body.Tie as tie
 
@@ -74,7 +75,7 @@ returns c =
     let loop-test = c .before .before .before .before .before .before .loop-test in
     let read-entry = c .before .before .before .before .read-entry in
     let o = entry-refused (loop .inv) (read-entry .result) _ (loop-test .taken) (read-entry .ensures) (c .before .before .one2 .given .1) in
-    answers-refused _ _ _ (c .refused-with .ensures) (body-refused (args .bytes .now) _ _ (pre .2) (pre .3) _ o)
+    reads-refused _ _ _ (c .refused-with .ensures) (body-refused (args .bytes .now) _ _ (pre .2) (pre .3) _ o)
 
 add-i : tie.Need-add-i Inv-loop μ-loop
 add-i c = search needs
@@ -99,7 +100,7 @@ returns-2 c =
     let args = c .before .before .before .before .before .before .before .args in
     let loop = c .before .before .before .loop in
     let o = done (loop .inv) (c .before .before .loop-test .left) in
-    answers-refused _ _ _ (c .refused-with2 .ensures) (body-left (args .bytes .now) _ _ (pre .2) (pre .3) _ _ o (c .before .if1 .taken))
+    reads-refused _ _ _ (c .refused-with2 .ensures) (body-left (args .bytes .now) _ _ (pre .2) (pre .3) _ _ o (c .before .if1 .taken))
 
 returns-3 : tie.Need-returns-3 Inv-loop μ-loop
 returns-3 c =
@@ -108,8 +109,8 @@ returns-3 c =
     let loop-test = c .before .loop-test in
     let s = c .before .before .loop .inv in
     let o = done s (loop-test .left) in
-    answers-list _ _ (body-done (args .bytes .now) _ _ (pre .2) (pre .3) _ _ o (c .if1 .left) ∙ ap answered
-    (sym (list-is s (pre .1) (loop-test .left))))
+    reads-list _ _ (body-done (args .bytes .now) _ _ (pre .2) (pre .3) _ _ o (c .if1 .left) ∙ ap answered
+    (sym (list-read s (pre .1) (loop-test .left))))
 
 pub read-body-spec : {M : Type 1} → statement M
 read-body-spec =

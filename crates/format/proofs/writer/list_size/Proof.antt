@@ -1,4 +1,4 @@
--- `writer::list_size` meets its contract. The loop's invariant is `Counted`: what was counted and what is left make the one form's
+-- `writer::list_size` meets its contract. The loop's invariant is `SizedSoFar`: what was counted and what is left make the one form's
 -- length. The measure is what is left of n.
 -- Assumes nothing.
 use borrow.Author.Needs.{needs}
@@ -7,12 +7,12 @@ use Prim.Native.Nat.{_+_, _≤_, _-_}
 use native.Mathlib.Omega.{arith}
 use lib.ListN.{length}
 use Rattle.base.proofs.Walk.{length-mapped}
-use Rattle.format.proofs.WriteCases.{Counted, list-short, counted-start, counted-next, counted-done}
+use Rattle.format.proofs.WriteCases.{SizedSoFar, list-short, sized-start, sized-next, sized-done}
 use Rattle.format.proofs.writer.list_size.Statement.{statement}
 use Rattle.format.proofs.writer.list_size.Tie as tie
 
 abbrev Inv-loop : tie.InvT-loop
-Inv-loop list n size₀ i₀ size i = Counted list size i
+Inv-loop list n size₀ i₀ size i = SizedSoFar list size i
 
 abbrev μ-loop : tie.MeasureT-loop
 μ-loop list n size₀ i₀ size i = list .n - i
@@ -22,21 +22,21 @@ enough : (c : tie.Start Inv-loop μ-loop) → c .args .t1 .n ≤ length (c .args
 enough c = let len : length (c .args .t1 .entries) ≡ 64 = search (needs, length-mapped) in omega (arith, len, c .pre)
 
 -- one entry more was counted
-counted : (c : tie.After-size-of Inv-loop μ-loop)
-    → let loop = c .before .before .before .before .before .loop in
-    Counted (c .before .before .before .before .before .before .args .t1) (loop .size + c .size-of .result) (loop .i + 1)
-counted c =
+sized : (c : tie.After-size-of Inv-loop μ-loop)
+    → let turn = c .before .before .before .before .before in
+    SizedSoFar (turn .before .args .t1) (turn .loop .size + c .size-of .result) (turn .loop .i + 1)
+sized c =
     let start = c .before .before .before .before .before .before in
     let loop = c .before .before .before .before .before .loop in
     let fields-in = c .before .fields-in in
-    counted-next (start .args .t1) (enough start) _ _ (loop .i) _ (fields-in .result) (loop .inv)
+    sized-next (start .args .t1) (enough start) _ _ (loop .i) _ (fields-in .result) (loop .inv)
     (c .before .before .before .before .loop-test .taken) (fields-in .ensures) (c .size-of .ensures)
 
 cast-n : tie.Need-cast-n Inv-loop μ-loop
 cast-n c = search needs
 
 loop-holds : tie.Need-loop-holds Inv-loop μ-loop
-loop-holds c = counted-start (c .args .t1)
+loop-holds c = sized-start (c .args .t1)
 
 mul-fields-in : tie.Need-mul-fields-in Inv-loop μ-loop
 mul-fields-in c = search needs
@@ -53,7 +53,7 @@ size-of-requires c κs = search needs
 add-size : tie.Need-add-size Inv-loop μ-loop
 add-size c =
     let start = c .before .before .before .before .before .before in
-    omega (arith, list-short (start .args .t1) (start .pre), counted c .total)
+    omega (arith, list-short (start .args .t1) (start .pre), sized c .total)
 
 add-i : tie.Need-add-i Inv-loop μ-loop
 add-i c = search needs
@@ -62,12 +62,12 @@ loop-less : tie.Need-loop-less Inv-loop μ-loop
 loop-less c = search needs
 
 loop-again : tie.Need-loop-again Inv-loop μ-loop
-loop-again c = counted c
+loop-again c = sized c
 
 returns : tie.Need-returns Inv-loop μ-loop
 returns c =
     let start = c .before .before in
-    counted-done (start .args .t1) (enough start) _ _ (c .before .loop .inv) (c .loop-test .left)
+    sized-done (start .args .t1) (enough start) _ _ (c .before .loop .inv) (c .loop-test .left)
 
 pub list-size-spec : {M : Type 1} → statement M
 list-size-spec =

@@ -63,7 +63,8 @@ loop-again c =
     let start = c .before .before .before .before .before .before .before .before .before .before .before .before .before in
     let loop = c .before .before .before .before .before .before .loop in
     let loop-test = c .before .before .before .before .before .loop-test in
-    stored-next (start .args .t1) (enough start) _ _ _ _ _ (loop .i) _ (loop .inv) (loop-test .taken) (c .before .before .put-entry .ensures)
+    stored-next (start .args .t1) (enough start) _ _ _ _ _ (loop .i) _ (loop .inv) (loop-test .taken)
+    (c .before .before .put-entry .ensures)
 
 same-length : tie.Need-same-length Inv-loop μ-loop
 same-length c =

@@ -7,7 +7,7 @@ use Rattle.base.proofs.Walk.{length-mapped}
 use Rattle.list.proofs.InTypes.{each-serial, each-seal}
 use Rattle.list.proofs.Verdicts.{by-accepted}
 use Rattle.format.proofs.WriteCases.{has-room}
-use Rattle.format.proofs.Promised.{write-refused, write-short, write-done}
+use Rattle.format.proofs.CallCases.{write-refused, write-short, write-done}
 use Rattle.format.proofs.writer.write.Statement.{statement}
 use Rattle.format.proofs.writer.write.Tie as tie
 

@@ -3,13 +3,13 @@
 use borrow.Author.Needs.{needs}
 use mathlib.Core.Path.{refl}
 use Prim.Native.Nat.{_-_}
-use Rattle.jackson.specs.Minutes.{stateOf}
+use Rattle.jackson.specs.Minutes.{stateIn}
 use Rattle.jackson.proofs.CallCases.{Stored, store-start, store-next, store-done, store-long}
 use Rattle.jackson.proofs.fill.store_places.Statement.{statement}
 use Rattle.jackson.proofs.fill.store_places.Tie as tie
 
 abbrev Inv-loop : tie.InvT-loop
-Inv-loop h plan₀ today₀ i₀ plan today i = Stored (stateOf today₀) h plan₀ plan today i
+Inv-loop h plan₀ today₀ i₀ plan today i = Stored (stateIn today₀) h plan₀ plan today i
 
 abbrev μ-loop : tie.MeasureT-loop
 μ-loop h plan₀ today₀ i₀ plan today i = h - i

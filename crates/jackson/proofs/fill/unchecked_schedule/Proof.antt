@@ -10,7 +10,9 @@ cast-h : tie.Need-cast-h
 cast-h c = search needs
 
 returns : tie.Need-returns
-returns c = no-room (windowsIn (c .before .before .before .args .windows)) (c .before .before .before .args .plan .now) (c .if1 .taken)
+returns c =
+    let args = c .before .before .before .args in
+    no-room (windowsIn (args .windows)) (args .plan .now) (c .if1 .taken)
 
 day-start-requires : tie.Need-day-start-requires
 day-start-requires c κs = search needs

@@ -1,18 +1,17 @@
 -- The scan finds the definition's left end. The loop's invariant is the best so far, the measure what is left of the places.
 -- Assumes nothing.
 use borrow.Author.Needs.{needs}
-use Prim.Native.Nat.{ℕ, _-_}
-use lib.ListN.{getD}
+use Prim.Native.Nat.{_-_}
 use Rattle.base.specs.Counting.{larger}
-use Rattle.jackson.specs.Windows.{columns}
 use Rattle.jackson.specs.Intervals.{leftOf, leftEnd}
+use Rattle.jackson.specs.Internal.{windowsHeld}
 use Rattle.base.proofs.Scans.{larger-ranks}
 use Rattle.jackson.proofs.ScanCases.{Searched, search-start, search-next, search-done, search-in}
 use Rattle.jackson.proofs.interval.left_end.Statement.{statement}
 use Rattle.jackson.proofs.interval.left_end.Tie as tie
 
 abbrev Inv-loop : tie.InvT-loop
-Inv-loop count r d p b k₀ i₀ k i = Searched count (leftOf (columns 0 count r d p) b) (larger (λ (j : ℕ). getD r j 0)) count k i
+Inv-loop count r d p b k₀ i₀ k i = let w = windowsHeld count r d p in Searched count (leftOf w b) (larger (w .r)) count k i
 
 abbrev μ-loop : tie.MeasureT-loop
 μ-loop count r d p b k₀ i₀ k i = count - i
@@ -23,7 +22,9 @@ loop-holds c = search-start (c .pre)
 larger-left-requires : tie.Need-larger-left-requires Inv-loop μ-loop
 larger-left-requires c κs =
     let loop = c .before .loop in
-    (loop .inv .held, (c .loop-test .taken, search-in (larger-ranks (λ (j : ℕ). getD (c .before .before .args .r .now) j 0)) (loop .inv)))
+    let args = c .before .before .args in
+    let w = windowsHeld (args .count) (args .r .now) (args .d .now) (args .p .now) in
+    (loop .inv .held, (c .loop-test .taken, search-in (larger-ranks (w .r)) (loop .inv)))
 
 add-i : tie.Need-add-i Inv-loop μ-loop
 add-i c = search needs

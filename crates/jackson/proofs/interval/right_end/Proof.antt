@@ -1,18 +1,17 @@
 -- The scan finds the definition's right end. The loop's invariant is the best so far, the measure what is left of the places.
 -- Assumes nothing.
 use borrow.Author.Needs.{needs}
-use Prim.Native.Nat.{ℕ, _-_}
-use lib.ListN.{getD}
+use Prim.Native.Nat.{_-_}
 use Rattle.base.specs.Counting.{smaller}
-use Rattle.jackson.specs.Windows.{columns}
 use Rattle.jackson.specs.Intervals.{rightOf, rightEnd}
+use Rattle.jackson.specs.Internal.{windowsHeld}
 use Rattle.base.proofs.Scans.{smaller-ranks}
 use Rattle.jackson.proofs.ScanCases.{Searched, search-start, search-next, search-done, search-in}
 use Rattle.jackson.proofs.interval.right_end.Statement.{statement}
 use Rattle.jackson.proofs.interval.right_end.Tie as tie
 
 abbrev Inv-loop : tie.InvT-loop
-Inv-loop count r d p k₀ i₀ k i = Searched count (rightOf (columns 0 count r d p)) (smaller (λ (j : ℕ). getD d j 0)) count k i
+Inv-loop count r d p k₀ i₀ k i = let w = windowsHeld count r d p in Searched count (rightOf w) (smaller (w .d)) count k i
 
 abbrev μ-loop : tie.MeasureT-loop
 μ-loop count r d p k₀ i₀ k i = count - i
@@ -23,7 +22,9 @@ loop-holds c = search-start (c .pre)
 smaller-right-requires : tie.Need-smaller-right-requires Inv-loop μ-loop
 smaller-right-requires c κs =
     let loop = c .before .loop in
-    (loop .inv .held, (c .loop-test .taken, search-in (smaller-ranks (λ (j : ℕ). getD (c .before .before .args .d .now) j 0)) (loop .inv)))
+    let args = c .before .before .args in
+    let w = windowsHeld (args .count) (args .r .now) (args .d .now) (args .p .now) in
+    (loop .inv .held, (c .loop-test .taken, search-in (smaller-ranks (w .d)) (loop .inv)))
 
 add-i : tie.Need-add-i Inv-loop μ-loop
 add-i c = search needs

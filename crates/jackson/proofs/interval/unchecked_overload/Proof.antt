@@ -8,13 +8,14 @@ use Rattle.jackson.proofs.interval.unchecked_overload.Tie as tie
 
 -- the left end found is one of the places
 left-below : (c : tie.After-left-end)
-    → c .left-end .result < c .before .before .before .before .before .before .before .before .before .before .before .before .places-held .result
+    → let right = c .before .before .before .before .before in
+    c .left-end .result < right .before .before .before .before .before .before .before .places-held .result
 left-below c =
-    let args = c .before .before .before .before .before .before .before .before .before .before .before .before .before .args in
-    let places-held = c .before .before .before .before .before .before .before .before .before .before .before .before .places-held in
-    let right-end = c .before .before .before .before .before .right-end in
+    let right = c .before .before .before .before .before in
+    let held = right .before .before .before .before .before .before .before in
     let if1 = c .before .before .before .before .if1 in
-    rw (c .left-end .ensures) (left-in (args .windows) _ (places-held .ensures) _ (right-end .ensures) (if1 .left))
+    rw (c .left-end .ensures)
+    (left-in (held .before .args .windows) _ (held .places-held .ensures) _ (right .right-end .ensures) (if1 .left))
 
 places-held-requires : tie.Need-places-held-requires
 places-held-requires c κs = search needs
@@ -49,15 +50,12 @@ work-in-requires c κs = search needs
 
 returns-2 : tie.Need-returns-2
 returns-2 c =
-    let args =
-    c .before .before .before .before .before .before .before .before .before .before .before .before .before .before .before .before .before .args in
-    let places-held =
-    c .before .before .before .before .before .before .before .before .before .before .before .before .before .before .before .before .places-held in
-    let right-end = c .before .before .before .before .before .before .before .before .before .right-end in
-    let if1 = c .before .before .before .before .before .before .before .before .if1 in
-    let left-end = c .before .before .before .before .left-end in
-    overload-shown (args .windows) (places-held .result) (places-held .ensures) (right-end .result) (right-end .ensures) (left-end .result)
-    (c .work-in .result) (if1 .left) (left-end .ensures) (c .work-in .ensures)
+    let left = c .before .before .before .before in
+    let right = left .before .before .before .before .before in
+    let held = right .before .before .before .before .before .before .before in
+    let if1 = left .before .before .before .before .if1 in
+    overload-shown (held .before .args .windows) (held .places-held .result) (held .places-held .ensures) (right .right-end .result)
+    (right .right-end .ensures) (left .left-end .result) (c .work-in .result) (if1 .left) (left .left-end .ensures) (c .work-in .ensures)
 
 pub unchecked-overload-spec : {M : Type 1} → statement M
 unchecked-overload-spec =

@@ -5,18 +5,17 @@ use borrow.Author.Needs.{needs, zero≤}
 use mathlib.Core.Path.{_≡_, sym, _∙_}
 use Prim.Native.Nat.{_≤_, _-_}
 use native.Mathlib.Omega.{arith}
-use lib.ListN.{length, drop}
-use Rattle.list.specs.DayLists.{entriesOf}
-use Rattle.list.specs.Checks.{checkOf, entriesFault}
+use lib.ListN.{length}
+use Rattle.list.specs.Checks.{checkOf}
 use Rattle.base.proofs.Walk.{length-mapped}
 use Rattle.list.proofs.Verdicts.{by-accepted}
 use Rattle.list.proofs.Sound.{header-of}
-use Rattle.list.proofs.CheckCases.{check-header, check-entries, check-refused, check-next, check-done}
+use Rattle.list.proofs.CheckCases.{faultFrom, check-header, check-entries, check-refused, check-next, check-done}
 use Rattle.list.proofs.checks.check.Statement.{statement}
 use Rattle.list.proofs.checks.check.Tie as tie
 
 abbrev Inv-loop : tie.InvT-loop
-Inv-loop list n count i₀ i = (i ≤ list .n) × (list .n ≤ 64) × (checkOf list ≡ entriesFault (list .frame) i (drop i (entriesOf list)))
+Inv-loop list n count i₀ i = (i ≤ list .n) × (list .n ≤ 64) × (checkOf list ≡ faultFrom list i)
 
 abbrev μ-loop : tie.MeasureT-loop
 μ-loop list n count i₀ i = list .n - i

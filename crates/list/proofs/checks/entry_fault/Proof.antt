@@ -9,7 +9,9 @@ use Rattle.list.proofs.checks.entry_fault.Statement.{statement}
 use Rattle.list.proofs.checks.entry_fault.Tie as tie
 
 returns : tie.Need-returns
-returns c = no-minutes (c .before .before .args .frame) (c .before .before .args .place) (c .before .before .args .e) (c .if1 .taken)
+returns c =
+    let args = c .before .before .args in
+    no-minutes (args .frame) (args .place) (args .e) (c .if1 .taken)
 
 returns-2 : tie.Need-returns-2
 returns-2 c =

@@ -8,7 +8,9 @@ use Rattle.list.proofs.checks.header_fault.Statement.{statement}
 use Rattle.list.proofs.checks.header_fault.Tie as tie
 
 returns : tie.Need-returns
-returns c = no-day (c .before .args .place) (c .before .args .frame) (c .before .args .n) (c .if1 .taken)
+returns c =
+    let args = c .before .args in
+    no-day (args .place) (args .frame) (args .n) (c .if1 .taken)
 
 returns-2 : tie.Need-returns-2
 returns-2 c =

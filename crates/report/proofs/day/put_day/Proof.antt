@@ -1,7 +1,7 @@
 -- `day::put_day` meets its contract: head, entries and runs.
 -- Assumes nothing.
 use borrow.Author.Needs.{needs}
-use Rattle.report.proofs.Steps.{puts-then}
+use Rattle.report.proofs.StepCases.{puts-then}
 use Rattle.report.proofs.day.put_day.Statement.{statement}
 use Rattle.report.proofs.day.put_day.Tie as tie
 
@@ -18,7 +18,9 @@ same-length : tie.Need-same-length
 same-length c = search needs
 
 returns : tie.Need-returns
-returns c = puts-then (c .before .before .before .before .before .before .before .before .before .before .put-head .ensures) (puts-then (c .before .before .before .before .before .before .put-entries .ensures) (c .before .before .put-runs .ensures))
+returns c =
+    puts-then (c .before .before .before .before .before .before .before .before .before .before .put-head .ensures)
+    (puts-then (c .before .before .before .before .before .before .put-entries .ensures) (c .before .before .put-runs .ensures))
 
 pub put-day-spec : {M : Type 1} → statement M
 put-day-spec =

@@ -3,7 +3,7 @@
 use borrow.Author.Needs.{needs}
 use borrow.Author.Tests.{eq-eqb, ne-eqb}
 use Rattle.report.specs.Text.{ascii}
-use Rattle.report.proofs.Steps.{puts-then}
+use Rattle.report.proofs.StepCases.{puts-then}
 use Rattle.report.proofs.lines.put_carried.Statement.{statement}
 use Rattle.report.proofs.lines.put_carried.Tie as tie
 

@@ -3,7 +3,7 @@
 use borrow.Author.Needs.{needs}
 use Rattle.report.specs.Text.{ascii, line}
 use Rattle.report.specs.Reports.{headLine}
-use Rattle.report.proofs.Steps.{puts-then}
+use Rattle.report.proofs.StepCases.{puts-then}
 use Rattle.report.proofs.lines.put_head.Statement.{statement}
 use Rattle.report.proofs.lines.put_head.Tie as tie
 
@@ -42,7 +42,14 @@ same-length c = search needs
 
 returns : tie.Need-returns
 unfolding headLine line ascii
-returns c = puts-then (c .before .before .before .before .before .before .before .before .before .before .before .before .before .before .before .before .before .before .before .before .before .before .put-after .ensures) (puts-then (c .before .before .before .before .before .before .before .before .before .before .before .before .before .before .before .before .before .put-after2 .ensures) (puts-then (c .before .before .before .before .before .before .before .before .before .before .before .before .put-after3 .ensures) (puts-then (c .before .before .before .before .before .before .before .put-after4 .ensures) (c .before .before .put-bytes .ensures))))
+returns c =
+    let last = c .before .before in
+    let fourth = last .before .before .before .before .before in
+    let third = fourth .before .before .before .before .before in
+    let second = third .before .before .before .before .before in
+    let first = second .before .before .before .before .before in
+    puts-then (first .put-after .ensures) (puts-then (second .put-after2 .ensures) (puts-then (third .put-after3 .ensures)
+    (puts-then (fourth .put-after4 .ensures) (last .put-bytes .ensures))))
 
 pub put-head-spec : {M : Type 1} → statement M
 put-head-spec =

@@ -2,7 +2,7 @@
 -- Assumes nothing.
 use borrow.Author.Needs.{needs}
 use Rattle.report.specs.Text.{ascii}
-use Rattle.report.proofs.Steps.{puts-then}
+use Rattle.report.proofs.StepCases.{puts-then}
 use Rattle.report.proofs.CallCases.{refusal-put}
 use Rattle.report.proofs.lines.put_refusal.Statement.{statement}
 use Rattle.report.proofs.lines.put_refusal.Tie as tie
@@ -28,11 +28,12 @@ same-length c = search needs
 returns : tie.Need-returns
 unfolding ascii
 returns c =
-    let put-after = c .before .before .before .before .before .before .before .before .before .before .before .put-after in
-    let put-carried = c .before .before .before .before .before .before .before .put-carried in
-    let args = c .before .before .before .before .before .before .before .before .before .before .before .before .before .before .before .before .args in
+    let last = c .before .before in
+    let carried = last .before .before .before .before .before in
+    let number = carried .before .before .before .before in
+    let args = number .before .before .before .before .before .args in
     refusal-put (args .code)
-    (puts-then (put-after .ensures) (puts-then (put-carried .ensures) (c .before .before .put-bytes .ensures)))
+    (puts-then (number .put-after .ensures) (puts-then (carried .put-carried .ensures) (last .put-bytes .ensures)))
 
 pub put-refusal-spec : {M : Type 1} → statement M
 put-refusal-spec =

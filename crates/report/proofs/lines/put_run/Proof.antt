@@ -3,7 +3,7 @@
 use borrow.Author.Needs.{needs}
 use Rattle.report.specs.Text.{ascii, line}
 use Rattle.report.specs.Reports.{runLine}
-use Rattle.report.proofs.Steps.{puts-then}
+use Rattle.report.proofs.StepCases.{puts-then}
 use Rattle.report.proofs.lines.put_run.Statement.{statement}
 use Rattle.report.proofs.lines.put_run.Tie as tie
 
@@ -33,7 +33,13 @@ same-length c = search needs
 
 returns : tie.Need-returns
 unfolding runLine line ascii
-returns c = puts-then (c .before .before .before .before .before .before .before .before .before .before .before .before .before .before .before .before .before .put-decimal .ensures) (puts-then (c .before .before .before .before .before .before .before .before .before .before .before .before .put-after .ensures) (puts-then (c .before .before .before .before .before .before .before .put-after2 .ensures) (c .before .before .put-bytes .ensures)))
+returns c =
+    let last = c .before .before in
+    let place = last .before .before .before .before .before in
+    let end = place .before .before .before .before .before in
+    let start = end .before .before .before .before .before in
+    puts-then (start .put-decimal .ensures) (puts-then (end .put-after .ensures) (puts-then (place .put-after2 .ensures)
+    (last .put-bytes .ensures)))
 
 pub put-run-spec : {M : Type 1} → statement M
 put-run-spec =

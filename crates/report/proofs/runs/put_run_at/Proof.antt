@@ -22,7 +22,13 @@ same-length : tie.Need-same-length
 same-length c = search needs
 
 returns : tie.Need-returns
-returns c = run-put (c .before .before .before .before .before .before .before .before .before .before .args .plan .now) _ (c .before .before .before .before .run-end .result) (c .before .before .before .before .before .before .before .before .before .before .pre) (sym (c .before .before .before .before .before .before .if1 .taken) ∙ c .before .before .before .before .before .before .before .begins-run .ensures) (c .before .before .before .before .run-end .ensures) (c .before .before .put-run .ensures)
+returns c =
+    let run-end = c .before .before .before .before .run-end in
+    let if1 = c .before .before .before .before .before .before .if1 in
+    let tested = c .before .before .before .before .before .before .before in
+    let start = tested .before .before .before in
+    let begins = sym (if1 .taken) ∙ tested .begins-run .ensures in
+    run-put (start .args .plan .now) _ (run-end .result) (start .pre) begins (run-end .ensures) (c .before .before .put-run .ensures)
 
 returns-2 : tie.Need-returns-2
 returns-2 c = run-none (c .before .before .before .before .args .plan .now) _ (sym (c .if1 .left) ∙ c .before .begins-run .ensures)

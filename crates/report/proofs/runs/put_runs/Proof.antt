@@ -4,14 +4,14 @@ use borrow.Author.Needs.{needs}
 use Prim.Native.Nat.{_-_}
 use lib.ListN.{length}
 use Rattle.report.specs.Text.{texts}
-use Rattle.jackson.specs.Plans.{placesIn}
-use Rattle.report.specs.Reports.{runLineAt, runLines}
-use Rattle.report.proofs.Steps.{PutSoFar, so-far-none, texts-next, texts-done}
+use Rattle.report.specs.Reports.{runLines}
+use Rattle.report.specs.Internal.{runTextAt}
+use Rattle.report.proofs.StepCases.{PutSoFar, so-far-none, texts-next, texts-done}
 use Rattle.report.proofs.runs.put_runs.Statement.{statement}
 use Rattle.report.proofs.runs.put_runs.Tie as tie
 
 abbrev Inv-loop : tie.InvT-loop
-Inv-loop out₀ at plan next₀ t₀ out next t = PutSoFar out₀ at (texts t (runLineAt (length plan) (placesIn plan))) out next t (length plan)
+Inv-loop out₀ at plan next₀ t₀ out next t = PutSoFar out₀ at (texts t (runTextAt plan)) out next t (length plan)
 
 abbrev μ-loop : tie.MeasureT-loop
 μ-loop out₀ at plan next₀ t₀ out next t = length plan - t
@@ -30,7 +30,12 @@ loop-less : tie.Need-loop-less Inv-loop μ-loop
 loop-less c = search needs
 
 loop-again : tie.Need-loop-again Inv-loop μ-loop
-loop-again c = texts-next (length (c .before .before .before .before .before .before .before .before .args .plan .now)) (runLineAt (length (c .before .before .before .before .before .before .before .before .args .plan .now)) (placesIn (c .before .before .before .before .before .before .before .before .args .plan .now))) (c .before .before .before .before .before .loop .inv) (c .before .before .before .before .loop-test .taken) (c .before .before .put-run-at .kept .0) (c .before .before .put-run-at .ensures)
+loop-again c =
+    let put-run-at = c .before .before .put-run-at in
+    let loop-test = c .before .before .before .before .loop-test in
+    let turn = c .before .before .before .before .before in
+    let plan = turn .before .before .before .args .plan .now in
+    texts-next (length plan) (runTextAt plan) (turn .loop .inv) (loop-test .taken) (put-run-at .kept .0) (put-run-at .ensures)
 
 same-length : tie.Need-same-length Inv-loop μ-loop
 same-length c = c .before .loop .inv .long

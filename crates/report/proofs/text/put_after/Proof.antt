@@ -1,7 +1,7 @@
 -- `text::put_after` meets its contract: the text, then the number.
 -- Assumes nothing.
 use borrow.Author.Needs.{needs}
-use Rattle.report.proofs.Steps.{puts-then}
+use Rattle.report.proofs.StepCases.{puts-then}
 use Rattle.report.proofs.text.put_after.Statement.{statement}
 use Rattle.report.proofs.text.put_after.Tie as tie
 
@@ -15,7 +15,9 @@ same-length : tie.Need-same-length
 same-length c = search needs
 
 returns : tie.Need-returns
-returns c = puts-then (c .before .before .before .before .before .before .put-bytes .ensures) (c .before .before .put-decimal .ensures)
+returns c =
+    let put-bytes = c .before .before .before .before .before .before .put-bytes in
+    puts-then (put-bytes .ensures) (c .before .before .put-decimal .ensures)
 
 pub put-after-spec : {M : Type 1} → statement M
 put-after-spec = tie.close (tie.spec put-bytes-requires put-decimal-requires same-length returns)

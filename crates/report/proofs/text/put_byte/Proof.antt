@@ -1,7 +1,7 @@
 -- `text::put_byte` meets its contract.
 -- Assumes nothing.
 use borrow.Author.Needs.{needs}
-use Rattle.report.proofs.Steps.{puts-one, puts-none}
+use Rattle.report.proofs.StepCases.{puts-one, puts-none}
 use Rattle.report.proofs.text.put_byte.Statement.{statement}
 use Rattle.report.proofs.text.put_byte.Tie as tie
 

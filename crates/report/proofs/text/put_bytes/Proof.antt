@@ -3,7 +3,7 @@
 use borrow.Author.Needs.{needs}
 use Prim.Native.Nat.{_-_}
 use lib.ListN.{length, take}
-use Rattle.report.proofs.Steps.{PutSoFar, so-far-none, bytes-next, bytes-done}
+use Rattle.report.proofs.StepCases.{PutSoFar, so-far-none, bytes-next, bytes-done}
 use Rattle.report.proofs.text.put_bytes.Statement.{statement}
 use Rattle.report.proofs.text.put_bytes.Tie as tie
 
@@ -29,7 +29,11 @@ loop-less : tie.Need-loop-less Inv-loop μ-loop
 loop-less c = search needs
 
 loop-again : tie.Need-loop-again Inv-loop μ-loop
-loop-again c = bytes-next (c .before .before .before .before .before .before .before .before .before .args .text .now) (c .before .before .before .before .before .before .loop .inv) (c .before .before .before .before .before .loop-test .taken) (c .before .before .put-byte .kept .0) (c .before .before .put-byte .ensures)
+loop-again c =
+    let put-byte = c .before .before .put-byte in
+    let loop-test = c .before .before .before .before .before .loop-test in
+    let turn = c .before .before .before .before .before .before in
+    bytes-next (turn .before .before .before .args .text .now) (turn .loop .inv) (loop-test .taken) (put-byte .kept .0) (put-byte .ensures)
 
 same-length : tie.Need-same-length Inv-loop μ-loop
 same-length c = c .before .loop .inv .long

@@ -2,8 +2,8 @@
 -- Assumes nothing.
 use borrow.Author.Needs.{needs}
 use native.Mathlib.Numerals.{towards-suc}
-use Rattle.flat.proofs.value.put_entry.Statement.{statement}
-use Rattle.flat.proofs.value.put_entry.Tie as tie
+use Rattle.flat.proofs.value.put_entry_numbers.Statement.{statement}
+use Rattle.flat.proofs.value.put_entry_numbers.Tie as tie
 
 mul-fields : tie.Need-mul-fields
 mul-fields c = search needs
@@ -84,10 +84,13 @@ element-write-fields-7 : tie.Need-element-write-fields-7
 element-write-fields-7 c = search needs
 
 returns : tie.Need-returns
-returns c = rw (c .before .before .before .before .seal-number .ensures, c .before .before .before .before .before .seal-flag .ensures, c .whole-flag .ensures) (simp towards-suc)
+returns c =
+    let seal-number = c .before .before .before .before .seal-number in
+    let seal-flag = c .before .before .before .before .before .seal-flag in
+    rw (seal-number .ensures, seal-flag .ensures, c .whole-flag .ensures) (simp towards-suc)
 
-pub put-entry-spec : {M : Type 1} → statement M
-put-entry-spec =
+pub put-entry-numbers-spec : {M : Type 1} → statement M
+put-entry-numbers-spec =
     tie.close
     (tie.spec
     mul-fields

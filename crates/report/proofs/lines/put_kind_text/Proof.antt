@@ -1,9 +1,9 @@
--- `lines::put_kind` meets its contract.
+-- `lines::put_kind_text` meets its contract.
 -- Assumes nothing.
 use borrow.Author.Needs.{needs}
 use Rattle.report.specs.Text.{ascii}
-use Rattle.report.proofs.lines.put_kind.Statement.{statement}
-use Rattle.report.proofs.lines.put_kind.Tie as tie
+use Rattle.report.proofs.lines.put_kind_text.Statement.{statement}
+use Rattle.report.proofs.lines.put_kind_text.Tie as tie
 
 enum-told : tie.Need-enum-told
 enum-told c = search needs
@@ -37,8 +37,8 @@ returns-2 : tie.Need-returns-2
 unfolding ascii
 returns-2 c = rw (c .before .before .before .before .before .enum-told2 .given .1) (c .before .before .put-bytes2 .ensures)
 
-pub put-kind-spec : {M : Type 1} → statement M
-put-kind-spec =
+pub put-kind-text-spec : {M : Type 1} → statement M
+put-kind-text-spec =
     tie.close
     (tie.spec
     enum-told

@@ -13,7 +13,7 @@ use Rattle.list.specs.Refusals.{verdictOf, writeAnswerOf}
 use Rattle.list.specs.DayLists.{SameList}
 use Rattle.list.specs.Checks.{WellFormed, checkOf}
 use Rattle.format.specs.Reading.{readOf}
-use Rattle.format.specs.Internal.{AnswersAs}
+use Rattle.format.specs.Internal.{ReadsAs}
 use Rattle.format.specs.Writing.{bytesOf, writeOf, bufferAfter}
 use Rattle.list.specs.Machine.{Bytes, Typed}
 use Rattle.format.specs.Calls.{Reads, Writes}
@@ -29,11 +29,13 @@ use Rattle.list.proofs.Verdicts.{by-refused}
 use Rattle.format.proofs.WriteCases.{list-written}
 use Rattle.format.proofs.RoundTrip.{written-reads-back, read-well-formed, read-one-form}
 
-pub reads : (bs : List ℕ) (a : ReadAnswer) → Bytes bs → AnswersAs (readOf bs) a → Reads bs a
+pub reads : (bs : List ℕ) (a : ReadAnswer) → Bytes bs → ReadsAs (readOf bs) a → Reads bs a
 reads bs a b w = record { outcome = w .outcome; beside = w .beside; back = λ l e. (read-well-formed bs l e, read-one-form bs l e b) }
 
 module _ (l : DayList) (old : List ℕ) (t : Typed l) where
-  promised : (a : WriteAnswer) (new : List ℕ) → writeAnswerOf a ≡ writeOf l (length old) → new ≡ bufferAfter (writeOf l (length old)) l old → Writes l old a new
+  promised : (a : WriteAnswer) (new : List ℕ) → writeAnswerOf a ≡ writeOf l (length old)
+      → new ≡ bufferAfter (writeOf l (length old)) l old
+      → Writes l old a new
   promised a new p q =
       record {
         outcome = p;
@@ -47,7 +49,8 @@ module _ (l : DayList) (old : List ℕ) (t : Typed l) where
   unfolding writeOf
   write-refused v x w a = let q = by-refused w a in promised (NotWritten x) old (rw q) (rw q)
 
-  pub write-short : (size : ℕ) → WellFormed l → size ≡ length (bytesOf l) → length old < size → Writes l old (NotWritten (ListBufferShort size)) old
+  pub write-short : (size : ℕ) → WellFormed l → size ≡ length (bytesOf l) → length old < size
+      → Writes l old (NotWritten (ListBufferShort size)) old
   unfolding writeOf
   write-short size w z h =
       let k : length old < length (bytesOf l) = omega (arith, z) in

@@ -1,9 +1,9 @@
--- `lines::put_seal` meets its contract.
+-- `lines::put_seal_text` meets its contract.
 -- Assumes nothing.
 use borrow.Author.Needs.{needs}
 use Rattle.report.specs.Text.{ascii}
-use Rattle.report.proofs.lines.put_seal.Statement.{statement}
-use Rattle.report.proofs.lines.put_seal.Tie as tie
+use Rattle.report.proofs.lines.put_seal_text.Statement.{statement}
+use Rattle.report.proofs.lines.put_seal_text.Tie as tie
 
 enum-told : tie.Need-enum-told
 enum-told c = search needs
@@ -40,8 +40,8 @@ returns-2 : tie.Need-returns-2
 unfolding ascii
 returns-2 c = rw (c .before .before .before .before .before .before .seal .given .1) (c .before .before .put-after .ensures)
 
-pub put-seal-spec : {M : Type 1} → statement M
-put-seal-spec =
+pub put-seal-text-spec : {M : Type 1} → statement M
+put-seal-text-spec =
     tie.close
     (tie.spec
     enum-told

@@ -1,11 +1,11 @@
--- `lines::put_times` meets its contract: its fields one after the other.
+-- `lines::put_times_text` meets its contract: its fields one after the other.
 -- Assumes nothing.
 use borrow.Author.Needs.{needs}
 use mathlib.Core.Path.{_∙_}
 use Rattle.report.specs.Text.{ascii}
 use Rattle.report.proofs.CallCases.{times-put}
-use Rattle.report.proofs.lines.put_times.Statement.{statement}
-use Rattle.report.proofs.lines.put_times.Tie as tie
+use Rattle.report.proofs.lines.put_times_text.Statement.{statement}
+use Rattle.report.proofs.lines.put_times_text.Tie as tie
 
 slice-aggregate-put-after : tie.Need-slice-aggregate-put-after
 slice-aggregate-put-after c = search needs
@@ -82,8 +82,8 @@ returns c =
     (fifth .put-after5 .ensures)
     (last .put-bytes .ensures)
 
-pub put-times-spec : {M : Type 1} → statement M
-put-times-spec =
+pub put-times-text-spec : {M : Type 1} → statement M
+put-times-text-spec =
     tie.close
     (tie.spec
     slice-aggregate-put-after
