@@ -1,0 +1,146 @@
+-- What the lines of a text say, read from its bytes alone. Laws.antt states the demands of these numbers.
+use Prim.Native.Nat.{ℕ, suc}
+use mathlib.Core.Bool.{Bool, true, false, cond, _&&_}
+use mathlib.Core.List.{List, [], _∷_, map}
+use lib.ListN.{getD, drop}
+use lib.Dec.{eqb, leb, ltb}
+use Rattle.list.specs.Outcomes.{Code, code, answered, refused}
+use Rattle.list.specs.DayLists.{dayList}
+use Rattle.list.specs.declared.types.Seal.{Seal}
+use Rattle.list.specs.declared.types.Seal.the-variants.{Missing, Number}
+use Rattle.list.specs.declared.types.Kind.{Kind}
+use Rattle.list.specs.declared.types.Kind.the-variants.{Pause, Whole}
+use Rattle.list.specs.declared.types.Entry.{Entry}
+use Rattle.list.specs.declared.types.DayList.{DayList}
+use Rattle.jackson.specs.Counting.{listOf}
+use Rattle.jackson.specs.Windows.{Windows, windowsOf}
+use Rattle.jackson.specs.Plans.{idle}
+use Rattle.bounds.specs.ShownPlans.{earlyPlan, latePlan}
+use Rattle.bounds.specs.Demand3.{Told}
+use Rattle.report.specs.Text.{ascii, saysAfter}
+
+-- Lines and fields.
+
+-- a byte before the first part
+abbrev pub inFirst : ℕ → List (List ℕ) → List (List ℕ)
+inFirst b [] = (b ∷ []) ∷ []
+inFirst b (f ∷ fs) = (b ∷ f) ∷ fs
+
+-- the parts of a text, each ended by the byte c; what stands after the last c is a part too
+unfoldable pub parts : ℕ → List ℕ → List (List ℕ)
+parts c [] = []
+parts c (b ∷ bs) = cond (eqb b c) ([] ∷ parts c bs) (inFirst b (parts c bs))
+
+-- "fields one space apart and every line ended by a newline": each line as its fields
+unfoldable pub linesOf : List ℕ → List (List (List ℕ))
+linesOf text = map (parts 32) (parts 10 text)
+
+-- line i; none from the text's end on
+abbrev pub lineAt : List ℕ → ℕ → List (List ℕ)
+lineAt text i = getD (linesOf text) i []
+
+-- the number that field j of a line says in base ten
+abbrev pub numberIn : List (List ℕ) → ℕ → ℕ
+numberIn fs j = saysAfter 0 (getD fs j [])
+
+-- whether two fields have the same bytes
+abbrev pub sameField : List ℕ → List ℕ → Bool
+sameField [] [] = true
+sameField [] (y ∷ ys) = false
+sameField (x ∷ xs) [] = false
+sameField (x ∷ xs) (y ∷ ys) = eqb x y && sameField xs ys
+
+-- The head line: "H, n, the moves and `broken`".
+
+abbrev pub dayPrinted : List ℕ → ℕ
+dayPrinted text = numberIn (lineAt text 0) 1
+
+abbrev pub countPrinted : List ℕ → ℕ
+countPrinted text = numberIn (lineAt text 0) 3
+
+abbrev pub movesPrinted : List ℕ → ℕ
+movesPrinted text = numberIn (lineAt text 0) 5
+
+abbrev pub brokenPrinted : List ℕ → ℕ
+brokenPrinted text = numberIn (lineAt text 0) 7
+
+-- The n lines after it, "per entry its place, serial, seal or `-`, `pause` or `whole`, settled r, settled d, p, least end, greatest start".
+
+abbrev pub sealSaid : List ℕ → Seal
+sealSaid f = cond (sameField f (ascii "-")) Missing (Number (saysAfter 0 f))
+
+abbrev pub kindSaid : List ℕ → Kind
+kindSaid f = cond (sameField f (ascii "whole")) Whole Pause
+
+-- the entry that a line says
+abbrev pub entryIn : List (List ℕ) → Entry
+entryIn fs =
+    record {
+      serial = numberIn fs 1;
+      seal = sealSaid (getD fs 2 []);
+      r = numberIn fs 4;
+      d = numberIn fs 5;
+      p = numberIn fs 6;
+      kind = kindSaid (getD fs 3 []);
+    }
+
+-- the list printed: the head line's H, and the entries of the n lines after it with their settled windows
+unfoldable pub listPrinted : List ℕ → DayList
+listPrinted text =
+    dayList (record { h = dayPrinted text }) (map (λ i. entryIn (lineAt text (suc i))) (listOf (countPrinted text) (λ i. i)))
+
+-- its windows
+abbrev pub windowsPrinted : List ℕ → Windows
+windowsPrinted text = windowsOf (listPrinted text)
+
+-- the place, the least end and the greatest start that the line of place i says
+abbrev pub placePrinted : List ℕ → ℕ → ℕ
+placePrinted text i = numberIn (lineAt text (suc i)) 0
+
+abbrev pub endPrinted : List ℕ → ℕ → ℕ
+endPrinted text i = numberIn (lineAt text (suc i)) 7
+
+abbrev pub startPrinted : List ℕ → ℕ → ℕ
+startPrinted text i = numberIn (lineAt text (suc i)) 8
+
+-- The lines after those, per run "its first minute, its end, the place".
+abbrev pub runsPrinted : List ℕ → List (List (List ℕ))
+runsPrinted text = drop (suc (countPrinted text)) (linesOf text)
+
+-- the run of a line has minute t
+abbrev pub hasMinute : List (List ℕ) → ℕ → Bool
+hasMinute fs t = leb (numberIn fs 0) t && ltb t (numberIn fs 1)
+
+-- the place of the first run that has minute t; a minute that no run has is idle
+unfoldable pub placeBy : List (List (List ℕ)) → ℕ → ℕ
+placeBy [] t = idle
+placeBy (fs ∷ rest) t = cond (hasMinute fs t) (numberIn fs 2) (placeBy rest t)
+
+-- the plan that the runs say, as bytes
+unfoldable pub planPrinted : List ℕ → List ℕ
+planPrinted text = listOf (dayPrinted text) (placeBy (runsPrinted text))
+
+-- What is told.
+
+-- the windows, moves and bounds printed, and the plans that they lead to
+abbrev pub toldBy : List ℕ → Told
+toldBy text =
+    let w = windowsPrinted text in
+    record {
+      outcome = answered (record { windows = w; moves = movesPrinted text });
+      end = endPrinted text;
+      start = startPrinted text;
+      early = λ k. earlyPlan w k (endPrinted text k);
+      late = λ k. latePlan w k (startPrinted text k);
+    }
+
+-- the refusal that a line says: its number, then three values after 9 and one after any other number, each after a word
+unfoldable pub codePrinted : List ℕ → Code
+codePrinted text =
+    let value = numberIn (lineAt text 0) in
+    code (value 1) (cond (eqb (value 1) 9) (value 3 ∷ value 5 ∷ value 7 ∷ []) (value 3 ∷ []))
+
+-- the refusal printed, which has no windows and plans beside it
+abbrev pub toldRefused : List ℕ → Told
+toldRefused text =
+    record { outcome = refused (codePrinted text); end = λ _. 0; start = λ _. 0; early = λ _. []; late = λ _. [] }
