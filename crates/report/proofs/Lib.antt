@@ -9,6 +9,9 @@ mod LineLengths
 pub mod Lengths
 -- How many bytes of an input decide its report.
 pub mod FirstBytes
+-- What the lines of a text say.
+mod Fields
+mod PrintedRuns
 -- Document 01's examples.
 pub mod Example
 -- The contracts leave one answer and one buffer.
