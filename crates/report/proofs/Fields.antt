@@ -105,19 +105,30 @@ abbrev pub Each : List (List (List ℕ)) → Type 0
 Each [] = Unit {0}
 Each (fs ∷ ls) = Words fs × Each ls
 
-pub each-append : (xs ys : List (List (List ℕ))) → Each xs → Each ys → Each (xs ++ ys)
+each-append : (xs ys : List (List (List ℕ))) → Each xs → Each ys → Each (xs ++ ys)
 each-append [] ys a b = b
 each-append (x ∷ xs) ys a b = (a .0, each-append xs ys (a .1) b)
 
-pub text-append : (xs ys : List (List (List ℕ))) → textOf (xs ++ ys) ≡ textOf xs ++ textOf ys
+text-append : (xs ys : List (List (List ℕ))) → textOf (xs ++ ys) ≡ textOf xs ++ textOf ys
 unfolding textOf
 text-append [] ys = refl
 text-append (x ∷ xs) ys = rw (text-append xs ys) (sym (append-assoc (line x) _ _))
 
-pub lines-said : (ls : List (List (List ℕ))) → Each ls → linesOf (textOf ls) ≡ ls
+lines-said : (ls : List (List (List ℕ))) → Each ls → linesOf (textOf ls) ≡ ls
 unfolding textOf linesOf parts
 lines-said [] e = refl
 lines-said (fs ∷ ls) e = line-said fs (textOf ls) (e .0) ∙ ap (λ (xs : List (List (List ℕ))). fs ∷ xs) (lines-said ls (e .1))
+
+-- a text of one line, and one of a line and two kinds of lines after it
+pub line-alone : (fs : List (List ℕ)) → Words fs → linesOf (line fs) ≡ fs ∷ []
+unfolding textOf
+line-alone fs w = ap linesOf (sym (append-nil (line fs))) ∙ lines-said (fs ∷ []) (w, tt)
+
+pub text-said : (fs : List (List ℕ)) (xs ys : List (List (List ℕ))) → Words fs → Each xs → Each ys
+    → linesOf (line fs ++ (textOf xs ++ textOf ys)) ≡ fs ∷ (xs ++ ys)
+unfolding textOf
+text-said fs xs ys w a b =
+    ap (λ (t : List ℕ). linesOf (line fs ++ t)) (sym (text-append xs ys)) ∙ lines-said (fs ∷ (xs ++ ys)) (w, each-append xs ys a b)
 
 -- The lines x i of those numbers below n that pass a test.
 

@@ -9,9 +9,11 @@ mod LineLengths
 pub mod Lengths
 -- How many bytes of an input decide its report.
 pub mod FirstBytes
--- What the lines of a text say.
+-- What the lines of a text say, and the law of what is printed: ReportLaws.
 mod Fields
+mod PrintedLines
 mod PrintedRuns
+pub mod ReportLaws
 -- Document 01's examples.
 pub mod Example
 -- The contracts leave one answer and one buffer.

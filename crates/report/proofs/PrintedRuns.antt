@@ -1,7 +1,6 @@
 -- The lines of the runs say the plan and its maximal runs.
 -- Assumes nothing.
 use mathlib.Core.Path.{_≡_, refl, sym, ap, _∙_}
-use mathlib.Core.Logic.{_↔_}
 use mathlib.Core.Bool.{Bool, true, false, cond, _&&_, false≢true}
 use mathlib.Core.List.{List, [], _∷_}
 use Prim.Native.Nat.{ℕ, zero, suc, _+_, _<_, _≤_}
@@ -14,14 +13,17 @@ use Rattle.jackson.proofs.Sums.{le-or-lt, same-cases}
 use Rattle.report.specs.Text.{decimal}
 use Rattle.report.specs.Runs.{beginsRun, runEnd, Run}
 use Rattle.report.specs.Printed.{numberIn, hasMinute, placeBy}
-use Rattle.report.specs.Laws.{SaysRun}
+use Rattle.report.specs.Laws.{SaysRun, SaysRuns}
 use Rattle.report.proofs.DecimalFacts.{decimal-is}
 use Rattle.report.proofs.RunFacts.{both, begins-so, runs-are}
-use Rattle.report.proofs.Fields.{kept, HasLine, kept-at, kept-has, kept-order}
+use Rattle.report.proofs.Fields.{Words, decimal-word, kept, HasLine, kept-at, kept-has, kept-order}
 
 -- the fields of a run's line
 abbrev pub runFields : ℕ → (ℕ → ℕ) → ℕ → List (List ℕ)
 runFields h m t = decimal t ∷ decimal (runEnd h m t) ∷ decimal (m t) ∷ []
+
+pub run-words : (h : ℕ) (m : ℕ → ℕ) (t : ℕ) → Words (runFields h m t)
+run-words h m t = search decimal-word
 
 has-minute : (fs : List (List ℕ)) (t : ℕ) → hasMinute fs t ≡ true → (numberIn fs 0 ≤ t) × (t < numberIn fs 1)
 has-minute fs t e = let (from, to) = both (leb (numberIn fs 0) t) (ltb t (numberIn fs 1)) e in (leb-true _ _ from, ltb-true _ _ to)
@@ -132,22 +134,25 @@ module _ (h : ℕ) (m : ℕ → ℕ) where
   same-run a b c run = rw (a, b, c) run
 
   -- and its maximal runs
-  pub runs-said : (s e k : ℕ) → Run h m s e k ↔ ((j : ℕ) × (j < length runsOf) × SaysRun (getD runsOf j []) s e k)
-  runs-said s e k = (there, back)
+  pub runs-said : SaysRuns h m runsOf
+  runs-said =
+      record {
+        each = λ s e k. (there s e k, back s e k);
+        in-order = kept-order (beginsRun m) (runFields h m) (λ fs. numberIn fs 0) (λ t. decimal-is t .value) h;
+      }
     where
-      there : Run h m s e k → (j : ℕ) × (j < length runsOf) × SaysRun (getD runsOf j []) s e k
-      there run =
+      Some : ℕ → ℕ → ℕ → Type 0
+      Some s e k = (j : ℕ) × (j < length runsOf) × SaysRun (getD runsOf j []) s e k
+
+      there : (s e k : ℕ) → Run h m s e k → Some s e k
+      there s e k run =
           let (below, passes, end, place) = runs-are h m s e k .0 run in
           let (j, line) = kept-has (beginsRun m) (runFields h m) h s below passes in
           let so = said j s line in
           (j, line .place, record { first = so .first; end = so .end ∙ sym end; place = so .place ∙ sym place })
 
-      back : (j : ℕ) × (j < length runsOf) × SaysRun (getD runsOf j []) s e k → Run h m s e k
-      back (j, below, says) =
+      back : (s e k : ℕ) → Some s e k → Run h m s e k
+      back s e k (j, below, says) =
           let (t, line) = kept-at (beginsRun m) (runFields h m) h j below in
           let so = said j t line in
           same-run (sym (says .first) ∙ so .first) (sym (says .end) ∙ so .end) (sym (says .place) ∙ so .place) (run-at j t line)
-
-  -- in the order of their minutes
-  pub runs-order : (i j : ℕ) → i < j → j < length runsOf → numberIn (getD runsOf i []) 0 < numberIn (getD runsOf j []) 0
-  runs-order = kept-order (beginsRun m) (runFields h m) (λ fs. numberIn fs 0) (λ t. decimal-is t .value) h

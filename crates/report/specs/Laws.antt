@@ -23,6 +23,11 @@ pub record SaysRun (fs : List (List ℕ)) (s e k : ℕ) : Type 0 where
   pub end : numberIn fs 1 ≡ e
   pub place : numberIn fs 2 ≡ k
 
+-- lines say the maximal runs of one entry in m, in the order of their minutes, so that no run has two lines
+pub record SaysRuns (h : ℕ) (m : ℕ → ℕ) (ls : List (List (List ℕ))) : Type 0 where
+  pub each : (s e k : ℕ) → Run h m s e k ↔ ((j : ℕ) × (j < length ls) × SaysRun (getD ls j []) s e k)
+  pub in-order : (i j : ℕ) → i < j → j < length ls → numberIn (getD ls i []) 0 < numberIn (getD ls j []) 0
+
 -- the numbers of a text are a plan of the list l
 pub record PrintsPlan (l : DayList) (text : List ℕ) : Type 0 where
   -- H, n, and of each entry the serial, seal, kind and minutes of work are those of l
@@ -33,12 +38,8 @@ pub record PrintsPlan (l : DayList) (text : List ℕ) : Type 0 where
   pub demand2 : PlansWindows (wholeIn l) (windowsPrinted text) (planPrinted text) (brokenPrinted text)
   -- the windows printed are the widest settled ones inside those of l, with their moves, and the bounds printed are exact
   pub demand3 : Demand3 (wholeIn l) (windowsOf l) (toldBy text)
-  -- each maximal run of one entry in that plan has a line, and each line is such a run
-  pub runs : (s e k : ℕ) → Run (dayPrinted text) (placesIn (planPrinted text)) s e k
-      ↔ ((j : ℕ) × (j < length (runsPrinted text)) × SaysRun (getD (runsPrinted text) j []) s e k)
-  -- the lines of the runs are in the order of their minutes, so that no run has two
-  pub in-order : (i j : ℕ) → i < j → j < length (runsPrinted text)
-      → numberIn (getD (runsPrinted text) i []) 0 < numberIn (getD (runsPrinted text) j []) 0
+  -- the runs are the maximal runs of that plan
+  pub runs : SaysRuns (dayPrinted text) (placesIn (planPrinted text)) (runsPrinted text)
 
 -- the line of the refusal k: its bytes, and what they say
 pub record PrintsRefusal (k : Code) (text : List ℕ) : Type 0 where
@@ -48,9 +49,9 @@ pub record PrintsRefusal (k : Code) (text : List ℕ) : Type 0 where
 -- what is printed for the input bs: one of three, and since `readOf` and `reportOf` have one outcome, not two
 pub data ReportLaw (bs text : List ℕ) : Type 0 where
   -- the list is turned back as it is read, by the first row from 1 to 8 that holds
-  unread : {k : Code} → readOf bs ≡ refused k → PrintsRefusal k text → ReportLaw bs text
+  unread : (k : Code) → readOf bs ≡ refused k → PrintsRefusal k text → ReportLaw bs text
   -- it is turned back as it is planned: by the refusal printed demand 3 holds, so that 9 or 10 stands there exactly when no settled windows exist
-  refuses : {l : DayList} {k : Code} → readOf bs ≡ answered l → reportOf bs ≡ refused k → PrintsRefusal k text
+  refuses : (l : DayList) (k : Code) → readOf bs ≡ answered l → reportOf bs ≡ refused k → PrintsRefusal k text
       → Demand3 (wholeIn l) (windowsOf l) (toldRefused text) → ReportLaw bs text
   -- it is planned: the text is the report, byte for byte, and what its numbers say is right
-  planned : {l : DayList} → readOf bs ≡ answered l → reportOf bs ≡ answered text → PrintsPlan l text → ReportLaw bs text
+  planned : (l : DayList) → readOf bs ≡ answered l → reportOf bs ≡ answered text → PrintsPlan l text → ReportLaw bs text
