@@ -20,7 +20,7 @@ pub record Holds (buffer : List ℕ) (size : ℕ) (text : List ℕ) : Type 0 whe
   pub whole : size ≡ length text
   pub bytes : take size buffer ≡ text
 
--- what is printed for an input, the first size bytes of text: they are what document 01 says, and of them the law of reports holds
+-- what is printed for an input, the first size bytes of text: what document 01 says, and the demands hold of the numbers in these bytes
 pub record PrintsFor (input text : List ℕ) (size : ℕ) : Type 0 where
   pub holds : Holds text size (printedOf input)
   pub law : ReportLaw input (take size text)

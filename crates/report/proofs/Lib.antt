@@ -16,8 +16,9 @@ mod PrintedRuns
 pub mod ReportLaws
 -- Document 01's examples.
 pub mod Example
--- The contracts leave one answer and one buffer.
+-- The contracts leave one answer and one buffer, and the law of what is printed one text.
 pub mod OneReport
+pub mod OnePrinted
 -- What the code's proofs cite, case by case.
 mod Steps
 mod RunCases

@@ -1,6 +1,6 @@
 -- The numbers that lines say are those of which they were made.
 -- Assumes nothing.
-use mathlib.Core.Path.{_≡_, refl, sym, ap, _∙_}
+use mathlib.Core.Path.{_≡_, refl, ap, _∙_}
 use mathlib.Core.Bool.{Bool, true, false, cond}
 use mathlib.Core.List.{List, [], _∷_, _++_, map, map-append}
 use Prim.Native.Nat.{ℕ, zero, suc, _<_, _≤_}
@@ -19,14 +19,15 @@ use Rattle.list.specs.declared.types.Entry.{Entry}
 use Rattle.jackson.specs.Counting.{listOf}
 use Rattle.report.specs.Text.{ascii, decimal, line}
 use Rattle.report.specs.Reports.{sealText, kindText, refusalLine}
-use Rattle.report.specs.Printed.{linesOf, lineAt, numberIn, sameField, sealSaid, kindSaid, entryIn, listPrinted, runsPrinted}
-use Rattle.report.specs.Printed.{dayPrinted, countPrinted, movesPrinted, brokenPrinted, placePrinted, endPrinted, startPrinted, codePrinted}
+use Rattle.report.specs.Printed.{Fields, linesOf, lineAt, numberIn, sameField, sealSaid, kindSaid, entryIn, listPrinted}
+use Rattle.report.specs.Printed.{dayPrinted, countPrinted, movesPrinted, brokenPrinted, placePrinted, endPrinted, startPrinted}
+use Rattle.report.specs.Printed.{runsPrinted, codePrinted}
 use Rattle.report.proofs.DecimalFacts.{decimal-is}
 use Rattle.report.proofs.Fields.{Word, Words, decimal-word, line-alone, kept, all-length, all-at}
 
 -- The head line.
 
-abbrev pub headFields : ℕ → ℕ → ℕ → ℕ → List (List ℕ)
+abbrev pub headFields : ℕ → ℕ → ℕ → ℕ → Fields
 headFields h n moves broken =
     ascii "day"
     ∷ decimal h
@@ -44,7 +45,7 @@ head-words h n moves broken = search (decimal-word, arith) depth 12
 
 -- An entry's line.
 
-abbrev pub entryFields : ℕ → Entry → ℕ → ℕ → List (List ℕ)
+abbrev pub entryFields : ℕ → Entry → ℕ → ℕ → Fields
 entryFields place e end start =
     decimal place
     ∷ decimal (e .serial)
@@ -110,49 +111,49 @@ entries-taken f es (suc k) l each =
     ∙ rw (take-suc es k blank l, entries-taken f es k (omega arith) (λ i h. each i (omega arith)), each k (omega arith))
 
 -- a text with these lines: the head line, those of the n entries e with their ends and starts, and those of the runs
-pub record Lines (text : List ℕ) (h n moves broken : ℕ) (e : ℕ → Entry) (end start : ℕ → ℕ) (runs : List (List (List ℕ))) : Type 0 where
+pub record Lines (text : List ℕ) (h n moves broken : ℕ) (e : ℕ → Entry) (end start : ℕ → ℕ) (runs : List Fields) : Type 0 where
   pub said : linesOf text ≡ headFields h n moves broken ∷ (kept n (λ _. true) (λ i. entryFields i (e i) (end i) (start i)) ++ runs)
 
 -- what it says
-module _ {text : List ℕ} {h n moves broken : ℕ} {e : ℕ → Entry} {end start : ℕ → ℕ} {runs : List (List (List ℕ))}
+module _ {text : List ℕ} {h n moves broken : ℕ} {e : ℕ → Entry} {end start : ℕ → ℕ} {runs : List Fields}
     (lines : Lines text h n moves broken e end start runs) where
-  abbrev fields : ℕ → List (List ℕ)
+  abbrev fields : ℕ → Fields
   fields i = entryFields i (e i) (end i) (start i)
 
   head-is : lineAt text 0 ≡ headFields h n moves broken
-  head-is = ap (λ (ls : List (List (List ℕ))). getD ls 0 []) (lines .said)
+  head-is = ap (λ (ls : List Fields). getD ls 0 []) (lines .said)
 
   pub day-is : dayPrinted text ≡ h
-  day-is = ap (λ (fs : List (List ℕ)). numberIn fs 1) head-is ∙ decimal-is h .value
+  day-is = ap (λ (fs : Fields). numberIn fs 1) head-is ∙ decimal-is h .value
 
   pub count-is : countPrinted text ≡ n
-  count-is = ap (λ (fs : List (List ℕ)). numberIn fs 3) head-is ∙ decimal-is n .value
+  count-is = ap (λ (fs : Fields). numberIn fs 3) head-is ∙ decimal-is n .value
 
   pub moves-is : movesPrinted text ≡ moves
-  moves-is = ap (λ (fs : List (List ℕ)). numberIn fs 5) head-is ∙ decimal-is moves .value
+  moves-is = ap (λ (fs : Fields). numberIn fs 5) head-is ∙ decimal-is moves .value
 
   pub broken-is : brokenPrinted text ≡ broken
-  broken-is = ap (λ (fs : List (List ℕ)). numberIn fs 7) head-is ∙ decimal-is broken .value
+  broken-is = ap (λ (fs : Fields). numberIn fs 7) head-is ∙ decimal-is broken .value
 
   line-is : (i : ℕ) → i < n → lineAt text (suc i) ≡ fields i
   line-is i l =
-      ap (λ (ls : List (List (List ℕ))). getD ls (suc i) []) (lines .said)
+      ap (λ (ls : List Fields). getD ls (suc i) []) (lines .said)
       ∙ List·getD-append (kept n (λ _. true) fields) runs [] i (omega (arith, all-length fields n))
       ∙ all-at fields n i l
 
   pub place-is : (i : ℕ) → i < n → placePrinted text i ≡ i
-  place-is i l = ap (λ (fs : List (List ℕ)). numberIn fs 0) (line-is i l) ∙ decimal-is i .value
+  place-is i l = ap (λ (fs : Fields). numberIn fs 0) (line-is i l) ∙ decimal-is i .value
 
   pub end-is : (i : ℕ) → i < n → endPrinted text i ≡ end i
-  end-is i l = ap (λ (fs : List (List ℕ)). numberIn fs 7) (line-is i l) ∙ decimal-is (end i) .value
+  end-is i l = ap (λ (fs : Fields). numberIn fs 7) (line-is i l) ∙ decimal-is (end i) .value
 
   pub start-is : (i : ℕ) → i < n → startPrinted text i ≡ start i
-  start-is i l = ap (λ (fs : List (List ℕ)). numberIn fs 8) (line-is i l) ∙ decimal-is (start i) .value
+  start-is i l = ap (λ (fs : Fields). numberIn fs 8) (line-is i l) ∙ decimal-is (start i) .value
 
   pub runs-is : runsPrinted text ≡ runs
   runs-is =
       ap (λ (k : ℕ). drop (suc k) (linesOf text)) count-is
-      ∙ ap (λ (ls : List (List (List ℕ))). drop (suc n) ls) (lines .said)
+      ∙ ap (λ (ls : List Fields). drop (suc n) ls) (lines .said)
       ∙ drop-at (kept n (λ _. true) fields) runs n (all-length fields n)
 
   pub list-is : (es : List Entry) → length es ≡ n → ((i : ℕ) → i < n → e i ≡ getD es i blank)
@@ -170,9 +171,9 @@ module _ {text : List ℕ} {h n moves broken : ℕ} {e : ℕ → Entry} {end sta
           ∙ entries-taken at es n (omega (arith, long)) (λ i l. ap entryIn (line-is i l) ∙ entry-said i (e i) (end i) (start i) ∙ each i l)
           ∙ take-all n es (omega (arith, long))
 
--- A refusal's line: of row 9, which carries three values, and of the others, which carry one.
+-- A refusal's line: that of row 9, which carries three values, and those of the others, which carry one.
 
-abbrev nineFields : ℕ → ℕ → ℕ → List (List ℕ)
+abbrev nineFields : ℕ → ℕ → ℕ → Fields
 nineFields a b c =
     ascii "refused" ∷ decimal 9 ∷ ascii "from" ∷ decimal a ∷ ascii "to" ∷ decimal b ∷ ascii "work" ∷ decimal c ∷ []
 
@@ -183,18 +184,23 @@ nine-words a b c = search (decimal-word, arith) depth 12
 pub nine-said : (a b c : ℕ) → codePrinted (refusalLine (code 9 (a ∷ b ∷ c ∷ []))) ≡ code 9 (a ∷ b ∷ c ∷ [])
 unfolding codePrinted refusalLine
 nine-said a b c =
-    rw (line-alone (nineFields a b c) (nine-words a b c), decimal-is 9 .value, decimal-is a .value, decimal-is b .value, decimal-is c .value)
+    let value : (x : ℕ) → _ ≡ x = λ x. decimal-is x .value in
+    rw (line-alone (nineFields a b c) (nine-words a b c), value 9, value a, value b, value c)
 
-module _ (k x : ℕ) where
-  abbrev oneFields : Bool → List (List ℕ)
-  oneFields ten = ascii "refused" ∷ decimal k ∷ cond ten (ascii "entry" ∷ decimal x ∷ []) (ascii "at" ∷ decimal x ∷ [])
+module _ (k x : ℕ) (other : k ≡ 9 → ⊥) where
+  -- where this word stands before the value
+  with-word : (word : List ℕ) → Word word → codePrinted (line (ascii "refused" ∷ decimal k ∷ word ∷ decimal x ∷ [])) ≡ code k (x ∷ [])
+  unfolding codePrinted ascii
+  with-word word w =
+      let words : Words (ascii "refused" ∷ decimal k ∷ word ∷ decimal x ∷ []) = search (decimal-word, w, arith) depth 12 in
+      rw (line-alone _ words, decimal-is k .value, decimal-is x .value, ne-eqb k 9 other)
 
-  pub one-said : (k ≡ 9 → ⊥) → codePrinted (refusalLine (code k (x ∷ []))) ≡ code k (x ∷ [])
-  unfolding codePrinted refusalLine ascii
-  one-said other = rw (ne-eqb k 9 other) (go (eqb k 10))
+  pub one-said : codePrinted (refusalLine (code k (x ∷ []))) ≡ code k (x ∷ [])
+  unfolding refusalLine ascii
+  one-said = rw (ne-eqb k 9 other) (go (eqb k 10))
     where
-      go : (ten : Bool) → codePrinted (line (oneFields ten)) ≡ code k (x ∷ [])
-      go true =
-          rw (line-alone (oneFields true) (search (decimal-word, arith) depth 12), decimal-is k .value, decimal-is x .value, ne-eqb k 9 other)
-      go false =
-          rw (line-alone (oneFields false) (search (decimal-word, arith) depth 12), decimal-is k .value, decimal-is x .value, ne-eqb k 9 other)
+      go : (ten : Bool)
+          → codePrinted (line (ascii "refused" ∷ decimal k ∷ cond ten (ascii "entry" ∷ decimal x ∷ []) (ascii "at" ∷ decimal x ∷ [])))
+          ≡ code k (x ∷ [])
+      go true = with-word (ascii "entry") (omega arith)
+      go false = with-word (ascii "at") (omega arith)

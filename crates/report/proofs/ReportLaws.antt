@@ -1,15 +1,12 @@
 -- The demands hold of the numbers printed.
 -- Assumes nothing.
 use mathlib.Core.Path.{_≡_, refl, sym, ap, subst, _∙_}
-use mathlib.Core.Logic.{_⊎_, inl, inr}
-use mathlib.Core.Bool.{Bool, true, false, cond}
+use mathlib.Core.Logic.{inl, inr}
+use mathlib.Core.Bool.{Bool, true}
 use mathlib.Core.List.{List, [], _∷_, _++_}
-use Prim.Native.Nat.{ℕ, _<_, _≤_}
+use Prim.Native.Nat.{ℕ, _<_}
 use native.Mathlib.Omega.{arith}
-use borrow.Author.Tests.{ne-eqb}
 use lib.ListN.{length, getD}
-use lib.Dec.{eqb}
-use lib.Seq.{take-append-seam}
 use Rattle.list.specs.Outcomes.{Code, code, Outcome, answered, refused, andThen}
 use Rattle.list.specs.DayLists.{entriesOf, blank, dayList}
 use Rattle.list.specs.Checks.{WellFormed}
@@ -26,8 +23,8 @@ use Rattle.jackson.specs.Minutes.{schedule}
 use Rattle.jackson.proofs.Listed.{list-is as minutes-are}
 use Rattle.narrow.specs.Settling.{Widest}
 use Rattle.narrow.specs.Rounds.{Narrowed, narrowing}
-use Rattle.narrow.specs.Laws.{Formed, NarrowLaw, Reason}
-use Rattle.narrow.specs.Calls.{wholeIn, entriesWith, listWith, settleOf}
+use Rattle.narrow.specs.Laws.{Formed, Reason}
+use Rattle.narrow.specs.Calls.{wholeIn, listWith, settleOf}
 use Rattle.narrow.specs.declared.types.NarrowAnswer.{NarrowAnswer}
 use Rattle.narrow.proofs.OverloadPlanner.{overload-planner}
 use Rattle.narrow.proofs.NarrowLaws.{narrow-law}
@@ -39,27 +36,28 @@ use Rattle.bounds.specs.ShownPlans.{earlyPlan, latePlan}
 use Rattle.bounds.specs.Demand3.{Demand3}
 use Rattle.bounds.specs.Calls.{PlansWindows}
 use Rattle.bounds.proofs.Demands.{AtPlace, ByRules, widest-formed, demand3, plans-windows}
-use Rattle.report.specs.Text.{ascii, decimal, line}
+use Rattle.report.specs.Text.{line}
 use Rattle.report.specs.Runs.{beginsRun}
-use Rattle.report.specs.Reports.{headLine, entryLine, entryLines, runLine, runLines, refusalLine, dayText, plannedText, reportOf, printed, printedOf}
-use Rattle.report.specs.Printed.{linesOf, listPrinted, windowsPrinted, dayPrinted, runsPrinted, placeBy, planPrinted, toldBy, codePrinted, toldRefused}
+use Rattle.report.specs.Reports.{headLine, entryLine, entryLines, runLine, runLines, refusalLine, dayText, plannedText}
+use Rattle.report.specs.Reports.{reportOf, printed, printedOf}
+use Rattle.report.specs.Printed.{Fields, linesOf, listPrinted, windowsPrinted, dayPrinted, runsPrinted, placeBy, planPrinted}
+use Rattle.report.specs.Printed.{toldBy, codePrinted, toldRefused}
 use Rattle.report.specs.Laws.{SaysRuns, PrintsPlan, PrintsRefusal, ReportLaw, unread, refuses, planned}
-use Rattle.report.proofs.DecimalFacts.{decimal-is}
-use Rattle.report.proofs.Fields.{Word, Words, decimal-word, line-alone, text-said, kept}
-use Rattle.report.proofs.Fields.{kept-each, kept-text}
+use Rattle.report.proofs.Fields.{text-said, kept, kept-each, kept-text}
 use Rattle.report.proofs.PrintedLines.{headFields, head-words, entryFields, entry-words, Lines}
-use Rattle.report.proofs.PrintedLines.{day-is, count-is, moves-is, broken-is, place-is, end-is, start-is, runs-is, list-is, nine-said, one-said}
+use Rattle.report.proofs.PrintedLines.{day-is, count-is, moves-is, broken-is, place-is, end-is, start-is, runs-is, list-is}
+use Rattle.report.proofs.PrintedLines.{nine-said, one-said}
 use Rattle.report.proofs.PrintedRuns.{runFields, run-words, runsOf, place-said, runs-said}
 
--- the lines of a list's text
+-- The lines of a list's text.
 module _ (d : DayList) (moves broken : ℕ) (end start m : ℕ → ℕ) where
   abbrev entry : ℕ → Entry
   entry i = getD (entriesOf d) i blank
 
-  abbrev fields : ℕ → List (List ℕ)
+  abbrev fields : ℕ → Fields
   fields i = entryFields i (entry i) (end i) (start i)
 
-  abbrev heads : List (List ℕ)
+  abbrev heads : Fields
   heads = headFields (d .frame .h) (d .n) moves broken
 
   day-lines : Lines (headLine (d .frame .h) (d .n) moves broken ++ (entryLines d end start ++ runLines (d .frame .h) m))
@@ -138,10 +136,12 @@ module _ (l : DayList) (formed : WellFormed l) (v : Narrowed) (e : narrowing ove
   plan-printed : planPrinted text ≡ schedule w
   unfolding planPrinted
   plan-printed =
-      minutes-are (dayPrinted text) (placeBy (runsPrinted text)) idle (schedule w) (demand2-given .plan .long ∙ sym day ∙ sym (day-is lines))
+      let long : length (schedule w) ≡ dayPrinted text = demand2-given .plan .long ∙ sym day ∙ sym (day-is lines) in
+      minutes-are (dayPrinted text) (placeBy (runsPrinted text)) idle (schedule w) long
       (λ t below.
-      ap (λ (ls : List (List (List ℕ))). placeBy ls t) (runs-is lines) ∙ place-said (settled .frame .h) plan t (omega (arith, day-is lines)))
+      ap (λ (ls : List Fields). placeBy ls t) (runs-is lines) ∙ place-said (settled .frame .h) plan t (omega (arith, day-is lines)))
 
+  -- what is told of the list
   told-is : toldBy text .outcome ≡ answered v
   told-is = λ j. answered (record { windows = windows-printed j; moves = moves-is lines j })
 
@@ -199,6 +199,7 @@ module _ (l : DayList) (formed : WellFormed l) (k : Code) (e : narrowing overloa
       demand3 (wholeIn l) (windowsOf l) (list-formed l formed) (toldRefused (refusalLine k)) (ap refused unplanned-says ∙ sym e)
       (λ v is. absurd (answered-refused is refl))
 
+-- Every input.
 pub report-law : (bs : List ℕ) → ReportLaw bs (printedOf bs)
 unfolding reportOf
 report-law bs = read (readOf bs) refl

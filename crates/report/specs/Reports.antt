@@ -1,5 +1,6 @@
 -- The report of a day's bytes. That its numbers are in base ten is `decimal-is` of proofs/DecimalFacts.antt, that its runs are the maximal
--- ones `runs-are` of proofs/RunFacts.antt; document 01's examples stand in specs/Examples.antt.
+-- ones `runs-are` of proofs/RunFacts.antt; demands 2 and 3 of its numbers stand in specs/Laws.antt, document 01's examples in
+-- specs/Examples.antt.
 use Prim.Native.Nat.{ℕ}
 use mathlib.Core.Bool.{cond}
 use mathlib.Core.List.{List, [], _∷_, _++_}
