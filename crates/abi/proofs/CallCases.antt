@@ -1,4 +1,4 @@
--- What the calls leave, from what the crates list, jackson, narrow, bounds and report answer.
+-- What the calls leave, from what the crates below answer.
 -- Assumes nothing.
 use mathlib.Core.Path.{_≡_, refl, sym, ap, subst, _∙_}
 use mathlib.Core.List.{List, [], _∷_, _++_}
@@ -14,19 +14,19 @@ use Rattle.list.specs.declared.types.Verdict.{Verdict}
 use Rattle.list.specs.declared.types.Verdict.the-variants.{Accepted, Refused}
 use Rattle.list.specs.declared.types.ReadAnswer.{ReadAnswer}
 use Rattle.list.specs.declared.types.WriteAnswer.{WriteAnswer}
-use Rattle.jackson.specs.Windows.{Windows}
 use Rattle.jackson.specs.Calls.{Tests, Fills}
 use Rattle.narrow.specs.Rounds.{Narrowed}
 use Rattle.narrow.specs.Calls.{narrowAnswerOf, narrowedIn, listed, AnswersAs}
 use Rattle.narrow.specs.declared.types.NarrowAnswer.{NarrowAnswer}
-use Rattle.planner.specs.Calls.{settledOr, shownOf, PlansDay, ShowsPlan, ShowsEarly, ShowsLate}
-use Rattle.planner.specs.Demand3.{Told}
+use Rattle.bounds.specs.declared.types.Shown.{Shown}
+use Rattle.planner.specs.Calls.{settledOr, PlansDay, Shows}
 use Rattle.planner.specs.declared.types.PlanAnswer.{PlanAnswer}
 use Rattle.planner.specs.declared.types.ShownAnswer.{ShownAnswer}
 use Rattle.report.specs.Calls.{StoresText}
 use Rattle.codes.specs.Codes.{three}
 use Rattle.flat.specs.Flat.{flatOf, valueOf}
-use Rattle.abi.specs.Calls.{answerWith, ReadCall, WriteCall, OverloadCall, ScheduleCall, NarrowCall, PlanCall, ShownCall, EarlyCall, LateCall, TextCall}
+use Rattle.abi.specs.Calls.{answerWith, ReadCall, WriteCall, OverloadCall, ScheduleCall, NarrowCall, PlanCall}
+use Rattle.abi.specs.Calls.{ShowCall, TextCall}
 use Rattle.abi.specs.declared.Answer.{Answer}
 
 -- an answer made of a refusal
@@ -99,23 +99,12 @@ plan-said xs oldPlan newPlan oldFields newFields oldBounds newBounds l p a b w b
       bounds = rw (← (f .ends), ← (f .starts), ← (f .holds .narrowed)) bounds;
     }
 
--- showing a plan of the list l
-shown-said : {l : DayList} {k : ℕ} {oldPlan newPlan oldFields newFields : List ℕ} {s : Windows → ℕ} {m : Windows → List ℕ}
-    {told : ShownAnswer → List ℕ → Told} {a : ShownAnswer} {b : Answer}
-    → ShowsPlan l k oldPlan s m told a newPlan
+-- showing a plan of the list value that xs say
+pub shown-said : (x : Shown) (xs : List ℕ) (k : ℕ) (oldPlan newPlan oldFields newFields : List ℕ) (l : DayList) → l ≡ valueOf xs
+    → (a : ShownAnswer) (b : Answer)
+    → Shows x l k oldPlan a newPlan
     → NarrowCall (narrowAnswerOf (a .narrowed)) (a .bound) oldFields b newFields
-    → ShownCall l s m (shownOf l k (length oldPlan)) oldPlan oldFields b newPlan newFields
-shown-said w given = record { narrowed = rw (← (w .answers .outcome), ← (w .bound)) given; plan = w .buffer }
-
--- of the list value that xs say
-module _ (xs : List ℕ) (k : ℕ) (oldPlan newPlan oldFields newFields : List ℕ) (l : DayList) (p : l ≡ valueOf xs)
-    (a : ShownAnswer) (b : Answer) (given : NarrowCall (narrowAnswerOf (a .narrowed)) (a .bound) oldFields b newFields) where
-  pub early-said : ShowsEarly l k oldPlan a newPlan → EarlyCall xs k oldPlan oldFields b newPlan newFields
-  early-said w =
-      let f : ShowsEarly (valueOf xs) k oldPlan a newPlan = subst (λ (v : DayList). ShowsEarly v k oldPlan a newPlan) p w in
-      shown-said f given
-
-  pub late-said : ShowsLate l k oldPlan a newPlan → LateCall xs k oldPlan oldFields b newPlan newFields
-  late-said w =
-      let f : ShowsLate (valueOf xs) k oldPlan a newPlan = subst (λ (v : DayList). ShowsLate v k oldPlan a newPlan) p w in
-      shown-said f given
+    → ShowCall x xs k oldPlan oldFields b newPlan newFields
+shown-said x xs k oldPlan newPlan oldFields newFields l p a b w given =
+    let f : Shows x (valueOf xs) k oldPlan a newPlan = subst (λ (v : DayList). Shows x v k oldPlan a newPlan) p w in
+    record { narrowed = rw (← (f .answers .outcome), ← (f .bound)) given; plan = f .buffer }

@@ -7,16 +7,16 @@ use Rattle.base.specs.Outcomes.{code, Outcome, answered, refused}
 use Rattle.format.specs.Reading.{readOf}
 use Rattle.format.specs.Writing.{writeOf, bufferAfter}
 use Rattle.list.specs.declared.types.DayList.{DayList}
-use Rattle.jackson.specs.Windows.{Windows, windowsOf}
+use Rattle.jackson.specs.Windows.{windowsOf}
 use Rattle.jackson.specs.Calls.{testOf, fillOf, planAfter}
-use Rattle.jackson.specs.Intervals.{overloadOf}
 use Rattle.jackson.specs.Minutes.{schedule}
 use Rattle.narrow.specs.Rounds.{Narrowed}
 use Rattle.list.specs.DayLists.{wholeIn}
 use Rattle.narrow.specs.Calls.{settleOf, listed}
-use Rattle.bounds.specs.Ends.{leastEnd, greatestStart}
 use Rattle.planner.specs.Calls.{settledOr, planned, planOf, endsOf, startsOf, brokenOf, shownOf}
-use Rattle.bounds.specs.ShownPlans.{earlyOf, lateOf}
+use Rattle.bounds.specs.ShownPlans.{boundOf, shownPlan}
+use Rattle.bounds.specs.declared.types.Shown.{Shown}
+use Rattle.bounds.specs.declared.types.Shown.the-variants.{Early, Late}
 use Rattle.report.specs.Reports.{refusalLine, reportOf}
 use Rattle.report.specs.Calls.{storeOf, textAfter}
 use Rattle.codes.specs.Codes.{three}
@@ -72,29 +72,28 @@ pub record PlannedCall (l : DayList) (o : Outcome Narrowed) (oldPlan oldFields o
     (a : Answer) (newPlan newFields newBounds : List ℕ) : Type 0 where
   pub narrowed : NarrowCall (listed l o) (brokenOf (wholeIn l) o) oldFields a newFields
   pub plan : newPlan ≡ planned schedule oldPlan o
-  pub bounds : newBounds ≡ settledOr oldBounds (λ _. leastEnds (wholeIn l) o ++ greatestStarts (wholeIn l) o) o
+  pub bounds : newBounds ≡ settledOr oldBounds (λ _. endsOf (wholeIn l) o ++ startsOf (wholeIn l) o) o
 
 -- what `dock_plan` answers of the list value that xs say, and leaves in what is lent
 abbrev pub PlanCall : List ℕ → List ℕ → List ℕ → List ℕ → Answer → List ℕ → List ℕ → List ℕ → Type 0
 PlanCall xs oldPlan = PlannedCall (valueOf xs) (planOf (valueOf xs) (length oldPlan)) oldPlan
 
--- an answer where showing a plan of the list l has the outcome o, with the moves and the bound b of the settled windows, and what it
--- leaves in a plan buffer and fields that held the old ones: m is the plan in the settled windows
-pub record ShownCall (l : DayList) (b : Windows → ℕ) (m : Windows → List ℕ) (o : Outcome Narrowed) (oldPlan oldFields : List ℕ)
-    (a : Answer) (newPlan newFields : List ℕ) : Type 0 where
-  pub narrowed : NarrowCall (listed l o) (settledOr 0 b o) oldFields a newFields
-  pub plan : newPlan ≡ planned m oldPlan o
+-- an answer where showing the plan x of place k of the list l has the outcome o, with the moves and the place's bound in the settled
+-- windows, and what it leaves in a plan buffer and fields that held the old ones
+pub record ShownCall (x : Shown) (l : DayList) (k : ℕ) (o : Outcome Narrowed) (oldPlan oldFields : List ℕ) (a : Answer)
+    (newPlan newFields : List ℕ) : Type 0 where
+  pub narrowed : NarrowCall (listed l o) (settledOr 0 (boundOf x (wholeIn l) k) o) oldFields a newFields
+  pub plan : newPlan ≡ planned (shownPlan x (wholeIn l) k) oldPlan o
 
 -- what `dock_early` and `dock_late` answer of place k of the list value that xs say, and leave in what is lent
+abbrev pub ShowCall : Shown → List ℕ → ℕ → List ℕ → List ℕ → Answer → List ℕ → List ℕ → Type 0
+ShowCall x xs k oldPlan = ShownCall x (valueOf xs) k (shownOf (valueOf xs) k (length oldPlan)) oldPlan
+
 abbrev pub EarlyCall : List ℕ → ℕ → List ℕ → List ℕ → Answer → List ℕ → List ℕ → Type 0
-EarlyCall xs k oldPlan =
-    let l = valueOf xs in
-    ShownCall l (λ w. leastEnd overloadOf (wholeIn l) w k) (earlyOf (wholeIn l) k) (shownOf l k (length oldPlan)) oldPlan
+EarlyCall = ShowCall Early
 
 abbrev pub LateCall : List ℕ → ℕ → List ℕ → List ℕ → Answer → List ℕ → List ℕ → Type 0
-LateCall xs k oldPlan =
-    let l = valueOf xs in
-    ShownCall l (λ w. greatestStart overloadOf (wholeIn l) w k) (lateOf (wholeIn l) k) (shownOf l k (length oldPlan)) oldPlan
+LateCall = ShowCall Late
 
 -- what a call answers of a text, or of a refusal, and leaves in a buffer that held old: the number of bytes stored
 pub record TextCall (o : Outcome (List ℕ)) (old : List ℕ) (a : Answer) (out : List ℕ) : Type 0 where

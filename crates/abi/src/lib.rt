@@ -2,11 +2,7 @@
 // Promises: each call answers 0 or a refusal's number of document 01, with its values, and leaves in its buffers what
 // specs/Calls.antt says, whatever the bytes and numbers are. What it cannot check are the pointers themselves: a caller lends
 // `bytes`, `out` and `plan` with their lengths, `fields` and `narrowed` with 450 numbers each, `bounds` with 128 and `values` with 3, and
-// no two of them overlap. Uses the crates list, format, flat, jackson, narrow, bounds, report and codes.
-use bounds::plan_day;
-use bounds::show_early;
-use bounds::show_late;
-use bounds::types::PlanAnswer;
+// no two of them overlap. Uses the crates list, format, flat, jackson, narrow, planner, report and codes.
 use codes::RefusalCode;
 use flat::flat_of;
 use flat::joined;
@@ -15,6 +11,10 @@ use list::types::Refusal;
 use list::types::Verdict;
 use list::types::WriteAnswer;
 use narrow::types::NarrowAnswer;
+use planner::plan_day;
+use planner::show_early;
+use planner::show_late;
+use planner::types::PlanAnswer;
 ghost use mathlib.Core.Path.{_≡_};
 ghost use mathlib.Core.List.{[], _∷_, _++_};
 ghost use Rattle.list.specs.Refusals.{codeOf, verdictOf, writeAnswerOf};

@@ -50,13 +50,7 @@ fn mirror_plan(h: usize, plan: &mut [u8])
 }
 
 // Stores the plan of entry k that is shown, and answers its bound. The late plan is the mirror of the early one in the mirror.
-fn store_shown(
-    shown: Shown,
-    windows: WindowSet,
-    k: usize,
-    whole: bool,
-    plan: &mut [u8],
-) -> u16
+fn store_shown(shown: Shown, windows: WindowSet, k: usize, whole: bool, plan: &mut [u8]) -> u16
     requires { ⌜ Searchable windows k ⌝ }
     requires { ⌜ windows .h ≤ length (now plan) ⌝ }
     ensures { λ b. ⌜ StoresShown shown (λ _. whole) (windowsIn windows) k (now (plan .entry)) b (now (plan .exit)) ⌝ }

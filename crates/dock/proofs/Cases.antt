@@ -20,7 +20,8 @@ use Rattle.codes.specs.declared.RefusalCode.{RefusalCode}
 use Rattle.report.specs.Reports.{refusalLine, reportOf, printed, printedOf}
 use Rattle.report.specs.Calls.{StoresText, enough, Reports, lineOf, lineEnough, StoresLine}
 use Rattle.report.proofs.FirstBytes.{same-report}
-use Rattle.dock.specs.Calls.{InputLimit, Holds, Prints}
+use Rattle.report.proofs.ReportLaws.{report-law}
+use Rattle.dock.specs.Calls.{InputLimit, Holds, PrintsFor, Prints}
 
 -- The limit: more than the 963 bytes of a longest list.
 pub limit-is : (limit : ℕ) → 963 < limit → limit ≤ 964 → InputLimit limit
@@ -59,13 +60,19 @@ module _ (x : Refusal) (c : RefusalCode) (is : c ≡ numbersOf (codeOf x)) (old 
   pub line-taken : (y : Refusal) → a ≡ NotWritten y → ⊥
   line-taken = text-taken (lineOf c) old a new (line .stores) line-room
 
+-- a text that is held is printed for its input
+prints-for : (input text : List ℕ) (size : ℕ) → Holds text size (printedOf input) → PrintsFor input text size
+prints-for input text size h = record { holds = h; law = rw (h .bytes) (report-law input) }
+
 -- What is printed for the bytes read is printed for every input of which they are the first.
 pub prints : (buffer : List ℕ) (count : ℕ) → InputLimit (length buffer) → (text : List ℕ) (size : ℕ)
     → Holds text size (printedOf (take count buffer)) → Prints buffer count text size
 prints buffer count limit text size h =
     record {
       read = h;
-      all = λ input e. rw (same-report (length buffer) (limit-more _ limit) input (take count buffer) e) h;
+      all =
+          λ input e.
+          prints-for input text size (rw (same-report (length buffer) (limit-more _ limit) input (take count buffer) e) h);
     }
 
 -- The report of the bytes read, in a buffer that has room for every text.

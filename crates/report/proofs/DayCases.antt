@@ -88,12 +88,12 @@ module _ (l : DayList) (well : WellFormed l) (old : List ℕ) (long : length old
 
     ends-are : (i : ℕ) → i < a .narrowed .list .n → getD (a .ends) i 0 ≡ leastEnd overloadOf (wholeIn l) w i
     ends-are i below =
-        ap (λ (xs : List ℕ). getD xs i 0) (plans .ends ∙ ap (leastEnds (wholeIn l)) answered-is)
+        ap (λ (xs : List ℕ). getD xs i 0) (plans .ends ∙ ap (endsOf (wholeIn l)) answered-is)
         ∙ by-place (leastEnd overloadOf (wholeIn l) w) (w .n) i (omega (arith, count-is, list-few)) (omega (arith, count-is))
 
     starts-are : (i : ℕ) → i < a .narrowed .list .n → getD (a .starts) i 0 ≡ greatestStart overloadOf (wholeIn l) w i
     starts-are i below =
-        ap (λ (xs : List ℕ). getD xs i 0) (plans .starts ∙ ap (greatestStarts (wholeIn l)) answered-is)
+        ap (λ (xs : List ℕ). getD xs i 0) (plans .starts ∙ ap (startsOf (wholeIn l)) answered-is)
         ∙ by-place (greatestStart overloadOf (wholeIn l) w) (w .n) i (omega (arith, count-is, list-few)) (omega (arith, count-is))
 
     broken-is : a .broken ≡ brokenIn (wholeIn l) w (placesIn (schedule w))

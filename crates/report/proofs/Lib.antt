@@ -9,10 +9,16 @@ mod LineLengths
 pub mod Lengths
 -- How many bytes of an input decide its report.
 pub mod FirstBytes
+-- What the lines of a text say, and the law of what is printed: ReportLaws.
+mod Fields
+mod PrintedLines
+mod PrintedRuns
+pub mod ReportLaws
 -- Document 01's examples.
 pub mod Example
--- The contracts leave one answer and one buffer.
+-- The contracts leave one answer and one buffer, and the law of what is printed one text.
 pub mod OneReport
+pub mod OnePrinted
 -- What the code's proofs cite, case by case.
 mod StepCases
 mod RunCases

@@ -20,7 +20,7 @@ differ a b e = eqb-false a b (not-true _ e)
 differs : (a b : ℕ) → (a ≡ b → ⊥) → not (eqb a b) ≡ true
 differs a b h = ap not (ne-eqb a b h)
 
-both : (a b : Bool) → a && b ≡ true → (a ≡ true) × (b ≡ true)
+pub both : (a b : Bool) → a && b ≡ true → (a ≡ true) × (b ≡ true)
 both true b e = (refl, e)
 both false b e = absurd (false≢true e)
 
@@ -37,7 +37,7 @@ module _ (m : ℕ → ℕ) (t : ℕ) where
       differ (m s) (m t) (rw (other, before) at (both (not (eqb (m t) idle)) _ b .1))
 
   -- and back
-  begins-so : (m t ≡ idle → ⊥) → ((s : ℕ) → s + 1 ≡ t → m s ≡ m t → ⊥) → beginsRun m t ≡ true
+  pub begins-so : (m t ≡ idle → ⊥) → ((s : ℕ) → s + 1 ≡ t → m s ≡ m t → ⊥) → beginsRun m t ≡ true
   begins-so entry first =
       rw (differs (m t) idle entry)
       (same-cases t 0

@@ -1,5 +1,6 @@
 -- The report of a day's bytes. That its numbers are in base ten is `decimal-is` of proofs/DecimalFacts.antt, that its runs are the maximal
--- ones `runs-are` of proofs/RunFacts.antt; document 01's examples stand in specs/Examples.antt.
+-- ones `runs-are` of proofs/RunFacts.antt; demands 2 and 3 of its numbers stand in specs/Laws.antt, document 01's examples in
+-- specs/Examples.antt.
 use Prim.Native.Nat.{ℕ}
 use mathlib.Core.Bool.{cond}
 use mathlib.Core.List.{List, [], _∷_, _++_}
@@ -95,7 +96,7 @@ refusalLine k =
     (cond (eqb (k .number) 10) (ascii "entry" ∷ value 0 ∷ []) (ascii "at" ∷ value 0 ∷ [])))
 
 -- the text of a list that was narrowed: the settled windows stand in its entries' lines, and its runs are those of Jackson's schedule of
--- them. Demands 2 and 3 of the crate bounds (specs/Calls.antt, specs/Demand3.antt) speak of the same windows, plan and bounds.
+-- them. Demands 2 and 3 of the crate planner (specs/Demand2.antt, specs/Demand3.antt) speak of the same windows, plan and bounds.
 unfoldable pub dayText : DayList → Narrowed → List ℕ
 dayText l v =
     let w = v .windows in

@@ -2,11 +2,11 @@
 use crate::lines::put_entry_line;
 use crate::lines::put_head;
 use crate::runs::put_runs;
-use bounds::plan_day;
-use bounds::types::PlanAnswer;
 use list::types::DayList;
 use list::types::Verdict;
 use list::types::WriteAnswer;
+use planner::plan_day;
+use planner::types::PlanAnswer;
 ghost use Prim.Native.Nat.{_≤_};
 ghost use Rattle.list.specs.Checks.{WellFormed};
 ghost use Rattle.report.specs.Reports.{plannedText, reportOf};

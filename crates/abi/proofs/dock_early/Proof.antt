@@ -1,7 +1,8 @@
 -- What showing the early plan answered, as numbers.
 -- Assumes nothing.
 use borrow.Author.Needs.{needs}
-use Rattle.abi.proofs.CallCases.{early-said}
+use Rattle.abi.proofs.CallCases.{shown-said}
+use Rattle.bounds.specs.declared.types.Shown.the-variants.{Early}
 use Rattle.abi.proofs.dock_early.Statement.{statement}
 use Rattle.abi.proofs.dock_early.Tie as tie
 
@@ -21,7 +22,12 @@ same-length : tie.Need-same-length
 same-length c = search needs
 
 returns : tie.Need-returns
-returns c = early-said (c .before .before .before .before .before .before .before .before .before .args .fields .now) (c .before .before .before .before .before .before .before .before .before .args .place) (c .before .before .before .before .before .before .before .before .before .args .plan .now) _ (c .before .before .before .before .before .before .before .before .before .args .narrowed .now) _ (c .before .before .before .before .before .before .before .list-in .result) (c .before .before .before .before .before .before .before .list-in .ensures) (c .before .before .before .before .before .show-early .result) (c .give-narrowed .result) (c .give-narrowed .ensures) (c .before .before .before .before .before .show-early .ensures)
+returns c =
+    let args = c .before .before .before .before .before .before .before .before .before .args in
+    let list-in = c .before .before .before .before .before .before .before .list-in in
+    let shown = c .before .before .before .before .before .show-early in
+    shown-said Early (args .fields .now) (args .place) (args .plan .now) _ (args .narrowed .now) _ (list-in .result) (list-in .ensures)
+    (shown .result) (c .give-narrowed .result) (shown .ensures) (c .give-narrowed .ensures)
 
 pub dock-early-spec : {M : Type 1} → statement M
 dock-early-spec =

@@ -15,7 +15,12 @@ verdict-as-requires : tie.Need-verdict-as-requires
 verdict-as-requires c κs = search needs
 
 returns : tie.Need-returns
-returns c = overload-said (c .before .before .before .args .fields .now) (c .before .before .list-in .result) (c .before .before .list-in .ensures) (c .before .overload .result) (c .verdict-as .result) (c .verdict-as .ensures) (c .before .overload .ensures)
+returns c =
+    let args = c .before .before .before .args in
+    let list-in = c .before .before .list-in in
+    let overload = c .before .overload in
+    overload-said (args .fields .now) (list-in .result) (list-in .ensures) (overload .result) (c .verdict-as .result)
+    (c .verdict-as .ensures) (overload .ensures)
 
 pub dock-overload-spec : {M : Type 1} → statement M
 dock-overload-spec =

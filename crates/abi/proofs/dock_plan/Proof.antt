@@ -24,7 +24,13 @@ same-length : tie.Need-same-length
 same-length c = search needs
 
 returns : tie.Need-returns
-returns c = plan-said (c .before .before .before .before .before .before .before .before .before .before .before .args .fields .now) (c .before .before .before .before .before .before .before .before .before .before .before .args .plan .now) _ (c .before .before .before .before .before .before .before .before .before .before .before .args .narrowed .now) _ (c .before .before .before .before .before .before .before .before .before .before .before .args .bounds .now) _ (c .before .before .before .before .before .before .before .before .before .list-in .result) (c .before .before .before .before .before .before .before .before .before .list-in .ensures) (c .before .before .before .before .before .before .before .plan-day .result) (c .give-narrowed .result) (c .before .before .before .before .before .before .before .plan-day .ensures) (c .before .before .before .give-bounds .ensures) (c .give-narrowed .ensures)
+returns c =
+    let args = c .before .before .before .before .before .before .before .before .before .before .before .args in
+    let list-in = c .before .before .before .before .before .before .before .before .before .list-in in
+    let plan-day = c .before .before .before .before .before .before .before .plan-day in
+    let give-bounds = c .before .before .before .give-bounds in
+    plan-said (args .fields .now) (args .plan .now) _ (args .narrowed .now) _ (args .bounds .now) _ (list-in .result) (list-in .ensures)
+    (plan-day .result) (c .give-narrowed .result) (plan-day .ensures) (give-bounds .ensures) (c .give-narrowed .ensures)
 
 pub dock-plan-spec : {M : Type 1} → statement M
 dock-plan-spec =

@@ -21,10 +21,18 @@ refused-as-requires : tie.Need-refused-as-requires
 refused-as-requires c κs = search needs
 
 returns : tie.Need-returns
-returns c = read-accepted (c .before .before .before .before .before .before .args .bytes .now) (c .before .before .before .before .before .before .args .fields .now) (c .before .before .before .before .read .result) (c .before .before .before .before .read .ensures) _ (c .before .before .enum-told .given .1) (c .flat-of .ensures)
+returns c =
+    let args = c .before .before .before .before .before .before .args in
+    let read = c .before .before .before .before .read in
+    let enum-told = c .before .before .enum-told in
+    read-accepted (args .bytes .now) (args .fields .now) (read .result) (read .ensures) _ (enum-told .given .1) (c .flat-of .ensures)
 
 returns-2 : tie.Need-returns-2
-returns-2 c = read-refused (c .before .before .before .before .before .before .args .bytes .now) (c .before .before .before .before .before .before .args .fields .now) (c .before .before .before .before .read .result) (c .before .before .before .before .read .ensures) _ _ (c .before .before .verdict .given .1) (c .refused-as .ensures)
+returns-2 c =
+    let args = c .before .before .before .before .before .before .args in
+    let read = c .before .before .before .before .read in
+    let verdict = c .before .before .verdict in
+    read-refused (args .bytes .now) (args .fields .now) (read .result) (read .ensures) _ _ (verdict .given .1) (c .refused-as .ensures)
 
 pub dock-read-spec : {M : Type 1} → statement M
 dock-read-spec =

@@ -18,7 +18,12 @@ same-length : tie.Need-same-length
 same-length c = search needs
 
 returns : tie.Need-returns
-returns c = schedule-said (c .before .before .before .before .before .before .before .args .fields .now) (c .before .before .before .before .before .list-in .result) (c .before .before .before .before .before .list-in .ensures) (c .before .before .before .schedule .result) (c .verdict-as .result) (c .verdict-as .ensures) (c .before .before .before .before .before .before .before .args .plan .now) _ (c .before .before .before .schedule .ensures)
+returns c =
+    let args = c .before .before .before .before .before .before .before .args in
+    let list-in = c .before .before .before .before .before .list-in in
+    let schedule = c .before .before .before .schedule in
+    schedule-said (args .fields .now) (list-in .result) (list-in .ensures) (schedule .result) (c .verdict-as .result)
+    (c .verdict-as .ensures) (args .plan .now) _ (schedule .ensures)
 
 pub dock-schedule-spec : {M : Type 1} → statement M
 dock-schedule-spec =

@@ -16,7 +16,12 @@ give-narrowed-requires : tie.Need-give-narrowed-requires
 give-narrowed-requires c κs = search needs
 
 returns : tie.Need-returns
-returns c = narrow-said settleOf (c .before .before .before .before .args .fields .now) (c .before .before .before .before .args .narrowed .now) _ (c .before .before .before .list-in .result) (c .before .before .before .list-in .ensures) (c .before .before .settle .result) (c .give-narrowed .result) (c .give-narrowed .ensures) (c .before .before .settle .ensures .answers)
+returns c =
+    let args = c .before .before .before .before .args in
+    let list-in = c .before .before .before .list-in in
+    let settle = c .before .before .settle in
+    narrow-said settleOf (args .fields .now) (args .narrowed .now) _ (list-in .result) (list-in .ensures) (settle .result)
+    (c .give-narrowed .result) (c .give-narrowed .ensures) (settle .ensures .answers)
 
 pub dock-settle-spec : {M : Type 1} → statement M
 dock-settle-spec =

@@ -18,7 +18,12 @@ same-length : tie.Need-same-length
 same-length c = search needs
 
 returns : tie.Need-returns
-returns c = write-said (c .before .before .before .write .result) _ (c .count-as .ensures) (c .before .before .before .before .before .before .before .args .out .now) _ (c .before .before .before .before .before .before .before .args .fields .now) (c .before .before .before .before .before .list-in .result) (c .before .before .before .before .before .list-in .ensures) (c .before .before .before .write .ensures)
+returns c =
+    let write = c .before .before .before .write in
+    let args = c .before .before .before .before .before .before .before .args in
+    let list-in = c .before .before .before .before .before .list-in in
+    write-said (write .result) _ (c .count-as .ensures) (args .out .now) _ (args .fields .now) (list-in .result) (list-in .ensures)
+    (write .ensures)
 
 pub dock-write-spec : {M : Type 1} → statement M
 dock-write-spec =

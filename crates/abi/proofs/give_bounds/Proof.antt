@@ -18,7 +18,10 @@ joined-requires : tie.Need-joined-requires
 joined-requires c κs = search needs
 
 returns-2 : tie.Need-returns-2
-returns-2 c = bounds-given (c .before .before .before .before .before .before .args .answer) (c .before .before .before .before .before .before .args .bounds .now) _ (c .before .before .before .enum-told .given .1) (c .joined .ensures)
+returns-2 c =
+    let args = c .before .before .before .before .before .before .args in
+    let enum-told = c .before .before .before .enum-told in
+    bounds-given (args .answer) (args .bounds .now) _ (enum-told .given .1) (c .joined .ensures)
 
 pub give-bounds-spec : {M : Type 1} → statement M
 give-bounds-spec = tie.close (tie.spec enum-told enum-told-2 returns joined-requires returns-2)

@@ -21,10 +21,17 @@ refused-as-requires : tie.Need-refused-as-requires
 refused-as-requires c κs = search needs
 
 returns : tie.Need-returns
-returns c = narrowed-given (c .before .before .before .before .before .args .narrowed .now) (c .before .before .before .before .before .args .answer) (c .before .before .before .before .before .args .second) _ (c .before .before .before .enum-told .given .1) (c .before .flat-of .ensures)
+returns c =
+    let args = c .before .before .before .before .before .args in
+    let enum-told = c .before .before .before .enum-told in
+    let flat-of = c .before .flat-of in
+    narrowed-given (args .narrowed .now) (args .answer) (args .second) _ (enum-told .given .1) (flat-of .ensures)
 
 returns-2 : tie.Need-returns-2
-returns-2 c = narrowed-refused (c .before .before .before .before .args .narrowed .now) (c .before .before .before .before .args .answer) (c .before .before .before .before .args .second) _ _ (c .before .before .verdict .given .1) (c .refused-as .ensures)
+returns-2 c =
+    let args = c .before .before .before .before .args in
+    let verdict = c .before .before .verdict in
+    narrowed-refused (args .narrowed .now) (args .answer) (args .second) _ _ (verdict .given .1) (c .refused-as .ensures)
 
 pub give-narrowed-spec : {M : Type 1} → statement M
 give-narrowed-spec =

@@ -1,0 +1,58 @@
+-- Demands 2 and 3 of the numbers that stand in the bytes printed: `report-law` of proofs/ReportLaws.antt, for every input.
+use Prim.Native.Nat.{ℕ, _<_}
+use mathlib.Core.Path.{_≡_}
+use mathlib.Core.Logic.{_↔_}
+use mathlib.Core.List.{List, []}
+use lib.ListN.{length, getD}
+use Rattle.base.specs.Outcomes.{Code, answered, refused}
+use Rattle.format.specs.Reading.{readOf}
+use Rattle.list.specs.declared.types.DayList.{DayList}
+use Rattle.jackson.specs.Windows.{windowsOf}
+use Rattle.jackson.specs.Plans.{placesIn}
+use Rattle.list.specs.DayLists.{wholeIn}
+use Rattle.narrow.specs.Calls.{listWith}
+use Rattle.planner.specs.Demand3.{Demand3}
+use Rattle.planner.specs.Demand2.{PlansWindows}
+use Rattle.report.specs.Runs.{Run}
+use Rattle.report.specs.Reports.{refusalLine, reportOf}
+use Rattle.report.specs.Printed.{Fields, numberIn, dayPrinted, countPrinted, brokenPrinted, listPrinted, windowsPrinted, placePrinted, runsPrinted, planPrinted, toldBy, codePrinted, toldRefused}
+
+-- a run's line says the minutes from s to e and the place k
+pub record SaysRun (fs : Fields) (s e k : ℕ) : Type 0 where
+  pub first : numberIn fs 0 ≡ s
+  pub end : numberIn fs 1 ≡ e
+  pub place : numberIn fs 2 ≡ k
+
+-- lines say the maximal runs of one entry in m, in the order of their minutes, so that no run has two lines
+pub record SaysRuns (h : ℕ) (m : ℕ → ℕ) (ls : List Fields) : Type 0 where
+  pub each : (s e k : ℕ) → Run h m s e k ↔ ((j : ℕ) × (j < length ls) × SaysRun (getD ls j []) s e k)
+  pub in-order : (i j : ℕ) → i < j → j < length ls → numberIn (getD ls i []) 0 < numberIn (getD ls j []) 0
+
+-- what the numbers of a text are for the list l
+pub record PrintsPlan (l : DayList) (text : List ℕ) : Type 0 where
+  -- H, n, and of each entry the serial, seal, kind and minutes of work are those of l
+  pub list : listPrinted text ≡ listWith l (windowsPrinted text)
+  -- the lines of the entries are in the order of their places
+  pub places : (i : ℕ) → i < countPrinted text → placePrinted text i ≡ i
+  -- the plan printed is Jackson's schedule of the windows printed, and a plan; `broken` counts the whole entries that it breaks
+  pub demand2 : PlansWindows (wholeIn l) (windowsPrinted text) (planPrinted text) (brokenPrinted text)
+  -- the windows printed are the widest settled ones inside those of l, the moves are those of the rounds, and the bounds are exact
+  pub demand3 : Demand3 (wholeIn l) (windowsOf l) (toldBy text)
+  -- the runs printed are the maximal runs of that plan
+  pub runs : SaysRuns (dayPrinted text) (placesIn (planPrinted text)) (runsPrinted text)
+
+-- the line of the refusal k: its bytes, and what they say
+pub record PrintsRefusal (k : Code) (text : List ℕ) : Type 0 where
+  pub line : text ≡ refusalLine k
+  pub says : codePrinted text ≡ k
+
+-- what is printed for the input bs: one of three, and not two, since `readOf` and `reportOf` have one outcome
+pub data ReportLaw (bs text : List ℕ) : Type 0 where
+  -- the list is turned back as it is read: the line has the first row from 1 to 8 that holds
+  unread : (k : Code) → readOf bs ≡ refused k → PrintsRefusal k text → ReportLaw bs text
+  -- the list l is turned back as it is planned: demand 3 holds of the refusal printed, so that there are no settled windows inside those of
+  -- l, and 9 stands there if l has no plan, 10 if it has one
+  refuses : (l : DayList) (k : Code) → readOf bs ≡ answered l → reportOf bs ≡ refused k → PrintsRefusal k text
+      → Demand3 (wholeIn l) (windowsOf l) (toldRefused text) → ReportLaw bs text
+  -- the list l is planned: the text is its report, byte for byte, and the demands hold of the numbers printed
+  planned : (l : DayList) → readOf bs ≡ answered l → reportOf bs ≡ answered text → PrintsPlan l text → ReportLaw bs text
