@@ -39,3 +39,6 @@ pub mod random; // lists, damaged inputs and values, fixed by their seeds
 pub mod samples; // lists that several tests share, and short forms to write others down
 pub mod told; // how often each number was answered
 pub mod values; // values that every call refuses or accepts
+
+// Pages.
+pub mod picture; // the planned day that README shows

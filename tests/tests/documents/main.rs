@@ -1,4 +1,22 @@
 //! What the documents say: the pages of this repository, and document 01's traps.
 
+mod format;
 mod pages;
+mod picture;
+mod refusals;
 mod traps;
+
+use dock_tests::cases::root;
+use std::fs;
+
+/// The text of a file of the repository.
+fn page(name: &str) -> String {
+    fs::read_to_string(root().join(name)).unwrap_or_else(|error| panic!("{name}: {error}"))
+}
+
+/// The cells of a table's rows below its heading.
+fn rows(table: &str) -> Vec<Vec<String>> {
+    let rows =
+        table.lines().skip_while(|line| !line.starts_with("|---")).filter(|line| line.starts_with("| "));
+    rows.map(|row| row.trim_matches('|').split('|').map(|cell| cell.trim().to_string()).collect()).collect()
+}

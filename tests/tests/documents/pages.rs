@@ -1,17 +1,20 @@
-//! The links of the pages, README and those under docs/ and samples/, lead to files; the name that stands before
-//! a link to a Rattle file is declared there; docs/GATE.md names the must-fail edits, all of them and no others;
-//! and the report that README shows is the sample's.
+//! The links of the pages, README and those under docs/ and samples/, lead to files and to headings; the name that
+//! stands before a link to a Rattle file is declared there; each promise names its statement and its proof;
+//! docs/GATE.md names the must-fail edits, all of them and no others; README is short and shows the sample's report.
 
+use crate::{page, rows};
 use dock_tests::cases::{names, root};
 use std::collections::BTreeSet;
 use std::fs;
 use std::path::{Path, PathBuf};
 
-/// A link to a file of the repository, and the name in backquotes right before it, if there is one.
+/// A link to a file of the repository: the name in backquotes right before it, if there is one, and the heading
+/// that it leads to, if it names one.
 struct Link {
     page: String,
     name: Option<String>,
     file: PathBuf,
+    heading: String,
 }
 
 fn pages() -> Vec<String> {
@@ -33,11 +36,13 @@ fn links_of(page: &str) -> Vec<Link> {
     text.match_indices("](")
         .map(|(at, _)| {
             let target = text[at + 2..].split(')').next().expect("a link must end");
-            let (file, part) = target.split_once('#').unwrap_or((target, ""));
-            let line = part.strip_prefix('L').is_some_and(|line| line.parse::<usize>().is_ok());
+            let (file, heading) = target.split_once('#').unwrap_or((target, ""));
+            let line = heading.strip_prefix('L').is_some_and(|line| line.parse::<usize>().is_ok());
             assert!(!line, "{page}: {target} names a line, which moves");
             let start = text[..at].rfind('[').expect("a link must start");
-            Link { page: page.to_string(), name: name_before(&text[..start]), file: folder.join(file) }
+            let file = if file.is_empty() { root().join(page) } else { folder.join(file) };
+            let name = name_before(&text[..start]);
+            Link { page: page.to_string(), name, file, heading: heading.to_string() }
         })
         .collect()
 }
@@ -70,19 +75,42 @@ fn declared(line: &str) -> Option<&str> {
     words.find(|word| !MARKS.contains(word))
 }
 
+/// The name by which a link leads to a heading: "Two commands" is two-commands.
+fn anchor(heading: &str) -> String {
+    let kept = heading.chars().filter(|c| c.is_alphanumeric() || " -_".contains(*c));
+    kept.collect::<String>().to_lowercase().replace(' ', "-")
+}
+
 #[test]
 fn every_link_leads_to_a_file() {
     let links = links();
-    assert!(links.len() > 100, "{} links", links.len());
+    assert!(links.len() > 200, "{} links", links.len());
     for link in links {
         assert!(link.file.exists(), "{}: {}", link.page, link.file.display());
     }
 }
 
 #[test]
+fn a_link_to_a_heading_leads_to_one() {
+    let mut found = 0;
+    for Link { page, file, heading, .. } in links() {
+        if heading.is_empty() {
+            continue;
+        }
+        let text = text_of(&file);
+        let headings = text.lines().filter(|line| line.starts_with('#'));
+        let leads =
+            headings.map(|line| anchor(line.trim_start_matches('#').trim())).any(|name| name == heading);
+        assert!(leads, "{page}: {} has no heading {heading}", file.display());
+        found += 1;
+    }
+    assert!(found > 4, "{found} headings");
+}
+
+#[test]
 fn a_file_that_is_linked_declares_the_name_before_the_link() {
     let mut found = 0;
-    for Link { page, name, file } in links() {
+    for Link { page, name, file, .. } in links() {
         let Some(name) = name else { continue };
         if !file.extension().is_some_and(|ending| ending == "rt" || ending == "antt") {
             continue;
@@ -91,7 +119,26 @@ fn a_file_that_is_linked_declares_the_name_before_the_link() {
         assert!(declares, "{page}: {} does not declare {name}", file.display());
         found += 1;
     }
-    assert!(found > 70, "{found} names");
+    assert!(found > 140, "{found} names");
+}
+
+/// The tables of docs/PROMISES.md say in plain words what is promised, and then where it is stated and proved.
+#[test]
+fn each_promise_names_its_statement_and_its_proof() {
+    let page = page("docs/PROMISES.md");
+    let mut found = 0;
+    for part in page.split("| In plain words | Stated | Proved |\n").skip(1) {
+        for row in rows(part.split("\n\n").next().expect("a table")) {
+            let [words, stated, proved] = &row[..] else { panic!("{row:?}") };
+            assert!(words.ends_with('.') && !words.contains("]("), "{words}");
+            for (cell, folders) in [(stated, &["/specs/", "/src/", "/proofs/"][..]), (proved, &["/proofs"])] {
+                let leads = cell.contains("](") && folders.iter().any(|folder| cell.contains(folder));
+                assert!(leads, "{cell}, for {words}");
+            }
+            found += 1;
+        }
+    }
+    assert!(found > 30, "{found} promises");
 }
 
 /// The must-fail edits, as docs/GATE.md names them: `narrow/one_round_only`.
@@ -109,7 +156,7 @@ fn edits() -> BTreeSet<String> {
 
 #[test]
 fn the_gates_page_names_every_edit_and_no_other() {
-    let page = text_of(&root().join("docs/GATE.md"));
+    let page = page("docs/GATE.md");
     let crates: Vec<String> =
         edits().iter().filter_map(|edit| Some(edit.split_once('/')?.0.to_string())).collect();
     let named = page
@@ -123,6 +170,22 @@ fn the_gates_page_names_every_edit_and_no_other() {
 #[test]
 fn the_report_that_readme_shows_is_the_samples() {
     let report = text_of(&root().join("samples/morning.report"));
-    let readme = text_of(&root().join("README.md"));
-    assert!(readme.contains(&format!("```\n{report}```\n")), "README must show samples/morning.report");
+    assert!(
+        page("README.md").contains(&format!("```\n{report}```\n")),
+        "README must show samples/morning.report"
+    );
+}
+
+/// It shows the picture too, leads to each demand's promises, and is read in some minutes.
+#[test]
+fn readme_is_for_a_newcomer() {
+    let readme = page("README.md");
+    for target in ["docs/morning.svg", "docs/FORMAT.md", "docs/REFUSALS.md", "samples/README.md"] {
+        assert!(readme.contains(&format!("]({target})")), "{target}");
+    }
+    for demand in 1..=3 {
+        assert!(readme.contains(&format!("](docs/PROMISES.md#demand-{demand})")), "demand {demand}");
+    }
+    let words = readme.split_whitespace().count();
+    assert!(words <= 1250, "{words} words");
 }

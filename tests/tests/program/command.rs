@@ -1,8 +1,8 @@
 //! The command ./dock-report of the repository's root.
 
 use dock_tests::cases::{self, root, Case};
-use std::fs::File;
-use std::path::Path;
+use std::fs::{self, File};
+use std::path::{Path, PathBuf};
 use std::process::{Command, Output, Stdio};
 
 fn run(folder: &Path, arguments: &[&str], input: Stdio) -> Output {
@@ -24,6 +24,8 @@ fn the_command_prints_the_report_of_a_file_or_of_its_input() {
             assert_eq!(String::from_utf8_lossy(&output.stdout), report, "{name}");
         }
     }
+    let again = run(&root(), &["samples/tight.list"], Stdio::null());
+    assert_eq!(String::from_utf8_lossy(&again.stderr), "", "a run with nothing to build");
 }
 
 #[test]
@@ -35,4 +37,56 @@ fn the_command_refuses_what_is_no_file() {
         assert_eq!(output.stdout, b"", "{arguments:?}");
         assert!(String::from_utf8_lossy(&output.stderr).starts_with("usage: "), "{arguments:?}");
     }
+}
+
+/// A folder with the command, a program `rt` that says and does this, and a program `dock` that prints its input.
+/// A shell writes them: what this process has open for writing could not be run by another test's child.
+fn beside_rt(name: &str, rt: &str) -> PathBuf {
+    let folder = Path::new(env!("CARGO_TARGET_TMPDIR")).join(name);
+    fs::create_dir_all(folder.join("target/bin")).expect("a folder");
+    let write = "cp \"$0/dock-report\" . && printf '#!/bin/sh\\n%s\\n' \"$1\" >rt \
+                 && printf '#!/bin/sh\\ncat\\n' >target/bin/dock && chmod +x rt target/bin/dock";
+    let mut shell = Command::new("sh");
+    shell.args(["-c", write]).arg(root()).arg(rt).current_dir(&folder);
+    assert!(shell.status().expect("a shell").success());
+    folder
+}
+
+/// Runs the command of such a folder, which finds that `rt` first; then what its log has.
+fn run_beside_rt(folder: &Path) -> (Output, String) {
+    let path = std::env::var("PATH").expect("a path");
+    let mut command = Command::new(folder.join("dock-report"));
+    command.env("PATH", format!("{}:{path}", folder.display())).arg(root().join("samples/morning.txt"));
+    let output = command.output().expect("the command must start");
+    (output, fs::read_to_string(folder.join("target/dock-report.log")).expect("a log"))
+}
+
+/// The names go to standard error, the report alone to standard output, and all that was said to the log.
+#[test]
+fn the_command_names_each_crate_that_is_proved() {
+    let said = "rt: list proved (unchanged since it was last proved)\nfn codes::with_one: proved\n\
+                rt: codes proved (4 s)\nrt: jackson proved (31 s)\nrt: ok, 3 crates proved\n";
+    let folder = beside_rt("rt-proves", &format!("[ \"$*\" = 'check dock' ] && printf '{said}'"));
+    let (output, log) = run_beside_rt(&folder);
+    assert!(output.status.success());
+    assert_eq!(
+        String::from_utf8_lossy(&output.stderr),
+        "dock-report: codes proved (4 s)\ndock-report: jackson proved (31 s)\n"
+    );
+    assert_eq!(output.stdout, fs::read(root().join("samples/morning.txt")).expect("the input"));
+    assert_eq!(log, said);
+}
+
+#[test]
+fn the_command_shows_why_the_program_is_not_built() {
+    let folder =
+        beside_rt("rt-fails", "echo 'rt: codes NOT PROVED (exit 1, 2 s)'; echo 'an error' >&2; exit 1");
+    let (output, log) = run_beside_rt(&folder);
+    assert_eq!(output.status.code(), Some(1));
+    assert_eq!(output.stdout, b"");
+    assert_eq!(log, "rt: codes NOT PROVED (exit 1, 2 s)\nan error\n");
+    assert_eq!(
+        String::from_utf8_lossy(&output.stderr),
+        log + "dock-report: the program could not be built\n"
+    );
 }
