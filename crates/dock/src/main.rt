@@ -1,8 +1,8 @@
 // The report program: reads a day's list from standard input and prints its report, or the line of its refusal.
 // Promises: for every input, `text_of` makes the text that document 01 says, byte for byte, and demands 2 and 3 hold of the numbers that
 // stand in it. That the input arrives and the text leaves as they are is the operating system's part.
-// Uses `report` and `refusal_line` of the crate report, `numbers_of` of codes, the types of list, of format how long a list's bytes are, and
-// io and libc to read and write.
+// Uses `report` and `refusal_line` of the crate report, `numbers_of` of codes, the types of list, of format how long a list's bytes are,
+// and io and libc to read and write.
 use libc::STDIN_FILENO;
 use libc::STDOUT_FILENO;
 use list::types::Refusal;

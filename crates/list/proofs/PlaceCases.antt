@@ -24,7 +24,11 @@ module _ (es : List Entry) (n : ℕ) where
   pub mark-next : (marks : List Bool) (i : ℕ) (b : Bool) → Marked es n marks i → i < n → b ≡ isWhole (getD es i blank .kind)
       → Marked es n (set marks i b) (i + 1)
   mark-next marks i b so h e =
-      record { held = so .held; passed = omega (arith, h); column = column-next false _ es marks i b (omega (arith, h, so .held)) (so .column) e }
+      record {
+        held = so .held;
+        passed = omega (arith, h);
+        column = column-next false _ es marks i b (omega (arith, h, so .held)) (so .column) e;
+      }
 
 -- all are marked
 pub mark-done : (l : DayList) → length (l .entries) ≡ 64 → (marks : List Bool) (n i : ℕ) → n ≡ min (l .n) 64

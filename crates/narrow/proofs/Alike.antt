@@ -24,7 +24,11 @@ same-times s = record { frame = s .frame; n = s .n; entries = ap (map bare) (s .
 -- lists that differ in serials and seals alone have the same numbers, so that jackson's Alike speaks of them
 pub times-windows : {a b : DayList} → SameTimes a b → SameWindows a b
 times-windows {a} {b} s =
-    record { frame = s .frame; n = s .n; entries = sym (map-map plain bare (entriesOf a)) ∙ ap (map plain) (s .entries) ∙ map-map plain bare (entriesOf b) }
+    record {
+      frame = s .frame;
+      n = s .n;
+      entries = sym (map-map plain bare (entriesOf a)) ∙ ap (map plain) (s .entries) ∙ map-map plain bare (entriesOf b);
+    }
 
 -- windows, moves and refusals do not depend on serials and seals, nor on what stands from n on
 module _ {a b : DayList} (s : SameTimes a b) where
@@ -83,7 +87,8 @@ module _ (l : DayList) (w : Windows) where
   unfolding listWith
   listed-entries = take-append-seam (entriesWith w 0 (entriesOf l)) _
 
-  pub listed-entry : (i : ℕ) → i < length (entriesOf l) → getD (entriesOf (listWith l w)) i blank ≡ entryWith (getD (entriesOf l) i blank) (w .r i) (w .d i)
+  pub listed-entry : (i : ℕ) → i < length (entriesOf l)
+      → getD (entriesOf (listWith l w)) i blank ≡ entryWith (getD (entriesOf l) i blank) (w .r i) (w .d i)
   listed-entry i h = rw listed-entries (with-at w 0 (entriesOf l) i i (omega arith) h)
 
   pub listed-count : length (entriesOf (listWith l w)) ≡ length (entriesOf l)

@@ -24,7 +24,8 @@ use Rattle.jackson.proofs.Room.{formed-passes, passes-formed}
 use Rattle.jackson.proofs.ListLaws.{list-roomy, list-few, list-minutes}
 use Rattle.narrow.specs.Rounds.{Narrowed, unmoved, round, allRounds, narrowing}
 use Rattle.narrow.specs.Laws.{RoundLaw, NarrowLaw}
-use Rattle.narrow.specs.Calls.{listWith, narrowWindows, narrowedOf, settleOf, roundOf, listed, AnswersAs, HoldsAnswer, NarrowsWindows, Settles, MakesRound}
+use Rattle.narrow.specs.Calls.{listWith, narrowWindows, narrowedOf, settleOf, roundOf, listed, AnswersAs, HoldsAnswer, NarrowsWindows}
+use Rattle.narrow.specs.Calls.{Settles, MakesRound}
 use Rattle.narrow.specs.Internal.{narrowedBy, Countable}
 use Rattle.narrow.specs.declared.types.NarrowAnswer.{NarrowAnswer}
 use Rattle.narrow.specs.declared.types.WindowsAnswer.{WindowsAnswer}
@@ -118,7 +119,8 @@ module _ (whole : ℕ → Bool) (s : WindowSet) where
 -- Answers.
 module _ (l : DayList) (a : NarrowAnswer) where
   -- a refusal
-  pub answers-refused : (o : Outcome Narrowed) (v : Verdict) (x : Refusal) → a ≡ record { verdict = v; list = emptyList; moves = 0 } → v ≡ Refused x
+  pub answers-refused : (o : Outcome Narrowed) (v : Verdict) (x : Refusal) → a ≡ record { verdict = v; list = emptyList; moves = 0 }
+      → v ≡ Refused x
       → o ≡ refused (codeOf x) → AnswersAs l o a
   answers-refused o v x is e q = record { outcome = rw (is, q, e); beside = rw (is, q) }
 

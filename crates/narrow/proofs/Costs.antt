@@ -12,7 +12,8 @@ use Rattle.jackson.specs.Windows.{Windows, Formed}
 use Rattle.base.proofs.Sums.{sum-le, sum-add, term-le}
 use Rattle.narrow.specs.Searching.{Test}
 use Rattle.narrow.specs.Settling.{minutesCut}
-use Rattle.narrow.specs.Rounds.{Side, earliest, latest, step, Narrowed, moved, movesOf, counted, narrowSide, visit, visits, round, rounds, slack}
+use Rattle.narrow.specs.Rounds.{Side, earliest, latest, step, Narrowed, moved, movesOf, counted, narrowSide, visit, visits, round}
+use Rattle.narrow.specs.Rounds.{rounds, slack}
 use Rattle.narrow.specs.Laws.{WholeRefused}
 use Rattle.narrow.proofs.Puts.{place-cases}
 use Rattle.narrow.proofs.StepsKeep.{Keeps, keeps-same, keeps-n, keeps-p, keeps-trans, RefusedAt, step-says}
@@ -155,7 +156,8 @@ module _ (test : Test) (whole : ℕ → Bool) where
       (λ _. rounds-says fuel u (c .keeps .formed)))
 
 module _ (test : Test) (whole : ℕ → Bool) (s : Narrowed) (formed : Formed (s .windows)) where
-  pub side-cost : (side : Side) (k : ℕ) → k < s .windows .n → whole k ≡ true → (v : Narrowed) → narrowSide test side k s ≡ answered v → Costs whole s v
+  pub side-cost : (side : Side) (k : ℕ) → k < s .windows .n → whole k ≡ true → (v : Narrowed) → narrowSide test side k s ≡ answered v
+      → Costs whole s v
   side-cost side k place is v e = rw e at (side-says test whole k side s formed place is)
 
   pub visits-cost : (k : ℕ) → k ≤ s .windows .n → (v : Narrowed) → visits test whole k s ≡ answered v → Costs whole s v

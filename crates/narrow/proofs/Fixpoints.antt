@@ -11,7 +11,8 @@ use Rattle.jackson.specs.Plans.{Plannable}
 use Rattle.base.proofs.Sums.{le-or-lt, below-suc}
 use Rattle.narrow.specs.Searching.{Test, leastStart, greatestEnd}
 use Rattle.narrow.specs.Settling.{Settled, SettledInside, Widest}
-use Rattle.narrow.specs.Rounds.{Side, earliest, latest, step, Narrowed, moved, movesOf, counted, narrowSide, visit, visits, round, rounds, slack}
+use Rattle.narrow.specs.Rounds.{Side, earliest, latest, step, Narrowed, moved, movesOf, counted, narrowSide, visit, visits, round}
+use Rattle.narrow.specs.Rounds.{rounds, slack}
 use Rattle.narrow.specs.StepLists.{NothingLeft}
 use Rattle.narrow.proofs.Planners.{Planner}
 use Rattle.narrow.proofs.RoundsEnd.{rounds-by}
@@ -53,7 +54,8 @@ window-still k w s e none =
     (λ j. withWindow w k (sym from j) (sym to j)) ∙ with-r w k (w .r k) ∙ (λ j. withWindows w (put-back k (w .r) j) (w .d))
 
 -- what holds of every answer
-by-answer : (P : Windows → Type 0) (o : Outcome ℕ) (f : ℕ → Windows) → ((x : ℕ) → P (f x)) → Says P Anything (andThen o (λ x. answered (f x)))
+by-answer : (P : Windows → Type 0) (o : Outcome ℕ) (f : ℕ → Windows) → ((x : ℕ) → P (f x))
+    → Says P Anything (andThen o (λ x. answered (f x)))
 by-answer P (answered x) f each = each x
 by-answer P (refused k) f each = tt
 
@@ -177,7 +179,8 @@ module _ (whole : ℕ → Bool) (w : Windows) where
       let z = b .widest (v .r) (v .d) (widest-set v a) in
       (z .r i below, z .d i below)
 
-  pub widest-unique : (v u : Windows) → Widest whole w v → Widest whole w u → ((i : ℕ) → w .n ≤ i → (v .r i ≡ u .r i) × (v .d i ≡ u .d i)) → v ≡ u
+  pub widest-unique : (v u : Windows) → Widest whole w v → Widest whole w u → ((i : ℕ) → w .n ≤ i → (v .r i ≡ u .r i) × (v .d i ≡ u .d i))
+      → v ≡ u
   widest-unique v u a b past =
       a .entries ∙ (λ j. withWindows w (fun-ext (λ i. same i .0) j) (fun-ext (λ i. same i .1) j)) ∙ sym (b .entries)
     where

@@ -29,7 +29,8 @@ module _ (w : Windows) where
   with-one i (x ∷ es) e j z = ap (λ (l : List Entry). entryWith x (w .r i) (w .d i) ∷ l) (with-one (i + 1) es e j (omega arith))
 
   -- what holds of each of them
-  with-every : (P : Entry → Type 0) (i : ℕ) (es : List Entry) → ((j k : ℕ) → k ≡ i + j → j < length es → P (entryWith (getD es j blank) (w .r k) (w .d k)))
+  with-every : (P : Entry → Type 0) (i : ℕ) (es : List Entry)
+      → ((j k : ℕ) → k ≡ i + j → j < length es → P (entryWith (getD es j blank) (w .r k) (w .d k)))
       → Every P (entriesWith w i es)
   unfolding entriesWith
   with-every P i [] each = tt

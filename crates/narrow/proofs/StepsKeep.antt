@@ -45,7 +45,8 @@ keeps-windows w formed r d each past =
     record { entries = refl; formed = formed-inside w formed r d inside (λ i place. each i place .2); inside = inside; past = past }
 
 pub keeps-same : (w : Windows) → Formed w → Keeps w w
-keeps-same w formed = keeps-windows w formed (w .r) (w .d) (λ i place. (omega arith, omega arith, formed .room i place)) (λ i _. (refl, refl))
+keeps-same w formed =
+    keeps-windows w formed (w .r) (w .d) (λ i place. (omega arith, omega arith, formed .room i place)) (λ i _. (refl, refl))
 
 -- the same day, entries and minutes needed
 module _ {w v : Windows} (keeps : Keeps w v) where
@@ -131,7 +132,8 @@ module _ (w : Windows) (formed : Formed w) (k : ℕ) (place : k < w .n) where
       by-step (StartTried w k) (RefusedAt k) (Keeps w) (leastStart test w k) (λ s. answered (withR w k s)) (start-says test w k) keeps-r
 
 -- a step keeps the windows, or refuses its entry; the one for d as that for r in the mirror does
-pub step-says : (w : Windows) → Formed w → (k : ℕ) → k < w .n → (test : Test) (side : Side) → Says (Keeps w) (RefusedAt k) (step test side k w)
+pub step-says : (w : Windows) → Formed w → (k : ℕ) → k < w .n → (test : Test) (side : Side)
+    → Says (Keeps w) (RefusedAt k) (step test side k w)
 step-says w formed k place test earliest = start-keeps w formed k place test
 step-says w formed k place test latest =
     rw (step-mirror (any-in-mirror test) w formed k place)

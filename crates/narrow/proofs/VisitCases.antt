@@ -17,7 +17,8 @@ use Rattle.jackson.specs.Intervals.{overloadOf}
 use Rattle.jackson.specs.declared.types.WindowSet.{WindowSet}
 use Rattle.base.proofs.Sums.{le-or-lt}
 use Rattle.narrow.specs.Searching.{Test}
-use Rattle.narrow.specs.Rounds.{Side, earliest, latest, Narrowed, step, counted, narrowSide, visit, visits, round, rounds, allRounds, slack}
+use Rattle.narrow.specs.Rounds.{Side, earliest, latest, Narrowed, step, counted, narrowSide, visit, visits, round, rounds, allRounds}
+use Rattle.narrow.specs.Rounds.{slack}
 use Rattle.narrow.specs.Internal.{narrowedBy, Countable}
 use Rattle.narrow.specs.Calls.{narrowedOf}
 use Rattle.narrow.specs.declared.types.WindowsAnswer.{WindowsAnswer}
@@ -26,7 +27,8 @@ use Rattle.narrow.proofs.Costs.{Costs, side-cost, visits-cost, round-co
 use Rattle.narrow.proofs.RoundCases.{moved-one}
 
 -- a search adds at most two to the moves: one for each side, of which it changes one
-side-moves : (test : Test) (side : Side) (k : ℕ) (s : Narrowed) → Says (λ (v : Narrowed). v .moves ≤ s .moves + 2) (λ _. Unit {0}) (narrowSide test side k s)
+side-moves : (test : Test) (side : Side) (k : ℕ) (s : Narrowed)
+    → Says (λ (v : Narrowed). v .moves ≤ s .moves + 2) (λ _. Unit {0}) (narrowSide test side k s)
 unfolding narrowSide
 side-moves test side k s = go (step test side k (s .windows))
   where

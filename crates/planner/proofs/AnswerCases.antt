@@ -45,7 +45,8 @@ use Rattle.planner.specs.declared.types.PlanAnswer.{PlanAnswer}
 use Rattle.planner.specs.declared.types.ShownAnswer.{ShownAnswer}
 use Rattle.planner.proofs.Demands.{AtPlace, ByRules, demand3}
 use Rattle.planner.proofs.CallCases.{plan-formed, shown-plan, shown-formed, IsSettled, outcome-is, is-settled, windows-told}
-use Rattle.planner.proofs.CallCases.{settled-few, settled-day, settled-plan, Planning, place-in, ends-are, starts-are, plan-is, broken-is}
+use Rattle.planner.proofs.CallCases.{settled-few, settled-day, settled-plan, Planning, place-in, ends-are, starts-are, plan-is}
+use Rattle.planner.proofs.CallCases.{broken-is}
 use Rattle.planner.proofs.CallCases.{shown-bound, shown-stored}
 
 -- demand 3 of a call that narrowed after checks that were passed

@@ -199,7 +199,8 @@ module _ {checks : Outcome (Unit {0})} {l : DayList} {a : NarrowAnswer} (settled
   settled-plan = plans-windows (wholeIn l) (windowsOf (a .list)) settled-formed (settled .widest .settled .plan)
 
 -- the windows of the list answered are those told
-pub windows-told : (a : NarrowAnswer) (v : Narrowed) → narrowedIn a ≡ answered v → (a .verdict ≡ Accepted) × (windowsOf (a .list) ≡ v .windows)
+pub windows-told : (a : NarrowAnswer) (v : Narrowed) → narrowedIn a ≡ answered v
+    → (a .verdict ≡ Accepted) × (windowsOf (a .list) ≡ v .windows)
 windows-told a v = go (a .verdict) refl
   where
     go : (t : Verdict) → a .verdict ≡ t → outcomeOf t (settledIn a) ≡ answered v
@@ -218,7 +219,8 @@ windows-found found v = go (found .verdict)
 
 -- What the code has where nothing was refused: narrowing's answer, the settled windows in arrays with the marks of the whole entries, and a
 -- plan buffer with room.
-pub record Planning (checks : Outcome (Unit {0})) (l : DayList) (old : List ℕ) (a : NarrowAnswer) (marks : List Bool) (s : WindowSet) : Type 0 where
+pub record Planning (checks : Outcome (Unit {0})) (l : DayList) (old : List ℕ) (a : NarrowAnswer) (marks : List Bool)
+    (s : WindowSet) : Type 0 where
   pub after : NarrowsAfter checks l a
   pub settled : IsSettled checks l a
   pub kinds : marked marks ≡ wholeIn l

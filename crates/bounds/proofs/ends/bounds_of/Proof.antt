@@ -25,7 +25,8 @@ returns c =
     let fault = c .before .before .before .before .room-fault in
     let accepted = c .before .before .before .is-accepted in
     bounds-none (args .windows) (fault .result) (fault .ensures) (accepted .result) (accepted .ensures) (marked (args .whole))
-    (c .before .zeros .result) (c .zeros2 .result) (not-true _ (c .before .before .if1 .taken)) (c .before .zeros .ensures) (c .zeros2 .ensures)
+    (c .before .zeros .result) (c .zeros2 .result) (not-true _ (c .before .before .if1 .taken)) (c .before .zeros .ensures)
+    (c .zeros2 .ensures)
 
 least-ends-requires : tie.Need-least-ends-requires
 least-ends-requires c κs =

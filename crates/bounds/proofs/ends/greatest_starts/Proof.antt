@@ -7,7 +7,8 @@ use native.Mathlib.Omega.{arith}
 use lib.ListN.{getD}
 use Rattle.list.specs.DayLists.{marked}
 use Rattle.jackson.specs.Windows.{windowsIn}
-use Rattle.bounds.proofs.EndCases.{Placed, placed-none, placed-next, placed-all, formed-in-mirror, mirror-end-in-day, starts-by-mirror}
+use Rattle.bounds.proofs.EndCases.{Placed, placed-none, placed-next, placed-all, formed-in-mirror, mirror-end-in-day}
+use Rattle.bounds.proofs.EndCases.{starts-by-mirror}
 use Rattle.bounds.proofs.ends.greatest_starts.Statement.{statement}
 use Rattle.bounds.proofs.ends.greatest_starts.Tie as tie
 
@@ -45,7 +46,8 @@ sub-starts c =
     let ends = c .before .before .before .before .least-ends in
     let place : c .before .loop .i < windowsIn (start .args .windows) .n =
     omega (arith, c .loop-test .taken, c .before .before .places-held .ensures) in
-    mirror-end-in-day (start .args .windows) (start .pre) (mirrored .result) (mirrored .ensures) (marked (start .args .whole)) (ends .result)
+    mirror-end-in-day (start .args .windows) (start .pre) (mirrored .result) (mirrored .ensures) (marked (start .args .whole))
+    (ends .result)
     (ends .ensures) _ place
 
 mul-starts-2 : tie.Need-mul-starts-2 Inv-loop μ-loop
@@ -69,7 +71,8 @@ returns c =
     let mirrored = c .before .before .before .before .before .mirrored in
     let ends = c .before .before .before .before .least-ends in
     rw (c .before .before .places-held .ensures) at (placed-all _ _ _ _ (c .before .loop .inv) (c .loop-test .left))
-    ∙ starts-by-mirror (start .args .windows) (start .pre) (mirrored .result) (mirrored .ensures) (marked (start .args .whole)) (ends .result)
+    ∙ starts-by-mirror (start .args .windows) (start .pre) (mirrored .result) (mirrored .ensures) (marked (start .args .whole))
+    (ends .result)
     (ends .ensures)
 
 pub greatest-starts-spec : {M : Type 1} → statement M

@@ -23,7 +23,8 @@ returns : tie.Need-returns
 returns c =
     let args = c .before .before .before .before .args in
     let fault = c .before .before .room-fault in
-    no-room (args .shown) (args .whole) (args .windows) (args .k) (args .plan .now) (fault .result) (fault .ensures) _ (c .enum-told2 .given .1)
+    no-room (args .shown) (args .whole) (args .windows) (args .k) (args .plan .now) (fault .result) (fault .ensures) _
+    (c .enum-told2 .given .1)
 
 places-held-requires : tie.Need-places-held-requires
 places-held-requires c κs = search needs

@@ -71,7 +71,8 @@ returns-3 c =
     let test = c .before .before .before .before .before .before .unchecked-overload in
     let enum-told3 = c .before .before .before .before .enum-told3 in
     let found = c .before .before .before .all-rounds in
-    windows-stopped _ _ (room-fault .result) (room-fault .ensures) (enum-told .given .1) (test .result) (test .ensures) (enum-told3 .given .1)
+    windows-stopped _ _ (room-fault .result) (room-fault .ensures) (enum-told .given .1) (test .result) (test .ensures)
+    (enum-told3 .given .1)
     (found .result) (found .ensures) _ (c .before .enum-told6 .given .1) _ (c .unmoved-with3 .ensures)
 
 returns-4 : tie.Need-returns-4

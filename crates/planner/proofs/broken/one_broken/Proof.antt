@@ -39,13 +39,15 @@ end-in-requires c κs = c .before .before .before .before .pre .0 .room
 returns-2 : tie.Need-returns-2
 returns-2 c =
     let start = c .before .before .before .before .before .before in
-    in-one-piece (start .pre .0) (start .pre .1) (start .args .whole) (c .before .before .before .before .if1 .left) (c .before .before .start-in .ensures)
+    in-one-piece (start .pre .0) (start .pre .1) (start .args .whole) (c .before .before .before .before .if1 .left)
+    (c .before .before .start-in .ensures)
     (c .before .end-in .ensures) (c .if2 .taken)
 
 returns-3 : tie.Need-returns-3
 returns-3 c =
     let start = c .before .before .before .before .before .before in
-    in-pieces (start .pre .0) (start .pre .1) (start .args .whole) (c .before .before .before .before .if1 .left) (c .before .before .start-in .ensures)
+    in-pieces (start .pre .0) (start .pre .1) (start .args .whole) (c .before .before .before .before .if1 .left)
+    (c .before .before .start-in .ensures)
     (c .before .end-in .ensures) (c .if2 .left)
 
 pub one-broken-spec : {M : Type 1} → statement M

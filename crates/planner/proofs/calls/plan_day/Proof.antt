@@ -18,7 +18,9 @@ narrowed c =
     let whole-places = c .before .before .before .before .whole-places in
     let windows = c .before .before .unchecked-windows in
     let found = c .before .narrowed-after in
-    narrows-after (planChecks (args .list) (length (args .plan .now))) (args .list) (plan-formed (args .list) (length (args .plan .now))) (whole-places .result) (whole-places .ensures) (windows .result)
+    let checks = planChecks (args .list) (length (args .plan .now)) in
+    let formed = plan-formed (args .list) (length (args .plan .now)) in
+    narrows-after checks (args .list) formed (whole-places .result) (whole-places .ensures) (windows .result)
     (windows .ensures) (found .result) (rw (c .before .before .before .plan-checks .ensures) at (found .ensures)) (c .answer-with .result)
     (c .answer-with .ensures)
 
@@ -34,7 +36,9 @@ planning c =
     let whole-places = answer .before .before .before .before .whole-places in
     let windows = answer .before .before .unchecked-windows in
     let found = answer .before .narrowed-after in
-    let is = found-is (planChecks (args .list) (length (args .plan .now))) (args .list) (plan-formed (args .list) (length (args .plan .now))) (whole-places .result) (whole-places .ensures) (windows .result)
+    let checks = planChecks (args .list) (length (args .plan .now)) in
+    let formed = plan-formed (args .list) (length (args .plan .now)) in
+    let is = found-is checks (args .list) formed (whole-places .result) (whole-places .ensures) (windows .result)
     (windows .ensures) (found .result) (rw (answer .before .before .before .plan-checks .ensures) at (found .ensures)) in
     is-planning (found .result) (narrowed answer) (λ e. e) (whole-places .ensures) is (c .enum-told .given .1)
 
