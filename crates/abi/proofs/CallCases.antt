@@ -3,7 +3,6 @@
 use mathlib.Core.Path.{_≡_, refl, sym, ap, subst, _∙_}
 use mathlib.Core.List.{List, [], _∷_, _++_}
 use Prim.Native.Nat.{ℕ}
-use lib.ListN.{length}
 use Rattle.base.specs.Outcomes.{Outcome, answered, refused}
 use Rattle.list.specs.Refusals.{codeOf, verdictOf, outcomeOf, writeAnswerOf}
 use Rattle.format.specs.Reading.{readOf}
@@ -25,8 +24,7 @@ use Rattle.planner.specs.declared.types.ShownAnswer.{ShownAnswer}
 use Rattle.report.specs.Calls.{StoresText}
 use Rattle.codes.specs.Codes.{three}
 use Rattle.flat.specs.Flat.{flatOf, valueOf}
-use Rattle.abi.specs.Calls.{answerWith, ReadCall, WriteCall, OverloadCall, ScheduleCall, NarrowCall, PlanCall}
-use Rattle.abi.specs.Calls.{ShowCall, TextCall}
+use Rattle.abi.specs.Calls.{answerWith, ReadCall, WriteCall, OverloadCall, ScheduleCall, NarrowCall, PlanCall, ShowCall, TextCall}
 use Rattle.abi.specs.declared.Answer.{Answer}
 
 -- an answer made of a refusal

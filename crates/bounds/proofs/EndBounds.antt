@@ -5,19 +5,18 @@ use mathlib.Core.Bool.{Bool, true, false, cond, true≢false}
 use Prim.Native.Nat.{ℕ, _+_, _-_, _<_, _≤_}
 use native.Mathlib.Omega.{arith}
 use Rattle.jackson.specs.Windows.{Windows, withD, fixedAt, Formed}
-use Rattle.jackson.specs.Plans.{Plan, IsEnd, endOf, placesIn, PlanBytes, Plannable}
+use Rattle.jackson.specs.Plans.{Plan, IsEnd, endOf, placesIn, PlanBytes, Plannable, Consecutive}
 use Rattle.base.proofs.Sums.{le-or-lt}
 use Rattle.jackson.proofs.PlanFacts.{minutes-within, other-windows, plan-end, end-due}
 use Rattle.jackson.proofs.Law.{schedule-law}
 use Rattle.narrow.specs.Searching.{Test}
-use Rattle.narrow.specs.Settling.{Consecutive, Settled}
+use Rattle.narrow.specs.Settling.{Settled}
 use Rattle.narrow.proofs.Planners.{Planner}
-use Rattle.narrow.proofs.OverloadPlanner.{formed-roomy}
-use Rattle.narrow.proofs.Puts.{place-cases, put-same, with-d, consecutive-fixed, fixed-consecutive}
+use Rattle.jackson.proofs.Room.{formed-roomy}
+use Rattle.jackson.proofs.Puts.{place-cases, put-same, with-d, consecutive-fixed, fixed-consecutive}
 use Rattle.bounds.specs.Ends.{leastEnd, Keeping}
 use Rattle.bounds.specs.ShownPlans.{earlyPlan, IsEarly}
-use Rattle.bounds.proofs.EndSearches.{own-deadline, deadline-widen, deadline-formed, deadline-exact, least-end-whole}
-use Rattle.bounds.proofs.EndSearches.{least-end-first, least-end-range}
+use Rattle.bounds.proofs.EndSearches.{own-deadline, deadline-widen, deadline-formed, deadline-exact, least-end-whole, least-end-first, least-end-range}
 
 -- Plans.
 

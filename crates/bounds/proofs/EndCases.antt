@@ -16,16 +16,14 @@ use Rattle.jackson.specs.Mirrors.{MirrorOf, mirror}
 use Rattle.jackson.specs.Intervals.{overloadOf}
 use Rattle.jackson.specs.declared.types.WindowSet.{WindowSet}
 use Rattle.base.proofs.Sums.{le-or-lt, same-cases}
-use Rattle.base.proofs.Listed.{list-is, list-same, list-at, list-length}
+use Rattle.base.proofs.Listed.{list-is, list-length}
 use Rattle.base.specs.Outcomes.{Outcome, answered, refused, accepts}
 use Rattle.jackson.proofs.Room.{passes-formed}
 use Rattle.narrow.proofs.OverloadPlanner.{overload-planner}
-use Rattle.narrow.proofs.MirrorSearches.{formed-mirror}
-use Rattle.bounds.specs.Ends.{leastEnd, greatestStart}
+use Rattle.jackson.proofs.MirrorWindows.{formed-mirror}
+use Rattle.bounds.specs.Ends.{leastEnd}
 use Rattle.bounds.specs.Calls.{byPlace, leastEnds, greatestStarts, HoldsBounds}
-use Rattle.bounds.specs.ShownPlans.{boundOf}
-use Rattle.bounds.specs.declared.types.Shown.{Shown}
-use Rattle.bounds.specs.declared.types.Shown.the-variants.{Early, Late}
+use Rattle.bounds.proofs.ByPlace.{by-place-at, by-place, by-place-same}
 use Rattle.bounds.proofs.EndSearches.{deadline-mono, least-end-whole, least-end-found, least-end-range}
 use Rattle.bounds.proofs.MirrorEnds.{start-by-mirror}
 
@@ -103,21 +101,8 @@ module _ {w : Windows} (formed : Formed w) {k : ℕ} (place : k < w .n) where
 pub whole-end : (whole : Bool) (w : Windows) (k : ℕ) → whole ≡ true → w .r k + w .p k ≡ leastEnd overloadOf (λ _. whole) w k
 whole-end whole w k is = sym (least-end-whole overloadOf (λ _. whole) w k is)
 
--- a bound depends on the kind of its own entry alone
-pub bound-kind : (x : Shown) (whole : ℕ → Bool) (b : Bool) (w : Windows) (k : ℕ) → b ≡ whole k
-    → boundOf x (λ _. b) k w ≡ boundOf x whole k w
-unfolding leastEnd greatestStart
-bound-kind Early whole b w k e = rw e
-bound-kind Late whole b w k e = rw e
-
 -- numbers by place: the first i are stored
 module _ (f : ℕ → ℕ) where
-  by-place-at : (n i : ℕ) → i < 64 → getD (byPlace n f) i 0 ≡ cond (ltb i n) (f i) 0
-  by-place-at n i h = list-at 64 (λ j. cond (ltb j n) (f j) 0) 0 i h
-
-  pub by-place : (n i : ℕ) → n ≤ 64 → i < n → getD (byPlace n f) i 0 ≡ f i
-  by-place n i few h = by-place-at n i (omega arith) ∙ rw (lt-ltb i n h)
-
   placed-nowhere : replicate 64 0 ≡ byPlace 0 f
   placed-nowhere =
       sym
@@ -137,14 +122,10 @@ module _ (f : ℕ → ℕ) where
           (λ z _.
           getD-set-other xs i t x 0 z
           ∙ ap (λ (ys : List ℕ). getD ys t 0) so
-          ∙ by-place-at i t below
+          ∙ by-place-at f i t below
           ∙ le-or-lt i t
           (λ a. rw (le-ltb t i a, le-ltb t (i + 1) (omega (arith, z))))
           (λ a. rw (lt-ltb t i a, lt-ltb t (i + 1) (omega arith))))
-
--- only the places below n count
-by-place-same : (n : ℕ) (f g : ℕ → ℕ) → ((i : ℕ) → i < n → f i ≡ g i) → byPlace n f ≡ byPlace n g
-by-place-same n f g e = list-same 64 _ _ (λ t _. le-or-lt n t (λ a. rw (le-ltb t n a)) (λ a. rw (lt-ltb t n a) (e t a)))
 
 -- the numbers of the first i of n places are stored
 pub record Placed (f : ℕ → ℕ) (n : ℕ) (xs : List ℕ) (i : ℕ) : Type 0 where

@@ -13,8 +13,8 @@ use Rattle.jackson.proofs.PlanFacts.{widen}
 use Rattle.narrow.specs.Searching.{Test}
 use Rattle.base.specs.Outcomes.{accepts}
 use Rattle.narrow.proofs.Planners.{Planner}
-use Rattle.narrow.proofs.Puts.{place-cases, put-back}
-use Rattle.narrow.proofs.StepsKeep.{formed-inside}
+use Rattle.jackson.proofs.Puts.{place-cases, put-back}
+use Rattle.jackson.proofs.Room.{formed-inside}
 use Rattle.narrow.proofs.Exact.{accepted-answered}
 use Rattle.bounds.specs.Ends.{spare, failedDeadlines, leastEnd}
 

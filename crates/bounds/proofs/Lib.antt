@@ -4,6 +4,9 @@ mod MirrorEnds
 -- In settled windows these are bounds over all plans, and the plans shown have them.
 pub mod EndBounds
 pub mod StartBounds
--- What the code's proofs cite, case by case. Those of the crates above cite both.
-pub mod EndCases
-pub mod ShownCases
+-- Numbers by place; bounds and shown plans as functions of the windows.
+pub mod ByPlace
+pub mod ShownFacts
+-- What the code's proofs cite, case by case.
+mod EndCases
+mod ShownCases

@@ -11,7 +11,8 @@ use Rattle.base.proofs.Searches.{first-cong}
 use Rattle.narrow.specs.Searching.{Test}
 use Rattle.base.specs.Outcomes.{accepts}
 use Rattle.narrow.proofs.Planners.{Planner}
-use Rattle.narrow.proofs.MirrorSearches.{with-r-mirror, planner-in-mirror}
+use Rattle.jackson.proofs.MirrorWindows.{with-r-mirror}
+use Rattle.narrow.proofs.MirrorSearches.{planner-in-mirror}
 use Rattle.narrow.proofs.StepsKeep.{keeps-r}
 use Rattle.narrow.proofs.Exact.{in-mirror}
 use Rattle.bounds.specs.Ends.{spare, failedDeadlines, failedReleases, leastEnd, greatestStart}

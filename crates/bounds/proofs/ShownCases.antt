@@ -19,50 +19,24 @@ use Rattle.jackson.specs.Windows.{Windows, windowsIn, withD, roomFault, Formed,
 use Rattle.jackson.specs.Plans.{idle, placesIn}
 use Rattle.jackson.specs.Mirrors.{mirror, mirrorBytes, MirrorOf}
 use Rattle.jackson.specs.Intervals.{overloadOf}
-use Rattle.jackson.specs.Minutes.{schedule}
 use Rattle.jackson.specs.Calls.{FillsWindows}
 use Rattle.jackson.specs.declared.types.WindowSet.{WindowSet}
 use Rattle.base.proofs.Sums.{le-or-lt, same-cases}
 use Rattle.base.proofs.Listed.{list-same, list-length}
 use Rattle.jackson.proofs.Room.{passes-formed}
+use Rattle.jackson.proofs.StoredPlans.{schedule-long, filled-with}
 use Rattle.jackson.proofs.PlanFacts.{place-read, mirror-at}
 use Rattle.narrow.proofs.OverloadPlanner.{overload-planner}
-use Rattle.narrow.proofs.MirrorSearches.{formed-mirror}
+use Rattle.jackson.proofs.MirrorWindows.{formed-mirror}
 use Rattle.bounds.specs.Ends.{leastEnd, greatestStart}
-use Rattle.bounds.specs.ShownPlans.{earlyPlan, latePlan, boundOf, shownPlan}
+use Rattle.bounds.specs.ShownPlans.{earlyPlan, latePlan, shownPlan}
 use Rattle.bounds.specs.Calls.{showRows, StoresPlan}
 use Rattle.bounds.specs.Internal.{StoresShown}
 use Rattle.bounds.specs.declared.types.BoundAnswer.{BoundAnswer}
 use Rattle.bounds.specs.declared.types.Shown.{Shown}
 use Rattle.bounds.specs.declared.types.Shown.the-variants.{Early, Late}
-use Rattle.bounds.proofs.EndCases.{bound-kind}
 use Rattle.bounds.proofs.EndSearches.{least-end-range}
 use Rattle.bounds.proofs.MirrorEnds.{start-by-mirror, late-by-mirror}
-
--- a buffer in which a plan of h bytes was stored is as long as before
-pub stored-long : (h : ℕ) (xs old new : List ℕ) → new ≡ xs ++ drop h old → length xs ≡ h → h ≤ length old → length new ≡ length old
-stored-long h xs old new e long room = rw e (length-front old xs h (long ∙ sym (length-take-le h old room)))
-
--- a schedule has a byte for each minute
-pub schedule-long : (w : Windows) → length (schedule w) ≡ w .h
-unfolding schedule
-schedule-long w = list-length (w .h) _
-
--- and so has a shown plan
-pub shown-long : (x : Shown) (whole : ℕ → Bool) (k : ℕ) (w : Windows) → length (shownPlan x whole k w) ≡ w .h
-shown-long Early whole k w = schedule-long _
-shown-long Late whole k w = list-length (w .h) _
-
--- a plan depends on the kind of its own entry alone
-pub plan-kind : (x : Shown) (whole : ℕ → Bool) (b : Bool) (w : Windows) (k : ℕ) → b ≡ whole k
-    → shownPlan x (λ _. b) k w ≡ shownPlan x whole k w
-plan-kind Early whole b w k e = ap (earlyPlan w k) (bound-kind Early whole b w k e)
-plan-kind Late whole b w k e = ap (latePlan w k) (bound-kind Late whole b w k e)
-
--- a plan buffer that is long enough holds the schedule
-pub filled-with : (w : Windows) (old : List ℕ) (v : Verdict) (new : List ℕ) → FillsWindows w old v new → w .h ≤ length old
-    → new ≡ schedule w ++ drop (w .h) old
-filled-with w old v new fills room = rw (le-ltb (length old) (w .h) room) at (fills .buffer)
 
 -- the early plan: the schedule of the windows u with k's d set to its least end
 pub stored-early : (whole : ℕ → Bool) (w u : Windows) (k e : ℕ) (old : List ℕ) (v : Verdict) (new : List ℕ) → u ≡ withD w k e

@@ -6,13 +6,13 @@ use mathlib.Core.List.{List}
 use Prim.Native.Nat.{ℕ, suc, _+_, _-_, _<_, _≤_, min}
 use native.Mathlib.Omega.{arith}
 use Rattle.jackson.specs.Windows.{Windows, Formed}
-use Rattle.jackson.specs.Plans.{IsStart, IsEnd, placesIn, PlanBytes}
+use Rattle.jackson.specs.Plans.{IsStart, IsEnd, placesIn, PlanBytes, Consecutive}
 use Rattle.jackson.specs.Mirrors.{mirror, mirrorPlan, mirrorBytes}
 use Rattle.jackson.proofs.PlanFacts.{minutes-within, mirror-plan, mirror-at, mirror-bytes}
 use Rattle.narrow.specs.Searching.{Test}
-use Rattle.narrow.specs.Settling.{Consecutive, Settled}
+use Rattle.narrow.specs.Settling.{Settled}
 use Rattle.narrow.proofs.Planners.{Planner}
-use Rattle.narrow.proofs.MirrorSearches.{formed-mirror, mirror-back}
+use Rattle.jackson.proofs.MirrorWindows.{formed-mirror, mirror-back}
 use Rattle.narrow.proofs.MirrorSettled.{consecutive-mirror, settled-mirror}
 use Rattle.bounds.specs.Ends.{leastEnd, greatestStart, Keeping}
 use Rattle.bounds.specs.ShownPlans.{earlyPlan, latePlan, IsEarly, IsLate}

@@ -8,8 +8,6 @@ use lib.Dec.{leb, ltb}
 use Rattle.base.specs.Outcomes.{Outcome, answered, refused, Row, row, firstOf, andThen, accepts}
 use Rattle.base.specs.Counting.{listOf}
 use Rattle.list.specs.Refusals.{outcomeOf}
-use Rattle.list.specs.declared.types.Refusal.{Refusal}
-use Rattle.list.specs.declared.types.Verdict.the-variants.{Refused}
 use Rattle.jackson.specs.Windows.{Windows, roomFault}
 use Rattle.jackson.specs.Intervals.{overloadOf}
 use Rattle.jackson.specs.Calls.{bufferRow}

@@ -4,10 +4,9 @@ use mathlib.Core.Path.{_≡_}
 use mathlib.Core.Bool.{Bool, true, cond}
 use Rattle.base.specs.Counting.{firstBelow}
 use Rattle.jackson.specs.Windows.{Windows, withR, withD}
-use Rattle.jackson.specs.Plans.{Plan}
+use Rattle.jackson.specs.Plans.{Plan, Consecutive}
 use Rattle.narrow.specs.Searching.{Test}
 use Rattle.base.specs.Outcomes.{accepts}
-use Rattle.narrow.specs.Settling.{Consecutive}
 
 -- the minutes of its window that entry k does not need
 abbrev pub spare : Windows → ℕ → ℕ

@@ -1,7 +1,10 @@
--- Windows that have room, and the test of it.
+-- Windows that have room and the test of it, windows with one value changed, and the mirror of windows.
 pub mod Room
--- Facts about plans alone: the mirror, other windows, room, starts and ends.
+pub mod Puts
+pub mod MirrorWindows
+-- Facts about plans alone: the mirror, other windows, room, starts and ends; and what a buffer holds in which a plan was stored.
 pub mod PlanFacts
+pub mod StoredPlans
 -- The law that a plan exists exactly without overload: its steps, its form for windows and its form for lists. The crates above are to
 -- cite Law and ListLaws, and RunningDays and Schedules for days that are running.
 mod IntervalWork
@@ -16,8 +19,8 @@ pub mod Law
 pub mod ListLaws
 -- Lists that are planned alike.
 pub mod Alike
--- What the code's proofs cite, case by case. Those of the crates above cite HeldWindows too.
-pub mod HeldWindows
+-- What the code's proofs cite, case by case. Those of the crates above cite ArrayCases too, which says what arrays of windows stand for.
+pub mod ArrayCases
 mod ScanCases
 mod MinuteCases
 mod IntervalCases

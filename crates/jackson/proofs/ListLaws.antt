@@ -13,12 +13,13 @@ use Rattle.list.specs.declared.types.Entry.{Entry}
 use Rattle.list.specs.declared.types.DayList.{DayList}
 use Rattle.base.proofs.Inversion.{Says, by-row}
 use Rattle.list.proofs.Sound.{Sound, Every, SoundList, check-says, sound-list}
-use Rattle.jackson.specs.Windows.{windowsOf, Roomy}
+use Rattle.jackson.specs.Windows.{windowsOf, Formed}
 use Rattle.jackson.specs.Plans.{PlanBytes, placesIn, Plannable}
 use Rattle.jackson.specs.Intervals.{ShowsOverload, overloadOf}
 use Rattle.jackson.specs.Laws.{PlanLaw, ScheduleLaw}
 use Rattle.jackson.specs.Minutes.{schedule}
 use Rattle.jackson.specs.Calls.{testOf, Decides, fillOf}
+use Rattle.jackson.proofs.Room.{formed-roomy}
 use Rattle.jackson.proofs.Law.{plan-law, schedule-law}
 
 -- what holds of every entry holds of the one at any place
@@ -31,24 +32,26 @@ module _ (l : DayList) (formed : WellFormed l) where
   sound-at : (i : ℕ) → i < windowsOf l .n → Sound (l .frame) (getD (entriesOf l) i blank)
   sound-at = every-at (Sound (l .frame)) (entriesOf l) (sound-list l formed .entries)
 
-  -- the windows of a well-formed list have room
-  pub list-roomy : Roomy (windowsOf l)
-  list-roomy = record { in-day = λ i h _. sound-at i h .in-day; room = λ i h _. sound-at i h .room }
-
   -- it has at most 64 entries
   pub list-few : windowsOf l .n ≤ 64
   list-few = omega (arith, length-take (l .n) (l .entries), sound-list l formed .header .room)
 
-  -- each needs some minutes
-  pub list-minutes : (i : ℕ) → i < windowsOf l .n → 1 ≤ windowsOf l .p i
-  list-minutes i h = sound-at i h .some-minutes
+  -- the windows of a well-formed list have room
+  pub list-formed : Formed (windowsOf l)
+  list-formed =
+      record {
+        few = omega (arith, list-few);
+        minutes = λ i h. sound-at i h .some-minutes;
+        in-day = λ i h. sound-at i h .in-day;
+        room = λ i h. sound-at i h .room;
+      }
 
   -- the law holds of them
   pub list-law : PlanLaw (windowsOf l)
-  list-law = plan-law (windowsOf l) list-roomy (omega (arith, list-few))
+  list-law = plan-law (windowsOf l) (formed-roomy (windowsOf l) list-formed) (list-formed .few)
 
   pub list-schedule-law : ScheduleLaw (windowsOf l)
-  list-schedule-law = schedule-law (windowsOf l) list-roomy (omega (arith, list-few))
+  list-schedule-law = schedule-law (windowsOf l) (formed-roomy (windowsOf l) list-formed) (list-formed .few)
 
 -- What the calls' outcomes decide.
 

@@ -12,7 +12,7 @@ use Rattle.jackson.specs.Mirrors.{MirrorOf}
 use Rattle.jackson.specs.Internal.{MirroredSide}
 use Rattle.jackson.specs.declared.types.WindowSet.{WindowSet}
 use Rattle.base.proofs.Sums.{le-or-lt, same-cases}
-use Rattle.jackson.proofs.HeldWindows.{held}
+use Rattle.jackson.proofs.ArrayCases.{held}
 
 -- both sides mirrored
 pub mirror-held : (s : WindowSet) (count : ℕ) → count ≡ min (s .n) 64 → (r d : List ℕ)

@@ -1,7 +1,7 @@
 -- Windows that have room, and the test of it.
 -- Assumes nothing.
 use mathlib.Core.Path.{_≡_, refl, sym, _∙_}
-use mathlib.Core.Bool.{Bool, true, false, not, _&&_, false≢true}
+use mathlib.Core.Bool.{Bool, true, false, not, false≢true}
 use mathlib.Core.List.{[], _∷_}
 use Prim.Native.Nat.{ℕ, _+_, _<_, _≤_}
 use native.Mathlib.Omega.{arith}
@@ -12,7 +12,7 @@ use Rattle.base.specs.Counting.{firstBelow}
 use Rattle.base.proofs.Inversion.{answered-refused}
 use Rattle.base.proofs.Sums.{le-or-lt}
 use Rattle.base.proofs.Searches.{First, first-below, one-first}
-use Rattle.jackson.specs.Windows.{Windows, roomIn, roomFault, Formed}
+use Rattle.jackson.specs.Windows.{Windows, roomIn, roomFault, Roomy, Formed, Inside, withWindows}
 
 -- an entry with room
 pub record Room (h r d p : ℕ) : Type 0 where
@@ -104,3 +104,18 @@ module _ (w : Windows) where
           go : (b : Bool) → roomIn (w .h) (w .r i) (w .d i) (w .p i) ≡ b → Room (w .h) (w .r i) (w .d i) (w .p i)
           go true q = has-room _ _ _ _ q
           go false q = absurd (first .none-before i (omega (arith, end)) (rw q))
+
+-- windows with room have what the law of plans asks
+pub formed-roomy : (w : Windows) → Formed w → Roomy w
+formed-roomy w formed = record { in-day = λ i h _. formed .in-day i h; room = λ i h _. formed .room i h }
+
+-- windows inside those of w that leave every entry room
+pub formed-inside : (w : Windows) → Formed w → (r d : ℕ → ℕ) → Inside (withWindows w r d) w → ((i : ℕ) → i < w .n → r i + w .p i ≤ d i)
+    → Formed (withWindows w r d)
+formed-inside w formed r d inside room =
+    record {
+      few = formed .few;
+      minutes = formed .minutes;
+      in-day = λ i place. omega (arith, formed .in-day i place, inside .d i place);
+      room = room;
+    }

@@ -44,6 +44,11 @@ pub record IsStart (h : ℕ) (m : ℕ → ℕ) (i s : ℕ) : Type 0 where
   pub minute : m s ≡ i
   pub none-before : (t : ℕ) → t < s → m t ≡ i → ⊥
 
+-- m gives place k every minute of [s, e), and none besides, of a day of h minutes: consecutive minutes
+pub record Consecutive (h : ℕ) (m : ℕ → ℕ) (k s e : ℕ) : Type 0 where
+  pub each : (t : ℕ) → t < h → s ≤ t → t < e → m t ≡ k
+  pub only : (t : ℕ) → t < h → m t ≡ k → (s ≤ t) × (t < e)
+
 -- the byte of a minute that no entry has
 abbrev pub idle : ℕ
 idle = 255

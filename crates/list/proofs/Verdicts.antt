@@ -7,9 +7,7 @@ use lib.ListN.{getD}
 use Rattle.base.specs.Outcomes.{Code, Outcome, answered, refused}
 use Rattle.list.specs.Refusals.{codeOf, outcomeOf, verdictOf, writeAnswerOf}
 use Rattle.list.specs.declared.types.Refusal.{Refusal}
-use Rattle.list.specs.declared.types.Refusal.the-variants.{BytesMissing, BadDayLength, TooManyEntries, BadMapByte}
-use Rattle.list.specs.declared.types.Refusal.the-variants.{DefaultWritten, NoMinutes, BadWindow, BytesLeftOver}
-use Rattle.list.specs.declared.types.Refusal.the-variants.{Overloaded, NoPlace, PlanBufferShort, ListBufferShort, UnknownPlace}
+use Rattle.list.specs.declared.types.Refusal.the-variants.{BytesMissing, BadDayLength, TooManyEntries, BadMapByte, DefaultWritten, NoMinutes, BadWindow, BytesLeftOver, Overloaded, NoPlace, PlanBufferShort, ListBufferShort, UnknownPlace}
 use Rattle.list.specs.declared.types.Verdict.{Verdict}
 use Rattle.list.specs.declared.types.Verdict.the-variants.{Accepted, Refused}
 use Rattle.list.specs.declared.types.WriteAnswer.{WriteAnswer}

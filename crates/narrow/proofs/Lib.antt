@@ -1,8 +1,7 @@
 -- What narrowing asks of a planner's test, and that the overload test is one.
 pub mod Planners
 pub mod OverloadPlanner
--- Windows with one value changed, the mirror, what steps keep, what moves cost, that rounds end, and single rounds.
-pub mod Puts
+-- Searches in the mirror, what steps keep, what moves cost, that rounds end, and single rounds.
 pub mod MirrorSearches
 pub mod StepsKeep
 pub mod Costs
@@ -20,10 +19,12 @@ pub mod OneOutcome
 -- A search of a round in the mirror, and lists that are narrowed alike.
 mod MirrorSides
 pub mod Alike
--- What the code's proofs cite, case by case. Those of the crates above cite ArrayCases and CallCases too.
-pub mod ArrayCases
+-- The list with the windows found, and what the answers of the calls on lists say.
+pub mod ListWindows
+pub mod ListAnswers
+-- What the code's proofs cite, case by case.
 mod SearchCases
 mod RoundCases
 mod VisitCases
 mod ListCases
-pub mod CallCases
+mod CallCases

@@ -5,13 +5,14 @@ use mathlib.Core.Bool.{Bool}
 use Prim.Native.Nat.{ℕ, suc, _+_, _-_, _<_}
 use native.Mathlib.Omega.{arith}
 use Rattle.jackson.specs.Windows.{Windows, withWindows, Formed}
-use Rattle.jackson.specs.Plans.{Plan}
+use Rattle.jackson.specs.Plans.{Plan, Consecutive}
 use Rattle.jackson.specs.Mirrors.{mirror, mirrorPlan}
 use Rattle.jackson.proofs.PlanFacts.{mirror-plan, plan-room}
-use Rattle.narrow.specs.Settling.{Consecutive, Settled, SettledInside}
+use Rattle.narrow.specs.Settling.{Settled, SettledInside}
 use Rattle.narrow.specs.Rounds.{Side, earliest, latest}
-use Rattle.narrow.proofs.MirrorSearches.{plannable-mirror, mirror-r, mirror-d}
-use Rattle.narrow.proofs.StepsKeep.{formed-inside, inside-mirror}
+use Rattle.jackson.proofs.MirrorWindows.{plannable-mirror, mirror-r, mirror-d}
+use Rattle.jackson.proofs.Room.{formed-inside}
+use Rattle.narrow.proofs.StepsKeep.{inside-mirror}
 
 -- a plan with the minutes of k consecutive from its r on, or up to its d
 abbrev pub SidePlan : Side → Windows → ℕ → Type 0

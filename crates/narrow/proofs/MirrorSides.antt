@@ -12,8 +12,9 @@ use Rattle.jackson.specs.Mirrors.{mirror}
 use Rattle.narrow.specs.Searching.{Test}
 use Rattle.narrow.specs.Rounds.{earliest, latest, step, Narrowed, moved, movesOf, counted, narrowSide}
 use Rattle.narrow.proofs.Planners.{Planner}
-use Rattle.narrow.proofs.Puts.{place-cases}
-use Rattle.narrow.proofs.MirrorSearches.{formed-mirror, mirror-back, mirror-r, mirror-d, planner-in-mirror, step-mirror}
+use Rattle.jackson.proofs.Puts.{place-cases}
+use Rattle.jackson.proofs.MirrorWindows.{formed-mirror, mirror-back, mirror-r, mirror-d}
+use Rattle.narrow.proofs.MirrorSearches.{planner-in-mirror, step-mirror}
 use Rattle.narrow.proofs.StepsKeep.{Keeps, keeps-h, keeps-n, RefusedAt, step-says}
 
 -- the windows mirrored, and the moves as they are

@@ -17,7 +17,8 @@ use Rattle.narrow.specs.StepLists.{Step, NamesWhole, stepsLeave, someRef
 use Rattle.narrow.specs.RoundsByPlans.{RoundsGive, roundsSteps}
 use Rattle.narrow.specs.Laws.{RoomInside, Reason, FromSteps, RoundLaw, NarrowLaw}
 use Rattle.narrow.proofs.Planners.{Planner}
-use Rattle.narrow.proofs.StepsKeep.{Keeps, formed-inside, keeps-n, keeps-p}
+use Rattle.narrow.proofs.StepsKeep.{Keeps, keeps-n, keeps-p}
+use Rattle.jackson.proofs.Room.{formed-inside}
 use Rattle.narrow.proofs.Costs.{CostsOr, round-cost, round-refused, rounds-says}
 use Rattle.narrow.proofs.Exact.{search-law}
 use Rattle.narrow.proofs.SettledSteps.{Narrows, NarrowsOr, plannable-widen, round-narrows, rounds-narrow, steps-narrow, steps-none}

@@ -20,11 +20,11 @@ use Rattle.narrow.specs.Internal.{narrowedBy}
 use Rattle.narrow.specs.Calls.{narrowedOf}
 use Rattle.narrow.specs.declared.types.WindowsAnswer.{WindowsAnswer}
 use Rattle.narrow.proofs.OverloadPlanner.{overload-planner}
-use Rattle.narrow.proofs.Puts.{put-same}
-use Rattle.narrow.proofs.MirrorSearches.{formed-mirror}
+use Rattle.jackson.proofs.Puts.{put-same}
+use Rattle.jackson.proofs.MirrorWindows.{formed-mirror}
 use Rattle.narrow.proofs.MirrorSides.{mirrorState, mirrorOutcome, side-by-mirror}
 use Rattle.narrow.proofs.Costs.{moved-same}
-use Rattle.narrow.proofs.ArrayCases.{held-r}
+use Rattle.jackson.proofs.ArrayCases.{held-r}
 
 pub moved-none : (x y : ℕ) → x ≡ y → 0 ≡ moved x y
 moved-none x y e = rw (eq-eqb x y e)

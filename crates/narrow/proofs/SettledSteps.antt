@@ -18,8 +18,9 @@ use Rattle.narrow.specs.Settling.{SettledInside, NoneSettled}
 use Rattle.narrow.specs.Rounds.{Side, earliest, latest, step, Narrowed, narrowSide, visit, visits, round, rounds}
 use Rattle.narrow.specs.StepLists.{Step, NamesWhole, leftBy, stepsLeave, someRefused}
 use Rattle.narrow.proofs.Planners.{Planner}
-use Rattle.narrow.proofs.Puts.{put-same, put-under, fixed-consecutive, window-after-r, fixed-inside, consecutive-fixed}
-use Rattle.narrow.proofs.MirrorSearches.{plannable-mirror, formed-mirror, mirror-back, planner-in-mirror, step-mirror}
+use Rattle.jackson.proofs.Puts.{put-same, put-under, fixed-consecutive, window-after-r, fixed-inside, consecutive-fixed}
+use Rattle.jackson.proofs.MirrorWindows.{plannable-mirror, formed-mirror, mirror-back}
+use Rattle.narrow.proofs.MirrorSearches.{planner-in-mirror, step-mirror}
 use Rattle.narrow.proofs.StepsKeep.{Keeps, keeps-same, keeps-n, keeps-trans, keeps-mirror, keeps-r}
 use Rattle.narrow.proofs.MirrorSettled.{SidePlan, earliest-mirror, set-formed, set-mirror}
 use Rattle.narrow.proofs.Exact.{SearchSays, start-searched}

@@ -11,11 +11,13 @@ use Rattle.base.specs.Outcomes.{Code, code, answered}
 use Rattle.base.proofs.Inversion.{Says, by-row, by-step}
 use Rattle.jackson.specs.Windows.{Windows, Inside, withWindows, withR, Formed}
 use Rattle.jackson.specs.Mirrors.{mirror}
+use Rattle.jackson.proofs.Room.{formed-inside}
 use Rattle.base.proofs.Searches.{first-below}
 use Rattle.narrow.specs.Searching.{Test, trials, failedStarts, leastStart}
 use Rattle.narrow.specs.Rounds.{Side, earliest, latest, step}
-use Rattle.narrow.proofs.Puts.{place-cases, put-other}
-use Rattle.narrow.proofs.MirrorSearches.{formed-mirror, mirror-back, mirror-r, mirror-d, mirrorTest, any-in-mirror, step-mirror}
+use Rattle.jackson.proofs.Puts.{place-cases, put-other}
+use Rattle.jackson.proofs.MirrorWindows.{formed-mirror, mirror-back, mirror-r, mirror-d}
+use Rattle.narrow.proofs.MirrorSearches.{mirrorTest, any-in-mirror, step-mirror}
 
 -- from w to v: the same entries, with room, inside, and past the entries the same
 pub record Keeps (w v : Windows) : Type 0 where
@@ -23,17 +25,6 @@ pub record Keeps (w v : Windows) : Type 0 where
   pub formed : Formed v
   pub inside : Inside v w
   pub past : (i : ℕ) → w .n ≤ i → (v .r i ≡ w .r i) × (v .d i ≡ w .d i)
-
--- windows inside those of w that leave every entry room
-pub formed-inside : (w : Windows) → Formed w → (r d : ℕ → ℕ) → Inside (withWindows w r d) w → ((i : ℕ) → i < w .n → r i + w .p i ≤ d i)
-    → Formed (withWindows w r d)
-formed-inside w formed r d inside room =
-    record {
-      few = formed .few;
-      minutes = formed .minutes;
-      in-day = λ i place. omega (arith, formed .in-day i place, inside .d i place);
-      room = room;
-    }
 
 -- they keep w, if past the entries they are those of w
 pub keeps-windows : (w : Windows) → Formed w → (r d : ℕ → ℕ)

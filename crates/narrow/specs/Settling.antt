@@ -1,15 +1,10 @@
 -- Settled windows, the widest of them, unbroken plans and the minutes cut.
-use Prim.Native.Nat.{ℕ, _+_, _-_, _<_, _≤_}
+use Prim.Native.Nat.{ℕ, _+_, _-_, _<_}
 use mathlib.Core.Path.{_≡_}
 use mathlib.Core.Bool.{Bool, true}
 use Rattle.base.specs.Counting.{sum}
 use Rattle.jackson.specs.Windows.{Windows, Inside, withWindows}
-use Rattle.jackson.specs.Plans.{Plan, Plannable}
-
--- m gives place k every minute of [s, e), and none besides, of a day of h minutes: consecutive minutes
-pub record Consecutive (h : ℕ) (m : ℕ → ℕ) (k s e : ℕ) : Type 0 where
-  pub each : (t : ℕ) → t < h → s ≤ t → t < e → m t ≡ k
-  pub only : (t : ℕ) → t < h → m t ≡ k → (s ≤ t) × (t < e)
+use Rattle.jackson.specs.Plans.{Plan, Plannable, Consecutive}
 
 -- "It is settled if a plan has every entry in its window, and if each whole entry has such a plan with its minutes consecutive from its
 -- r on, and one with them consecutive up to its d."

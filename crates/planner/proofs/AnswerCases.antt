@@ -25,7 +25,7 @@ use Rattle.jackson.specs.Calls.{FillsWindows}
 use Rattle.jackson.specs.declared.types.WindowSet.{WindowSet}
 use Rattle.narrow.specs.Calls.{narrowedIn}
 use Rattle.narrow.specs.declared.types.NarrowAnswer.{NarrowAnswer}
-use Rattle.narrow.proofs.CallCases.{list-formed}
+use Rattle.jackson.proofs.ListLaws.{list-formed}
 use Rattle.bounds.specs.Ends.{leastEnd, greatestStart}
 use Rattle.bounds.specs.ShownPlans.{earlyPlan, latePlan, boundOf, shownPlan}
 use Rattle.bounds.specs.Calls.{byPlace, HoldsBounds, StoresPlan}
@@ -33,21 +33,18 @@ use Rattle.bounds.specs.declared.types.Shown.{Shown}
 use Rattle.bounds.specs.declared.types.Shown.the-variants.{Early, Late}
 use Rattle.bounds.specs.declared.types.Bounds.{Bounds}
 use Rattle.bounds.specs.declared.types.BoundAnswer.{BoundAnswer}
-use Rattle.bounds.proofs.EndCases.{by-place}
-use Rattle.bounds.proofs.ShownCases.{schedule-long, shown-long}
+use Rattle.bounds.proofs.ByPlace.{by-place}
+use Rattle.jackson.proofs.StoredPlans.{schedule-long}
+use Rattle.bounds.proofs.ShownFacts.{shown-long}
 use Rattle.planner.specs.BrokenEntries.{brokenIn}
 use Rattle.planner.specs.Demand2.{PlansWindows}
 use Rattle.planner.specs.Demand3.{Told, Demand3}
-use Rattle.planner.specs.Calls.{planChecks, shownChecks, settledOr, planned, planOf, endsOf, startsOf, brokenOf, toldByPlan, PlansDay}
-use Rattle.planner.specs.Calls.{shownOf, putShown, toldByShown, Shows}
+use Rattle.planner.specs.Calls.{planChecks, shownChecks, settledOr, planned, planOf, endsOf, startsOf, brokenOf, toldByPlan, PlansDay, shownOf, putShown, toldByShown, Shows}
 use Rattle.planner.specs.Internal.{NarrowsAfter}
 use Rattle.planner.specs.declared.types.PlanAnswer.{PlanAnswer}
 use Rattle.planner.specs.declared.types.ShownAnswer.{ShownAnswer}
 use Rattle.planner.proofs.Demands.{AtPlace, ByRules, demand3}
-use Rattle.planner.proofs.CallCases.{plan-formed, shown-plan, shown-formed, IsSettled, outcome-is, is-settled, windows-told}
-use Rattle.planner.proofs.CallCases.{settled-few, settled-day, settled-plan, Planning, place-in, ends-are, starts-are, plan-is}
-use Rattle.planner.proofs.CallCases.{broken-is}
-use Rattle.planner.proofs.CallCases.{shown-bound, shown-stored}
+use Rattle.planner.proofs.CallCases.{plan-formed, shown-plan, shown-formed, IsSettled, outcome-is, is-settled, windows-told, settled-few, settled-day, settled-plan, Planning, place-in, ends-are, starts-are, plan-is, broken-is, shown-bound, shown-stored}
 
 -- demand 3 of a call that narrowed after checks that were passed
 told-demand : {checks : Outcome (Unit {0})} {l : DayList} {a : NarrowAnswer} → NarrowsAfter checks l a

@@ -27,7 +27,7 @@ use Rattle.jackson.specs.Minutes.{schedule}
 use Rattle.jackson.specs.Calls.{Holds, bufferRow, FillsWindows}
 use Rattle.jackson.specs.declared.types.WindowSet.{WindowSet}
 use Rattle.jackson.proofs.Room.{formed-passes}
-use Rattle.jackson.proofs.ListLaws.{list-few}
+use Rattle.jackson.proofs.ListLaws.{list-few, list-formed}
 use Rattle.narrow.specs.Settling.{Widest}
 use Rattle.narrow.specs.Rounds.{Narrowed, narrowing}
 use Rattle.narrow.specs.Calls.{narrowWindows, narrowedOf, narrowedIn, settleOf, AnswersAs}
@@ -36,14 +36,14 @@ use Rattle.narrow.specs.declared.types.NarrowAnswer.{NarrowAnswer}
 use Rattle.narrow.proofs.OverloadPlanner.{overload-planner}
 use Rattle.narrow.proofs.StepsKeep.{Keeps}
 use Rattle.narrow.proofs.NarrowLaws.{narrow-law}
-use Rattle.narrow.proofs.CallCases.{list-formed, settle-keeps, holds-answer}
+use Rattle.narrow.proofs.ListAnswers.{settle-keeps, holds-answer}
 use Rattle.bounds.specs.ShownPlans.{boundOf, shownPlan}
 use Rattle.bounds.specs.Calls.{leastEnds, greatestStarts, inRoom, HoldsBounds, placeRow, showRows, StoresPlan}
 use Rattle.bounds.specs.declared.types.Shown.{Shown}
 use Rattle.bounds.specs.declared.types.Bounds.{Bounds}
 use Rattle.bounds.specs.declared.types.BoundAnswer.{BoundAnswer}
-use Rattle.bounds.proofs.EndCases.{bound-kind}
-use Rattle.bounds.proofs.ShownCases.{stored-long, filled-with, schedule-long, plan-kind}
+use Rattle.bounds.proofs.ShownFacts.{bound-kind, plan-kind}
+use Rattle.jackson.proofs.StoredPlans.{stored-long, filled-with, schedule-long}
 use Rattle.planner.specs.BrokenEntries.{brokenIn}
 use Rattle.planner.specs.Demand2.{PlansWindows}
 use Rattle.planner.specs.Calls.{beforeNine, planChecks, shownChecks, narrowAfter, settledOr, planned, endsOf, startsOf, brokenOf}

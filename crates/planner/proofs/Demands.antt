@@ -13,7 +13,8 @@ use Rattle.jackson.proofs.Law.{schedule-law}
 use Rattle.narrow.specs.Settling.{Widest}
 use Rattle.narrow.specs.Rounds.{Narrowed, narrowing}
 use Rattle.narrow.specs.Laws.{NarrowLaw}
-use Rattle.narrow.proofs.OverloadPlanner.{formed-roomy, overload-planner}
+use Rattle.jackson.proofs.Room.{formed-roomy}
+use Rattle.narrow.proofs.OverloadPlanner.{overload-planner}
 use Rattle.narrow.proofs.MirrorSettled.{set-formed}
 use Rattle.narrow.proofs.Fixpoints.{widest-set}
 use Rattle.narrow.proofs.NarrowLaws.{narrow-law}

@@ -22,7 +22,7 @@ use Rattle.jackson.specs.Plans.{idle, placesIn, PlanBytes}
 use Rattle.jackson.specs.Intervals.{overloadOf}
 use Rattle.jackson.specs.Minutes.{schedule}
 use Rattle.base.proofs.Sums.{sum-most}
-use Rattle.jackson.proofs.ListLaws.{list-few}
+use Rattle.jackson.proofs.ListLaws.{list-few, list-formed}
 use Rattle.narrow.specs.Settling.{Settled, Widest, minutesCut}
 use Rattle.narrow.specs.Rounds.{Narrowed, narrowing}
 use Rattle.narrow.specs.Laws.{NarrowLaw}
@@ -30,7 +30,6 @@ use Rattle.narrow.specs.Calls.{entryWith, listWith}
 use Rattle.narrow.proofs.OverloadPlanner.{overload-planner}
 use Rattle.narrow.proofs.NarrowLaws.{narrow-law}
 use Rattle.narrow.proofs.Costs.{by-test}
-use Rattle.narrow.proofs.CallCases.{list-formed}
 use Rattle.narrow.proofs.Alike.{with-length, listed-entry}
 use Rattle.bounds.specs.Ends.{leastEnd, greatestStart}
 use Rattle.planner.specs.BrokenEntries.{isBroken, brokenIn}

@@ -19,9 +19,7 @@ use Rattle.list.specs.declared.types.Entry.{Entry}
 use Rattle.base.specs.Counting.{listOf}
 use Rattle.report.specs.Text.{ascii, decimal, line}
 use Rattle.report.specs.Reports.{sealText, kindText, refusalLine}
-use Rattle.report.specs.Printed.{Fields, linesOf, lineAt, numberIn, sameField, sealSaid, kindSaid, entryIn, listPrinted, dayPrinted}
-use Rattle.report.specs.Printed.{countPrinted, movesPrinted, brokenPrinted, placePrinted, endPrinted, startPrinted, runsPrinted}
-use Rattle.report.specs.Printed.{codePrinted}
+use Rattle.report.specs.Printed.{Fields, linesOf, lineAt, numberIn, sameField, sealSaid, kindSaid, entryIn, listPrinted, dayPrinted, countPrinted, movesPrinted, brokenPrinted, placePrinted, endPrinted, startPrinted, runsPrinted, codePrinted}
 use Rattle.report.proofs.DecimalFacts.{decimal-is}
 use Rattle.report.proofs.Fields.{Word, Words, decimal-word, line-alone, kept, all-length, all-at}
 

@@ -29,7 +29,8 @@ use Rattle.narrow.specs.declared.types.NarrowAnswer.{NarrowAnswer}
 use Rattle.narrow.proofs.OverloadPlanner.{overload-planner}
 use Rattle.narrow.proofs.NarrowLaws.{narrow-law}
 use Rattle.narrow.proofs.Alike.{listed-entries}
-use Rattle.narrow.proofs.CallCases.{list-formed, settles}
+use Rattle.jackson.proofs.ListLaws.{list-formed}
+use Rattle.narrow.proofs.ListAnswers.{settles}
 use Rattle.bounds.specs.Ends.{leastEnd, greatestStart}
 use Rattle.planner.specs.BrokenEntries.{brokenIn}
 use Rattle.bounds.specs.ShownPlans.{earlyPlan, latePlan}
@@ -38,14 +39,11 @@ use Rattle.planner.specs.Demand2.{PlansWindows}
 use Rattle.planner.proofs.Demands.{AtPlace, ByRules, widest-formed, demand3, plans-windows}
 use Rattle.report.specs.Text.{line}
 use Rattle.report.specs.Runs.{beginsRun}
-use Rattle.report.specs.Reports.{headLine, entryLine, entryLines, runLine, runLines, refusalLine, dayText, plannedText, reportOf}
-use Rattle.report.specs.Reports.{printed, printedOf}
-use Rattle.report.specs.Printed.{Fields, linesOf, listPrinted, windowsPrinted, dayPrinted, runsPrinted, placeBy, planPrinted, toldBy}
-use Rattle.report.specs.Printed.{codePrinted, toldRefused}
+use Rattle.report.specs.Reports.{headLine, entryLine, entryLines, runLine, runLines, refusalLine, dayText, plannedText, reportOf, printed, printedOf}
+use Rattle.report.specs.Printed.{Fields, linesOf, listPrinted, windowsPrinted, dayPrinted, runsPrinted, placeBy, planPrinted, toldBy, codePrinted, toldRefused}
 use Rattle.report.specs.Laws.{SaysRuns, PrintsPlan, PrintsRefusal, ReportLaw, unread, refuses, planned}
 use Rattle.report.proofs.Fields.{text-said, kept, kept-each, kept-text}
-use Rattle.report.proofs.PrintedLines.{headFields, head-words, entryFields, entry-words, Lines, day-is, count-is, moves-is}
-use Rattle.report.proofs.PrintedLines.{broken-is, place-is, end-is, start-is, runs-is, list-is, nine-said, one-said}
+use Rattle.report.proofs.PrintedLines.{headFields, head-words, entryFields, entry-words, Lines, day-is, count-is, moves-is, broken-is, place-is, end-is, start-is, runs-is, list-is, nine-said, one-said}
 use Rattle.report.proofs.PrintedRuns.{runFields, run-words, runsOf, place-said, runs-said}
 
 -- The lines of a list's text.

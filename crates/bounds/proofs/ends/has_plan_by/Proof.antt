@@ -7,7 +7,7 @@ use lib.ListN.{length}
 use Rattle.base.specs.Outcomes.{Outcome, accepts}
 use Rattle.jackson.specs.Windows.{Windows}
 use Rattle.jackson.specs.Intervals.{overloadOf}
-use Rattle.narrow.proofs.ArrayCases.{held-d}
+use Rattle.jackson.proofs.ArrayCases.{held-d}
 use Rattle.bounds.proofs.ends.has_plan_by.Statement.{statement}
 use Rattle.bounds.proofs.ends.has_plan_by.Tie as tie
 

@@ -1,7 +1,7 @@
 -- Each way out has its case of `roomIn`.
 -- Assumes nothing.
 use borrow.Author.Needs.{needs}
-use mathlib.Core.Path.{_≡_, sym}
+use mathlib.Core.Path.{sym}
 use native.Mathlib.Omega.{arith}
 use Rattle.jackson.proofs.Room.{no-minutes, past-day, room-sum}
 use Rattle.jackson.proofs.window_set.has_room.Statement.{statement}

@@ -7,7 +7,7 @@ use lib.ListN.{length}
 use Rattle.base.specs.Outcomes.{Outcome, accepts}
 use Rattle.jackson.specs.Windows.{Windows}
 use Rattle.jackson.specs.Intervals.{overloadOf}
-use Rattle.narrow.proofs.ArrayCases.{held-fixed}
+use Rattle.jackson.proofs.ArrayCases.{held-fixed}
 use Rattle.narrow.proofs.search.has_plan_at.Statement.{statement}
 use Rattle.narrow.proofs.search.has_plan_at.Tie as tie
 
