@@ -21,7 +21,7 @@ use Rattle.report.specs.Reports.{refusalLine, reportOf, printed, printedOf}
 use Rattle.report.specs.Calls.{StoresText, enough, Reports, lineOf, lineEnough, StoresLine}
 use Rattle.report.proofs.FirstBytes.{same-report}
 use Rattle.report.proofs.ReportLaws.{report-law}
-use Rattle.dock.specs.Calls.{InputLimit, Holds, PrintsFor, Prints}
+use Rattle.dock.specs.Calls.{InputLimit, HoldsText, PrintsFor, Prints}
 
 -- The limit: more than the 963 bytes of a longest list.
 pub limit-is : (limit : ℕ) → 963 < limit → limit ≤ 964 → InputLimit limit
@@ -36,7 +36,7 @@ module _ (text old : List ℕ) (a : WriteAnswer) (new : List ℕ) (stores : Stor
   fits : storing text (length old) ≡ answered (length text)
   fits = simp (le-ltb (length old) (length text) room)
 
-  text-held : (size : ℕ) → a ≡ Written size → Holds new size text
+  text-held : (size : ℕ) → a ≡ Written size → HoldsText new size text
   text-held size e =
       let whole : size ≡ length text = answered-same (sym (stores .outcome) ∙ ap writeAnswerOf e) fits in
       record { whole = whole; bytes = rw (whole, stores .buffer, fits) (take-append-seam text _) }
@@ -54,19 +54,19 @@ module _ (x : Refusal) (c : RefusalCode) (is : c ≡ numbersOf (codeOf x)) (old 
   line-room : length (lineOf c) ≤ length old
   line-room = omega (arith, line .room)
 
-  pub line-held : (size : ℕ) → a ≡ Written size → Holds new size (refusalLine (codeOf x))
+  pub line-held : (size : ℕ) → a ≡ Written size → HoldsText new size (refusalLine (codeOf x))
   line-held size e = rw line-is at (text-held (lineOf c) old a new (line .stores) line-room size e)
 
   pub line-taken : (y : Refusal) → a ≡ NotWritten y → ⊥
   line-taken = text-taken (lineOf c) old a new (line .stores) line-room
 
 -- a text that is held is printed for its input
-prints-for : (input text : List ℕ) (size : ℕ) → Holds text size (printedOf input) → PrintsFor input text size
+prints-for : (input text : List ℕ) (size : ℕ) → HoldsText text size (printedOf input) → PrintsFor input text size
 prints-for input text size h = record { holds = h; law = rw (h .bytes) (report-law input) }
 
 -- What is printed for the bytes read is printed for every input of which they are the first.
 pub prints : (buffer : List ℕ) (count : ℕ) → InputLimit (length buffer) → (text : List ℕ) (size : ℕ)
-    → Holds text size (printedOf (take count buffer)) → Prints buffer count text size
+    → HoldsText text size (printedOf (take count buffer)) → Prints buffer count text size
 prints buffer count limit text size h =
     record {
       read = h;
@@ -83,10 +83,10 @@ module _ (bs old : List ℕ) (a : WriteAnswer) (new : List ℕ) (reports : Repor
   stores-as : (o : Outcome (List ℕ)) → reportOf bs ≡ o → StoresText o old a new
   stores-as o e = rw e at (reports .stores)
 
-  pub report-held : (size : ℕ) → a ≡ Written size → Holds new size (printedOf bs)
+  pub report-held : (size : ℕ) → a ≡ Written size → HoldsText new size (printedOf bs)
   report-held size e = go (reportOf bs) refl
     where
-      go : (o : Outcome (List ℕ)) → reportOf bs ≡ o → Holds new size (printed o)
+      go : (o : Outcome (List ℕ)) → reportOf bs ≡ o → HoldsText new size (printed o)
       go (answered text) q = text-held text old a new (stores-as _ q) (text-room text q) size e
       go (refused k) q = absurd (answered-refused (ap writeAnswerOf e) (stores-as _ q .outcome))
 
@@ -99,7 +99,7 @@ module _ (bs old : List ℕ) (a : WriteAnswer) (new : List ℕ) (reports : Repor
       go (refused k) q = ap refusalLine (refused-same (stores-as _ q .outcome) (ap writeAnswerOf e))
 
 -- A text that is held has as many bytes as are printed.
-module _ (buffer : List ℕ) (size : ℕ) (text : List ℕ) (holds : Holds buffer size text) where
+module _ (buffer : List ℕ) (size : ℕ) (text : List ℕ) (holds : HoldsText buffer size text) where
   pub size-is : size ≡ length (take size buffer)
   size-is = holds .whole ∙ sym (ap (λ (l : List ℕ). length l) (holds .bytes))
 

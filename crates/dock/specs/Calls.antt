@@ -16,17 +16,17 @@ pub record InputLimit (limit : ℕ) : Type 0 where
   pub more : (l : DayList) → WellFormed l → length (bytesOf l) < limit
 
 -- the first size bytes of a buffer are a whole text
-pub record Holds (buffer : List ℕ) (size : ℕ) (text : List ℕ) : Type 0 where
+pub record HoldsText (buffer : List ℕ) (size : ℕ) (text : List ℕ) : Type 0 where
   pub whole : size ≡ length text
   pub bytes : take size buffer ≡ text
 
 -- what is printed for an input, the first size bytes of text: what document 01 says, and the demands hold of the numbers in these bytes
 pub record PrintsFor (input text : List ℕ) (size : ℕ) : Type 0 where
-  pub holds : Holds text size (printedOf input)
+  pub holds : HoldsText text size (printedOf input)
   pub law : ReportLaw input (take size text)
 
 -- what is printed, the first size bytes of text, when the first count bytes of buffer were read
 pub record Prints (buffer : List ℕ) (count : ℕ) (text : List ℕ) (size : ℕ) : Type 0 where
-  pub read : Holds text size (printedOf (take count buffer))
+  pub read : HoldsText text size (printedOf (take count buffer))
   -- and so for every input, however long: these bytes are all of it, or as many of its first bytes as the buffer has
   pub all : (input : List ℕ) → take (length buffer) input ≡ take count buffer → PrintsFor input text size

@@ -13,7 +13,7 @@ ghost use lib.ListN.{length};
 ghost use Rattle.list.specs.Refusals.{codeOf};
 ghost use Rattle.report.specs.Reports.{refusalLine};
 ghost use Rattle.report.specs.Calls.{enough, lineEnough};
-ghost use Rattle.dock.specs.Calls.{InputLimit, Holds, Prints};
+ghost use Rattle.dock.specs.Calls.{InputLimit, HoldsText, Prints};
 
 // "it takes 964 bytes at most; a longest list has 963"
 const INPUT_BYTES: usize = 964;
@@ -21,7 +21,7 @@ const INPUT_BYTES: usize = 964;
 // The line of a refusal in a buffer that has room for every line: its length.
 fn line_of(x: Refusal, text: &mut [u8]) -> usize
     requires { ⌜ lineEnough ≤ length (now text) ⌝ }
-    ensures { λ size. ⌜ Holds (now (text .exit)) size (refusalLine (codeOf x)) ⌝ }
+    ensures { λ size. ⌜ HoldsText (now (text .exit)) size (refusalLine (codeOf x)) ⌝ }
 {
     let answer = report::refusal_line(codes::numbers_of(x), text);
     match answer {

@@ -5,7 +5,7 @@ ghost use Prim.Native.Nat.{_+_, _≤_};
 ghost use lib.ListN.{replicate};
 ghost use lib.Seq.{sets};
 
-fn zeros() -> [u32; 128]
+fn zero_bounds() -> [u32; 128]
     ensures { λ r. ⌜ r ≡ replicate 128 0 ⌝ }
 {
     [0; 128]
@@ -27,7 +27,7 @@ fn put_places(xs: [u16; 64], bounds: &mut [u32; 128], at: usize)
 pub fn joined(ends: [u16; 64], starts: [u16; 64]) -> [u32; 128]
     ensures { λ r. ⌜ r ≡ ends ++ starts ⌝ }
 {
-    let mut bounds = zeros();
+    let mut bounds = zero_bounds();
     put_places(ends, &mut bounds, 0);
     put_places(starts, &mut bounds, 64);
     bounds

@@ -129,7 +129,7 @@ fn put_entry_numbers(e: Entry, fields: &mut [u32; 450], at: usize)
     fields[at + 6] = whole_flag(kind);
 }
 
-fn zeros() -> [u32; 450]
+fn no_numbers() -> [u32; 450]
     ensures { λ r. ⌜ r ≡ replicate 450 0 ⌝ }
 {
     [0; 450]
@@ -140,7 +140,7 @@ pub fn flat_of(list: DayList) -> [u32; 450]
     ensures { λ r. ⌜ r ≡ flatOf list ⌝ }
 {
     let frame = list.frame;
-    let mut fields = zeros();
+    let mut fields = no_numbers();
     fields[0] = frame.h as u32;
     fields[1] = list.n as u32;
     let mut i: usize = 0;

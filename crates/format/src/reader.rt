@@ -18,7 +18,7 @@ ghost use Rattle.format.specs.Internal.{ReadsAs};
 ghost use Rattle.format.specs.Calls.{Reads};
 
 // A refusal, with the empty list beside it.
-fn refused_with(x: Refusal) -> ReadAnswer
+fn read_refused(x: Refusal) -> ReadAnswer
     ensures { λ a. ⌜ a ≡ record { verdict = Verdict.Refused x; list = emptyList } ⌝ }
 {
     ReadAnswer {
@@ -44,13 +44,13 @@ fn read_body(bytes: &[u8], frame: Frame, n: u8) -> ReadAnswer
                 at += size;
             }
             EntryAnswer::NotTaken(x) => {
-                return refused_with(x);
+                return read_refused(x);
             }
         }
         i += 1;
     }
     if at < bytes.len() {
-        return refused_with(Refusal::BytesLeftOver(at));
+        return read_refused(Refusal::BytesLeftOver(at));
     }
     ReadAnswer {
         verdict: Verdict::Accepted,
@@ -67,7 +67,7 @@ pub fn read(bytes: &[u8]) -> ReadAnswer
     ensures { λ a. ⌜ Reads (now (bytes .entry)) a ⌝ }
 {
     if bytes.len() < 3 {
-        return refused_with(Refusal::BytesMissing(bytes.len()));
+        return read_refused(Refusal::BytesMissing(bytes.len()));
     }
     let frame = Frame {
         h: u16_at(bytes, 0),
@@ -76,6 +76,6 @@ pub fn read(bytes: &[u8]) -> ReadAnswer
     let header = header_fault(2, frame, n);
     match header {
         Verdict::Accepted => read_body(bytes, frame, n),
-        Verdict::Refused(x) => refused_with(x),
+        Verdict::Refused(x) => read_refused(x),
     }
 }

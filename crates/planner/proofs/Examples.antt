@@ -18,7 +18,7 @@ use Rattle.narrow.specs.Rounds.{narrowSide, visit, visits, rounds, narrowing}
 use Rattle.narrow.specs.Calls.{entriesWith, listWith, settleOf, roundOf}
 use Rattle.bounds.specs.Ends.{failedDeadlines, failedReleases, leastEnd, greatestStart}
 use Rattle.planner.specs.Calls.{planChecks}
-use Rattle.planner.specs.Examples.{listB, Examples}
+use Rattle.planner.specs.Examples.{listB, PlanExamples}
 
 -- (b) over all plans: the four minutes are all given to an entry, and minute 3 cannot be place 0's.
 
@@ -102,12 +102,12 @@ starts-at-2 = record { below = omega arith; minute = refl; none-before = none }
     none (suc (suc t)) l e = absurd (omega arith)
 
 -- Outcomes and bytes are computed.
-pub examples : Examples
+pub plan-examples : PlanExamples
 unfolding readOf bodyOf entriesFrom checkOf headerFault entriesFault entryFault
     sum firstBelow best listOf work leftEnd rightEnd overloadOf chosen minuteOf later schedule
     failedStarts failedEnds leastStart greatestEnd narrowSide visit visits rounds narrowing
     entriesWith listWith settleOf roundOf failedDeadlines failedReleases leastEnd greatestStart planChecks
-examples =
+plan-examples =
     record {
       serials = refl;
       a-round-one = refl;

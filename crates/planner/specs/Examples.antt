@@ -92,7 +92,7 @@ abbrev pub listH : DayList
 listH = day 1 []
 
 -- the examples
-pub record Examples : Type 0 where
+pub record PlanExamples : Type 0 where
   -- "serials all differ"
   pub serials : serialsOf listA ++ serialsOf listB ++ serialsOf listC ++ serialsOf listC1 ++ serialsOf listD
       ++ serialsOf listE ++ serialsOf listF ++ serialsOf listG ++ serialsOf listH

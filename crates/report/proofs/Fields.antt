@@ -10,7 +10,7 @@ use lib.ListN.{length, getD, length-append, List·getD-append}
 use lib.Seq.{getD-append-seam, getD-at}
 use Rattle.base.proofs.Sums.{le-or-lt, below-suc}
 use Rattle.report.specs.Text.{ascii, decimal, line, texts}
-use Rattle.report.specs.Printed.{Fields, parts, linesOf}
+use Rattle.report.specs.Printed.{LineFields, parts, linesOf}
 use Rattle.report.proofs.DecimalFacts.{decimal-is}
 
 -- no byte is c
@@ -56,75 +56,75 @@ decimal-word x =
     (is .some, plain-each (decimal x) (λ i l. omega (arith, is .each i l .0)))
 
 -- every field of a line, and there is one
-abbrev pub Words : Fields → Type 0
+abbrev pub Words : LineFields → Type 0
 Words [] = ⊥
 Words (f ∷ []) = Word f
 Words (f ∷ g ∷ fs) = Word f × Words (g ∷ fs)
 
 -- a line before its newline
-joined : Fields → List ℕ
+joined : LineFields → List ℕ
 joined [] = []
 joined (f ∷ []) = f
 joined (f ∷ g ∷ fs) = f ++ (32 ∷ joined (g ∷ fs))
 
-line-joined : (fs : Fields) → line fs ≡ joined fs ++ (10 ∷ [])
+line-joined : (fs : LineFields) → line fs ≡ joined fs ++ (10 ∷ [])
 unfolding line ascii joined
 line-joined [] = refl
 line-joined (f ∷ []) = refl
 line-joined (f ∷ g ∷ fs) = rw (line-joined (g ∷ fs)) (sym (append-assoc f _ _))
 
-joined-without : (fs : Fields) → Words fs → Without 10 (joined fs)
+joined-without : (fs : LineFields) → Words fs → Without 10 (joined fs)
 unfolding joined
 joined-without [] w = tt
 joined-without (f ∷ []) w = plain-without 10 (omega arith) f (w .1)
 joined-without (f ∷ g ∷ fs) w =
     without-append 10 f _ (plain-without 10 (omega arith) f (w .0 .1)) (λ e. omega arith, joined-without (g ∷ fs) (w .1))
 
-joined-parts : (fs : Fields) → Words fs → parts 32 (joined fs) ≡ fs
+joined-parts : (fs : LineFields) → Words fs → parts 32 (joined fs) ≡ fs
 unfolding joined
 joined-parts [] w = absurd w
 joined-parts ([] ∷ []) w = absurd (omega (arith, w .0))
 joined-parts ((b ∷ f) ∷ []) w = parts-last 32 b f (plain-without 32 (omega arith) (b ∷ f) (w .1))
 joined-parts (f ∷ g ∷ fs) w =
     parts-ended 32 f (joined (g ∷ fs)) (plain-without 32 (omega arith) f (w .0 .1))
-    ∙ ap (λ (gs : Fields). f ∷ gs) (joined-parts (g ∷ fs) (w .1))
+    ∙ ap (λ (gs : LineFields). f ∷ gs) (joined-parts (g ∷ fs) (w .1))
 
 -- the fields of a text's first line
-line-said : (fs : Fields) (rest : List ℕ) → Words fs → linesOf (line fs ++ rest) ≡ fs ∷ linesOf rest
+line-said : (fs : LineFields) (rest : List ℕ) → Words fs → linesOf (line fs ++ rest) ≡ fs ∷ linesOf rest
 unfolding linesOf
 line-said fs rest w =
     rw (line-joined fs, append-assoc (joined fs) (10 ∷ []) rest, parts-ended 10 (joined fs) rest (joined-without fs w), joined-parts fs w)
 
 -- A text of lines.
 
-pub textOf : List Fields → List ℕ
+pub textOf : List LineFields → List ℕ
 textOf [] = []
 textOf (fs ∷ ls) = line fs ++ textOf ls
 
-abbrev pub Each : List Fields → Type 0
+abbrev pub Each : List LineFields → Type 0
 Each [] = Unit {0}
 Each (fs ∷ ls) = Words fs × Each ls
 
-each-append : (xs ys : List Fields) → Each xs → Each ys → Each (xs ++ ys)
+each-append : (xs ys : List LineFields) → Each xs → Each ys → Each (xs ++ ys)
 each-append [] ys a b = b
 each-append (x ∷ xs) ys a b = (a .0, each-append xs ys (a .1) b)
 
-text-append : (xs ys : List Fields) → textOf (xs ++ ys) ≡ textOf xs ++ textOf ys
+text-append : (xs ys : List LineFields) → textOf (xs ++ ys) ≡ textOf xs ++ textOf ys
 unfolding textOf
 text-append [] ys = refl
 text-append (x ∷ xs) ys = rw (text-append xs ys) (sym (append-assoc (line x) _ _))
 
-lines-said : (ls : List Fields) → Each ls → linesOf (textOf ls) ≡ ls
+lines-said : (ls : List LineFields) → Each ls → linesOf (textOf ls) ≡ ls
 unfolding textOf linesOf parts
 lines-said [] e = refl
-lines-said (fs ∷ ls) e = line-said fs (textOf ls) (e .0) ∙ ap (λ (xs : List Fields). fs ∷ xs) (lines-said ls (e .1))
+lines-said (fs ∷ ls) e = line-said fs (textOf ls) (e .0) ∙ ap (λ (xs : List LineFields). fs ∷ xs) (lines-said ls (e .1))
 
 -- a text of one line, and one of a line and two kinds of lines after it
-pub line-alone : (fs : Fields) → Words fs → linesOf (line fs) ≡ fs ∷ []
+pub line-alone : (fs : LineFields) → Words fs → linesOf (line fs) ≡ fs ∷ []
 unfolding textOf
 line-alone fs w = ap linesOf (sym (append-nil (line fs))) ∙ lines-said (fs ∷ []) (w, tt)
 
-pub text-said : (fs : Fields) (xs ys : List Fields) → Words fs → Each xs → Each ys
+pub text-said : (fs : LineFields) (xs ys : List LineFields) → Words fs → Each xs → Each ys
     → linesOf (line fs ++ (textOf xs ++ textOf ys)) ≡ fs ∷ (xs ++ ys)
 unfolding textOf
 text-said fs xs ys w a b =
@@ -132,11 +132,11 @@ text-said fs xs ys w a b =
 
 -- The lines x i of those numbers below n that pass a test.
 
-pub kept : ℕ → (ℕ → Bool) → (ℕ → Fields) → List Fields
+pub kept : ℕ → (ℕ → Bool) → (ℕ → LineFields) → List LineFields
 kept zero b x = []
 kept (suc n) b x = kept n b x ++ cond (b n) (x n ∷ []) []
 
-module _ (b : ℕ → Bool) (x : ℕ → Fields) where
+module _ (b : ℕ → Bool) (x : ℕ → LineFields) where
   pub kept-each : (n : ℕ) → ((i : ℕ) → Words (x i)) → Each (kept n b x)
   unfolding kept
   kept-each zero h = tt
@@ -157,16 +157,16 @@ module _ (b : ℕ → Bool) (x : ℕ → Fields) where
       go false = refl
 
   -- place j of xs has the line of t, a number below n that passes
-  pub record HasLine (n : ℕ) (xs : List Fields) (j t : ℕ) : Type 0 where
+  pub record HasLine (n : ℕ) (xs : List LineFields) (j t : ℕ) : Type 0 where
     pub place : j < length xs
     pub below : t < n
     pub passes : b t ≡ true
     pub is : getD xs j [] ≡ x t
 
   -- one number more
-  module _ (n : ℕ) (xs : List Fields) where
+  module _ (n : ℕ) (xs : List LineFields) where
     -- a line before it stays
-    stays : (ys : List Fields) (j t : ℕ) → HasLine n xs j t → HasLine (suc n) (xs ++ ys) j t
+    stays : (ys : List LineFields) (j t : ℕ) → HasLine n xs j t → HasLine (suc n) (xs ++ ys) j t
     stays ys j t h =
         record {
           place = omega (arith, length-append xs ys, h .place);
@@ -208,16 +208,16 @@ module _ (b : ℕ → Bool) (x : ℕ → Fields) where
   kept-has (suc n) t l passes = more-has n (kept n b x) t (λ h. kept-has n t h passes) (b n) refl l passes
 
   -- in the order of the numbers, where f tells a line's number
-  module _ (f : Fields → ℕ) (tells : (t : ℕ) → f (x t) ≡ t) where
+  module _ (f : LineFields → ℕ) (tells : (t : ℕ) → f (x t) ≡ t) where
     pub kept-order : (n i j : ℕ) → i < j → j < length (kept n b x) → f (getD (kept n b x) i []) < f (getD (kept n b x) j [])
     unfolding kept
     kept-order zero i j l h = absurd (omega arith)
     kept-order (suc n) i j l h = go (b n) (kept-order n i j l) h
       where
-        xs : List Fields
+        xs : List LineFields
         xs = kept n b x
 
-        Before : List Fields → Type 0
+        Before : List LineFields → Type 0
         Before ls = j < length ls → f (getD ls i []) < f (getD ls j [])
 
         go : (p : Bool) → Before xs → Before (xs ++ cond p (x n ∷ []) [])
@@ -233,7 +233,7 @@ module _ (b : ℕ → Bool) (x : ℕ → Fields) where
         go false before k = rw (append-nil xs) (before (rw (append-nil xs) at k))
 
 -- where every number passes
-module _ (x : ℕ → Fields) where
+module _ (x : ℕ → LineFields) where
   pub all-length : (n : ℕ) → length (kept n (λ _. true) x) ≡ n
   unfolding kept
   all-length zero = refl

@@ -15,7 +15,7 @@ mod PrintedLines
 mod PrintedRuns
 pub mod ReportLaws
 -- Document 01's examples.
-pub mod Example
+pub mod Examples
 -- The contracts leave one answer and one buffer, and the law of what is printed one text.
 pub mod OneReport
 pub mod OnePrinted

@@ -19,13 +19,13 @@ use Rattle.list.specs.declared.types.Entry.{Entry}
 use Rattle.base.specs.Counting.{listOf}
 use Rattle.report.specs.Text.{ascii, decimal, line}
 use Rattle.report.specs.Reports.{sealText, kindText, refusalLine}
-use Rattle.report.specs.Printed.{Fields, linesOf, lineAt, numberIn, sameField, sealSaid, kindSaid, entryIn, listPrinted, dayPrinted, countPrinted, movesPrinted, brokenPrinted, placePrinted, endPrinted, startPrinted, runsPrinted, codePrinted}
+use Rattle.report.specs.Printed.{LineFields, linesOf, lineAt, numberIn, sameField, sealSaid, kindSaid, entrySaid, listPrinted, dayPrinted, countPrinted, movesPrinted, brokenPrinted, placePrinted, endPrinted, startPrinted, runsPrinted, codePrinted}
 use Rattle.report.proofs.DecimalFacts.{decimal-is}
 use Rattle.report.proofs.Fields.{Word, Words, decimal-word, line-alone, kept, all-length, all-at}
 
 -- The head line.
 
-abbrev pub headFields : ℕ → ℕ → ℕ → ℕ → Fields
+abbrev pub headFields : ℕ → ℕ → ℕ → ℕ → LineFields
 headFields h n moves broken =
     ascii "day"
     ∷ decimal h
@@ -43,7 +43,7 @@ head-words h n moves broken = search (decimal-word, arith) depth 12
 
 -- An entry's line.
 
-abbrev pub entryFields : ℕ → Entry → ℕ → ℕ → Fields
+abbrev pub entryFields : ℕ → Entry → ℕ → ℕ → LineFields
 entryFields place e end start =
     decimal place
     ∷ decimal (e .serial)
@@ -87,7 +87,7 @@ unfolding ascii
 kind-said Pause = refl
 kind-said Whole = refl
 
-entry-said : (place : ℕ) (e : Entry) (end start : ℕ) → entryIn (entryFields place e end start) ≡ e
+entry-said : (place : ℕ) (e : Entry) (end start : ℕ) → entrySaid (entryFields place e end start) ≡ e
 entry-said place e end start =
     λ j.
     record {
@@ -109,49 +109,49 @@ entries-taken f es (suc k) l each =
     ∙ rw (take-suc es k blank l, entries-taken f es k (omega arith) (λ i h. each i (omega arith)), each k (omega arith))
 
 -- a text with these lines: the head line, those of the n entries e with their ends and starts, and those of the runs
-pub record Lines (text : List ℕ) (h n moves broken : ℕ) (e : ℕ → Entry) (end start : ℕ → ℕ) (runs : List Fields) : Type 0 where
+pub record Lines (text : List ℕ) (h n moves broken : ℕ) (e : ℕ → Entry) (end start : ℕ → ℕ) (runs : List LineFields) : Type 0 where
   pub said : linesOf text ≡ headFields h n moves broken ∷ (kept n (λ _. true) (λ i. entryFields i (e i) (end i) (start i)) ++ runs)
 
 -- what it says
-module _ {text : List ℕ} {h n moves broken : ℕ} {e : ℕ → Entry} {end start : ℕ → ℕ} {runs : List Fields}
+module _ {text : List ℕ} {h n moves broken : ℕ} {e : ℕ → Entry} {end start : ℕ → ℕ} {runs : List LineFields}
     (lines : Lines text h n moves broken e end start runs) where
-  abbrev fields : ℕ → Fields
+  abbrev fields : ℕ → LineFields
   fields i = entryFields i (e i) (end i) (start i)
 
   head-is : lineAt text 0 ≡ headFields h n moves broken
-  head-is = ap (λ (ls : List Fields). getD ls 0 []) (lines .said)
+  head-is = ap (λ (ls : List LineFields). getD ls 0 []) (lines .said)
 
   pub day-is : dayPrinted text ≡ h
-  day-is = ap (λ (fs : Fields). numberIn fs 1) head-is ∙ decimal-is h .value
+  day-is = ap (λ (fs : LineFields). numberIn fs 1) head-is ∙ decimal-is h .value
 
   pub count-is : countPrinted text ≡ n
-  count-is = ap (λ (fs : Fields). numberIn fs 3) head-is ∙ decimal-is n .value
+  count-is = ap (λ (fs : LineFields). numberIn fs 3) head-is ∙ decimal-is n .value
 
   pub moves-is : movesPrinted text ≡ moves
-  moves-is = ap (λ (fs : Fields). numberIn fs 5) head-is ∙ decimal-is moves .value
+  moves-is = ap (λ (fs : LineFields). numberIn fs 5) head-is ∙ decimal-is moves .value
 
   pub broken-is : brokenPrinted text ≡ broken
-  broken-is = ap (λ (fs : Fields). numberIn fs 7) head-is ∙ decimal-is broken .value
+  broken-is = ap (λ (fs : LineFields). numberIn fs 7) head-is ∙ decimal-is broken .value
 
   line-is : (i : ℕ) → i < n → lineAt text (suc i) ≡ fields i
   line-is i l =
-      ap (λ (ls : List Fields). getD ls (suc i) []) (lines .said)
+      ap (λ (ls : List LineFields). getD ls (suc i) []) (lines .said)
       ∙ List·getD-append (kept n (λ _. true) fields) runs [] i (omega (arith, all-length fields n))
       ∙ all-at fields n i l
 
   pub place-is : (i : ℕ) → i < n → placePrinted text i ≡ i
-  place-is i l = ap (λ (fs : Fields). numberIn fs 0) (line-is i l) ∙ decimal-is i .value
+  place-is i l = ap (λ (fs : LineFields). numberIn fs 0) (line-is i l) ∙ decimal-is i .value
 
   pub end-is : (i : ℕ) → i < n → endPrinted text i ≡ end i
-  end-is i l = ap (λ (fs : Fields). numberIn fs 7) (line-is i l) ∙ decimal-is (end i) .value
+  end-is i l = ap (λ (fs : LineFields). numberIn fs 7) (line-is i l) ∙ decimal-is (end i) .value
 
   pub start-is : (i : ℕ) → i < n → startPrinted text i ≡ start i
-  start-is i l = ap (λ (fs : Fields). numberIn fs 8) (line-is i l) ∙ decimal-is (start i) .value
+  start-is i l = ap (λ (fs : LineFields). numberIn fs 8) (line-is i l) ∙ decimal-is (start i) .value
 
   pub runs-is : runsPrinted text ≡ runs
   runs-is =
       ap (λ (k : ℕ). drop (suc k) (linesOf text)) count-is
-      ∙ ap (λ (ls : List Fields). drop (suc n) ls) (lines .said)
+      ∙ ap (λ (ls : List LineFields). drop (suc n) ls) (lines .said)
       ∙ drop-at (kept n (λ _. true) fields) runs n (all-length fields n)
 
   pub list-is : (es : List Entry) → length es ≡ n → ((i : ℕ) → i < n → e i ≡ getD es i blank)
@@ -161,17 +161,17 @@ module _ {text : List ℕ} {h n moves broken : ℕ} {e : ℕ → Entry} {end sta
       λ j. dayList (record { h = day-is j }) (all j)
     where
       at : ℕ → Entry
-      at i = entryIn (lineAt text (suc i))
+      at i = entrySaid (lineAt text (suc i))
 
       all : map at (listOf (countPrinted text) (λ i. i)) ≡ es
       all =
           ap (λ (k : ℕ). map at (listOf k (λ i. i))) count-is
-          ∙ entries-taken at es n (omega (arith, long)) (λ i l. ap entryIn (line-is i l) ∙ entry-said i (e i) (end i) (start i) ∙ each i l)
+          ∙ entries-taken at es n (omega (arith, long)) (λ i l. ap entrySaid (line-is i l) ∙ entry-said i (e i) (end i) (start i) ∙ each i l)
           ∙ take-all n es (omega (arith, long))
 
 -- A refusal's line: that of row 9, which carries three values, and those of the others, which carry one.
 
-abbrev nineFields : ℕ → ℕ → ℕ → Fields
+abbrev nineFields : ℕ → ℕ → ℕ → LineFields
 nineFields a b c =
     ascii "refused" ∷ decimal 9 ∷ ascii "from" ∷ decimal a ∷ ascii "to" ∷ decimal b ∷ ascii "work" ∷ decimal c ∷ []
 

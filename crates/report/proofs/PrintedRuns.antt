@@ -12,36 +12,36 @@ use Rattle.jackson.specs.Plans.{idle}
 use Rattle.base.proofs.Sums.{le-or-lt, same-cases}
 use Rattle.report.specs.Text.{decimal}
 use Rattle.report.specs.Runs.{beginsRun, runEnd, Run}
-use Rattle.report.specs.Printed.{Fields, numberIn, hasMinute, placeBy}
+use Rattle.report.specs.Printed.{LineFields, numberIn, hasMinute, placeBy}
 use Rattle.report.specs.Laws.{SaysRun, SaysRuns}
 use Rattle.report.proofs.DecimalFacts.{decimal-is}
 use Rattle.report.proofs.RunFacts.{both, begins-so, runs-are}
 use Rattle.report.proofs.Fields.{Words, decimal-word, kept, HasLine, kept-at, kept-has, kept-order}
 
 -- the fields of a run's line
-abbrev pub runFields : ℕ → (ℕ → ℕ) → ℕ → Fields
+abbrev pub runFields : ℕ → (ℕ → ℕ) → ℕ → LineFields
 runFields h m t = decimal t ∷ decimal (runEnd h m t) ∷ decimal (m t) ∷ []
 
 pub run-words : (h : ℕ) (m : ℕ → ℕ) (t : ℕ) → Words (runFields h m t)
 run-words h m t = search decimal-word
 
 -- the test of a line for a minute
-has-minute : (fs : Fields) (t : ℕ) → hasMinute fs t ≡ true → (numberIn fs 0 ≤ t) × (t < numberIn fs 1)
+has-minute : (fs : LineFields) (t : ℕ) → hasMinute fs t ≡ true → (numberIn fs 0 ≤ t) × (t < numberIn fs 1)
 has-minute fs t e = let (from, to) = both (leb (numberIn fs 0) t) (ltb t (numberIn fs 1)) e in (leb-true _ _ from, ltb-true _ _ to)
 
-minute-has : (fs : Fields) (t : ℕ) → numberIn fs 0 ≤ t → t < numberIn fs 1 → hasMinute fs t ≡ true
+minute-has : (fs : LineFields) (t : ℕ) → numberIn fs 0 ≤ t → t < numberIn fs 1 → hasMinute fs t ≡ true
 minute-has fs t from to = rw (le-leb (numberIn fs 0) t from, lt-ltb t (numberIn fs 1) to)
 
 -- one of the lines has minute t
-abbrev Has : List Fields → ℕ → Type 0
+abbrev Has : List LineFields → ℕ → Type 0
 Has ls t = (j : ℕ) × (j < length ls) × (hasMinute (getD ls j []) t ≡ true)
 
-has-later : (fs : Fields) (ls : List Fields) (t : ℕ) → hasMinute fs t ≡ false → Has (fs ∷ ls) t → Has ls t
+has-later : (fs : LineFields) (ls : List LineFields) (t : ℕ) → hasMinute fs t ≡ false → Has (fs ∷ ls) t → Has ls t
 has-later fs ls t e (zero, l, has) = absurd (false≢true (sym e ∙ has))
 has-later fs ls t e (suc j, l, has) = (j, omega arith, has)
 
 -- the place of a minute, where each line that has it says x, and one does unless x is idle
-place-is : (t x : ℕ) (ls : List Fields)
+place-is : (t x : ℕ) (ls : List LineFields)
     → ((j : ℕ) → j < length ls → hasMinute (getD ls j []) t ≡ true → numberIn (getD ls j []) 2 ≡ x)
     → ((x ≡ idle → ⊥) → Has ls t) → placeBy ls t ≡ x
 unfolding placeBy
@@ -56,7 +56,7 @@ place-is t x (fs ∷ ls) each some =
 
 -- The lines of the runs of m.
 module _ (h : ℕ) (m : ℕ → ℕ) where
-  abbrev pub runsOf : List Fields
+  abbrev pub runsOf : List LineFields
   runsOf = kept h (beginsRun m) (runFields h m)
 
   -- line j is that of the run that begins at minute t

@@ -40,7 +40,7 @@ use Rattle.planner.proofs.Demands.{AtPlace, ByRules, widest-formed, demand3, pl
 use Rattle.report.specs.Text.{line}
 use Rattle.report.specs.Runs.{beginsRun}
 use Rattle.report.specs.Reports.{headLine, entryLine, entryLines, runLine, runLines, refusalLine, dayText, plannedText, reportOf, printed, printedOf}
-use Rattle.report.specs.Printed.{Fields, linesOf, listPrinted, windowsPrinted, dayPrinted, runsPrinted, placeBy, planPrinted, toldBy, codePrinted, toldRefused}
+use Rattle.report.specs.Printed.{LineFields, linesOf, listPrinted, windowsPrinted, dayPrinted, runsPrinted, placeBy, planPrinted, toldBy, codePrinted, toldRefused}
 use Rattle.report.specs.Laws.{SaysRuns, PrintsPlan, PrintsRefusal, ReportLaw, unread, refuses, planned}
 use Rattle.report.proofs.Fields.{text-said, kept, kept-each, kept-text}
 use Rattle.report.proofs.PrintedLines.{headFields, head-words, entryFields, entry-words, Lines, day-is, count-is, moves-is, broken-is, place-is, end-is, start-is, runs-is, list-is, nine-said, one-said}
@@ -51,10 +51,10 @@ module _ (d : DayList) (moves broken : ℕ) (end start m : ℕ → ℕ) where
   abbrev entry : ℕ → Entry
   entry i = getD (entriesOf d) i blank
 
-  abbrev fields : ℕ → Fields
+  abbrev fields : ℕ → LineFields
   fields i = entryFields i (entry i) (end i) (start i)
 
-  abbrev heads : Fields
+  abbrev heads : LineFields
   heads = headFields (d .frame .h) (d .n) moves broken
 
   day-lines : Lines (headLine (d .frame .h) (d .n) moves broken ++ (entryLines d end start ++ runLines (d .frame .h) m))
@@ -136,7 +136,7 @@ module _ (l : DayList) (formed : WellFormed l) (v : Narrowed) (e : narrowing ove
       let long : length (schedule w) ≡ dayPrinted text = demand2-given .plan .long ∙ sym day ∙ sym (day-is lines) in
       minutes-are (dayPrinted text) (placeBy (runsPrinted text)) idle (schedule w) long
       (λ t below.
-      ap (λ (ls : List Fields). placeBy ls t) (runs-is lines) ∙ place-said (settled .frame .h) plan t (omega (arith, day-is lines)))
+      ap (λ (ls : List LineFields). placeBy ls t) (runs-is lines) ∙ place-said (settled .frame .h) plan t (omega (arith, day-is lines)))
 
   -- what is told of the list
   told-is : toldBy text .outcome ≡ answered v

@@ -1,4 +1,4 @@
--- Document 01's examples of reports, as one statement; `examples` of proofs/Example.antt proves it.
+-- Document 01's examples of reports, as one statement; `report-examples` of proofs/Examples.antt proves it.
 use Prim.Native.Nat.{ℕ}
 use mathlib.Core.Path.{_≡_}
 use mathlib.Core.List.{List, [], _∷_, _++_}
@@ -47,7 +47,7 @@ pub record Example (input : List ℕ) (o : Outcome (List ℕ)) (text : List ℕ)
   pub prints : printedOf input ≡ text
 
 -- "Refusals print as `refused 7 at 3` .., `refused 9 from 2 to 5 work 4`, `refused 10 entry 0`."
-pub record Examples : Type 0 where
+pub record ReportExamples : Type 0 where
   pub day : Example dayBytes (answered dayLines) dayLines
   pub bad-window : Example badWindowBytes (refused (code 7 (3 ∷ []))) (ascii "refused 7 at 3\n")
   pub overloaded : Example overloadedBytes (refused (code 9 (2 ∷ 5 ∷ 4 ∷ []))) (ascii "refused 9 from 2 to 5 work 4\n")

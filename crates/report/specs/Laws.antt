@@ -15,16 +15,16 @@ use Rattle.planner.specs.Demand3.{Demand3}
 use Rattle.planner.specs.Demand2.{PlansWindows}
 use Rattle.report.specs.Runs.{Run}
 use Rattle.report.specs.Reports.{refusalLine, reportOf}
-use Rattle.report.specs.Printed.{Fields, numberIn, dayPrinted, countPrinted, brokenPrinted, listPrinted, windowsPrinted, placePrinted, runsPrinted, planPrinted, toldBy, codePrinted, toldRefused}
+use Rattle.report.specs.Printed.{LineFields, numberIn, dayPrinted, countPrinted, brokenPrinted, listPrinted, windowsPrinted, placePrinted, runsPrinted, planPrinted, toldBy, codePrinted, toldRefused}
 
 -- a run's line says the minutes from s to e and the place k
-pub record SaysRun (fs : Fields) (s e k : ℕ) : Type 0 where
+pub record SaysRun (fs : LineFields) (s e k : ℕ) : Type 0 where
   pub first : numberIn fs 0 ≡ s
   pub end : numberIn fs 1 ≡ e
   pub place : numberIn fs 2 ≡ k
 
 -- lines say the maximal runs of one entry in m, in the order of their minutes, so that no run has two lines
-pub record SaysRuns (h : ℕ) (m : ℕ → ℕ) (ls : List Fields) : Type 0 where
+pub record SaysRuns (h : ℕ) (m : ℕ → ℕ) (ls : List LineFields) : Type 0 where
   pub each : (s e k : ℕ) → Run h m s e k ↔ ((j : ℕ) × (j < length ls) × SaysRun (getD ls j []) s e k)
   pub in-order : (i j : ℕ) → i < j → j < length ls → numberIn (getD ls i []) 0 < numberIn (getD ls j []) 0
 

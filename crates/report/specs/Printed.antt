@@ -23,8 +23,8 @@ use Rattle.report.specs.Text.{ascii, saysAfter}
 -- Lines and fields.
 
 -- a line as its fields
-abbrev pub Fields : Type 0
-Fields = List (List ℕ)
+abbrev pub LineFields : Type 0
+LineFields = List (List ℕ)
 
 -- a byte before the first part
 abbrev pub inFirst : ℕ → List (List ℕ) → List (List ℕ)
@@ -37,15 +37,15 @@ parts c [] = []
 parts c (b ∷ bs) = cond (eqb b c) ([] ∷ parts c bs) (inFirst b (parts c bs))
 
 -- "fields one space apart and every line ended by a newline": the lines of a text
-unfoldable pub linesOf : List ℕ → List Fields
+unfoldable pub linesOf : List ℕ → List LineFields
 linesOf text = map (parts 32) (parts 10 text)
 
 -- line i; none from the text's end on
-abbrev pub lineAt : List ℕ → ℕ → Fields
+abbrev pub lineAt : List ℕ → ℕ → LineFields
 lineAt text i = getD (linesOf text) i []
 
 -- the number that field j of a line says in base ten
-abbrev pub numberIn : Fields → ℕ → ℕ
+abbrev pub numberIn : LineFields → ℕ → ℕ
 numberIn fs j = saysAfter 0 (getD fs j [])
 
 -- whether two fields have the same bytes
@@ -84,8 +84,8 @@ abbrev pub kindSaid : List ℕ → Kind
 kindSaid f = cond (sameField f (ascii "whole")) Whole Pause
 
 -- "per entry its place, serial, seal or `-`, `pause` or `whole`, settled r, settled d, p, least end, greatest start": the entry of a line
-abbrev pub entryIn : Fields → Entry
-entryIn fs =
+abbrev pub entrySaid : LineFields → Entry
+entrySaid fs =
     record {
       serial = numberIn fs 1;
       seal = sealSaid (getD fs 2 []);
@@ -98,7 +98,7 @@ entryIn fs =
 -- the list printed: H and n of the head line, and the entries of the n lines, with their settled windows
 unfoldable pub listPrinted : List ℕ → DayList
 listPrinted text =
-    dayList (record { h = dayPrinted text }) (map (λ i. entryIn (lineAt text (suc i))) (listOf (countPrinted text) (λ i. i)))
+    dayList (record { h = dayPrinted text }) (map (λ i. entrySaid (lineAt text (suc i))) (listOf (countPrinted text) (λ i. i)))
 
 -- its windows
 abbrev pub windowsPrinted : List ℕ → Windows
@@ -119,15 +119,15 @@ startPrinted text i = numberIn (lineAt text (suc i)) 8
 -- The lines after those.
 
 -- "per maximal run of one entry in the plan its first minute, its end, the place"
-abbrev pub runsPrinted : List ℕ → List Fields
+abbrev pub runsPrinted : List ℕ → List LineFields
 runsPrinted text = drop (suc (countPrinted text)) (linesOf text)
 
 -- the run of a line has minute t
-abbrev pub hasMinute : Fields → ℕ → Bool
+abbrev pub hasMinute : LineFields → ℕ → Bool
 hasMinute fs t = leb (numberIn fs 0) t && ltb t (numberIn fs 1)
 
 -- the place of the first run that has minute t; a minute that no run has is idle
-unfoldable pub placeBy : List Fields → ℕ → ℕ
+unfoldable pub placeBy : List LineFields → ℕ → ℕ
 placeBy [] t = idle
 placeBy (fs ∷ rest) t = cond (hasMinute fs t) (numberIn fs 2) (placeBy rest t)
 

@@ -15,8 +15,8 @@ Inv-loop list fields₀ i₀ fields i = NumbersPut list fields i
 abbrev μ-loop : tie.MeasureT-loop
 μ-loop list fields₀ i₀ fields i = 64 - i
 
-zeros-requires : tie.Need-zeros-requires Inv-loop μ-loop
-zeros-requires c κs = search needs
+no-numbers-requires : tie.Need-no-numbers-requires Inv-loop μ-loop
+no-numbers-requires c κs = search needs
 
 cast-fields : tie.Need-cast-fields Inv-loop μ-loop
 cast-fields c = search needs
@@ -34,8 +34,8 @@ loop-holds : tie.Need-loop-holds Inv-loop μ-loop
 loop-holds c =
     let list = c .before .before .before .args .t1 in
     let k : length (list .entries) ≡ 64 = search (needs, length-mapped) in
-    let zeros = c .before .zeros in
-    numbers-start list (zeros .result) (rw (zeros .ensures)) k
+    let no-numbers = c .before .no-numbers in
+    numbers-start list (no-numbers .result) (rw (no-numbers .ensures)) k
 
 mul-put-entry-numbers : tie.Need-mul-put-entry-numbers Inv-loop μ-loop
 mul-put-entry-numbers c = search needs
@@ -78,7 +78,7 @@ flat-of-spec =
     (tie.spec
     Inv-loop
     μ-loop
-    zeros-requires
+    no-numbers-requires
     cast-fields
     array-write-fields
     cast-fields-2

@@ -15,14 +15,14 @@ use Rattle.format.proofs.reader.read.Tie as tie
 frame-read : (c : tie.After-u16-at) → record { h = c .u16-at .result } ≡ frameOf (c .before .before .before .args .bytes .now)
 frame-read c = ap (λ (x : ℕ). record { h = x }) (c .u16-at .ensures)
 
-refused-with-requires : tie.Need-refused-with-requires
-refused-with-requires c κs = search needs
+read-refused-requires : tie.Need-read-refused-requires
+read-refused-requires c κs = search needs
 
 returns : tie.Need-returns
 returns c =
     let args = c .before .before .before .args in
     reads (args .bytes .now) _ (λ i. c .before .before .shared-slice-known .given i .fits)
-    (reads-refused _ _ _ (c .refused-with .ensures) (read-short (args .bytes .now) (c .before .if1 .taken)))
+    (reads-refused _ _ _ (c .read-refused .ensures) (read-short (args .bytes .now) (c .before .if1 .taken)))
 
 u16-at-requires : tie.Need-u16-at-requires
 u16-at-requires c κs = search needs
@@ -46,8 +46,8 @@ read-body-requires c κs =
 enum-known-header : tie.Need-enum-known-header
 enum-known-header c = search needs
 
-refused-with-requires-2 : tie.Need-refused-with-requires-2
-refused-with-requires-2 c κs = search needs
+read-refused-requires-2 : tie.Need-read-refused-requires-2
+read-refused-requires-2 c κs = search needs
 
 returns-2 : tie.Need-returns-2
 returns-2 c =
@@ -68,14 +68,14 @@ returns-3 c =
     let frame = frame-read (c .before .before .before .before .before .before) in
     let header-fault = c .before .before .before .before .header-fault in
     reads bytes _ (λ i. shared-slice-known .given i .fits)
-    (reads-refused _ _ _ (c .refused-with2 .ensures)
+    (reads-refused _ _ _ (c .read-refused2 .ensures)
     (read-header bytes _ (header-fault .result) frame (if1 .left) (header-fault .ensures) _ (c .before .before .header .given .1)))
 
 pub read-spec : {M : Type 1} → statement M
 read-spec =
     tie.close
     (tie.spec
-    refused-with-requires
+    read-refused-requires
     returns
     u16-at-requires
     shared-slice-read-n
@@ -83,6 +83,6 @@ read-spec =
     enum-told
     read-body-requires
     enum-known-header
-    refused-with-requires-2
+    read-refused-requires-2
     returns-2
     returns-3)

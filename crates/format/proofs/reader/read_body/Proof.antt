@@ -63,8 +63,8 @@ add-at c =
 enum-known-one-2 : tie.Need-enum-known-one-2 Inv-loop μ-loop
 enum-known-one-2 c = search needs
 
-refused-with-requires : tie.Need-refused-with-requires Inv-loop μ-loop
-refused-with-requires c κs = search needs
+read-refused-requires : tie.Need-read-refused-requires Inv-loop μ-loop
+read-refused-requires c κs = search needs
 
 returns : tie.Need-returns Inv-loop μ-loop
 returns c =
@@ -74,7 +74,7 @@ returns c =
     let loop-test = c .before .before .before .before .before .before .loop-test in
     let read-entry = c .before .before .before .before .read-entry in
     let o = entry-refused (loop .inv) (read-entry .result) _ (loop-test .taken) (read-entry .ensures) (c .before .before .one2 .given .1) in
-    reads-refused _ _ _ (c .refused-with .ensures) (body-refused (args .bytes .now) _ _ (pre .2) (pre .3) _ o)
+    reads-refused _ _ _ (c .read-refused .ensures) (body-refused (args .bytes .now) _ _ (pre .2) (pre .3) _ o)
 
 add-i : tie.Need-add-i Inv-loop μ-loop
 add-i c = search needs
@@ -90,8 +90,8 @@ loop-again c =
     let read-entry = c .before .before .before .read-entry in
     next (loop .inv) (read-entry .result) _ _ (pre .1) (loop-test .taken) (read-entry .ensures) (c .before .one .given .1)
 
-refused-with-requires-2 : tie.Need-refused-with-requires-2 Inv-loop μ-loop
-refused-with-requires-2 c κs = search needs
+read-refused-requires-2 : tie.Need-read-refused-requires-2 Inv-loop μ-loop
+read-refused-requires-2 c κs = search needs
 
 returns-2 : tie.Need-returns-2 Inv-loop μ-loop
 returns-2 c =
@@ -99,7 +99,7 @@ returns-2 c =
     let args = c .before .before .before .before .before .before .before .args in
     let loop = c .before .before .before .loop in
     let o = done (loop .inv) (c .before .before .loop-test .left) in
-    reads-refused _ _ _ (c .refused-with2 .ensures) (body-left (args .bytes .now) _ _ (pre .2) (pre .3) _ _ o (c .before .if1 .taken))
+    reads-refused _ _ _ (c .read-refused2 .ensures) (body-left (args .bytes .now) _ _ (pre .2) (pre .3) _ _ o (c .before .if1 .taken))
 
 returns-3 : tie.Need-returns-3 Inv-loop μ-loop
 returns-3 c =
@@ -128,11 +128,11 @@ read-body-spec =
     array-set-from-entries
     add-at
     enum-known-one-2
-    refused-with-requires
+    read-refused-requires
     returns
     add-i
     loop-less
     loop-again
-    refused-with-requires-2
+    read-refused-requires-2
     returns-2
     returns-3)

@@ -16,15 +16,15 @@ use Rattle.planner.specs.BrokenEntries.{brokenIn}
 use Rattle.report.specs.Text.{ascii, digits, decimal, line, texts}
 use Rattle.report.specs.Runs.{runEnd}
 use Rattle.report.specs.Reports.{headLine, entryLine, entryLines, runLine, runLines, refusalLine, dayText, reportOf}
-use Rattle.report.specs.Examples.{Examples}
+use Rattle.report.specs.Examples.{ReportExamples}
 
-pub examples : Examples
+pub report-examples : ReportExamples
 unfolding entryAt entryFault fieldsEntry entryOf headerFault entriesFrom bodyOf readOf
     sum firstBelow lastBelow best listOf work leftEnd rightEnd overloadOf chosen minuteOf later schedule
     failedStarts failedEnds leastStart greatestEnd narrowSide visit visits rounds narrowing entriesWith listWith
     failedDeadlines failedReleases leastEnd greatestStart brokenIn ascii digits decimal line texts runEnd
     headLine entryLine entryLines runLine runLines refusalLine dayText reportOf
-examples =
+report-examples =
     record {
       day = record { report = refl; prints = refl };
       bad-window = record { report = refl; prints = refl };
