@@ -4,6 +4,8 @@
 // `bytes`, `out` and `plan` with their lengths, `fields` and `narrowed` with 450 numbers each, `bounds` with 128 and `values` with 3, and
 // no two of them overlap. Uses the crates list, format, flat, jackson, narrow, planner, report and codes.
 use codes::RefusalCode;
+use flat::BOUNDS;
+use flat::NUMBERS;
 use flat::flat_of;
 use flat::joined;
 use flat::list_in;
@@ -68,7 +70,7 @@ fn count_as(answer: WriteAnswer) -> Answer
 
 // Reads a list. Accepted: `fields` is the list, flat; else it keeps its values.
 #[no_mangle]
-pub extern "C" fn dock_read(bytes: &[u8], fields: &mut [u32; 450]) -> Answer
+pub extern "C" fn dock_read(bytes: &[u8], fields: &mut [u32; NUMBERS]) -> Answer
     ensures { λ a. ⌜ ReadCall (now (bytes .entry)) (now (fields .entry)) a (now (fields .exit)) ⌝ }
 {
     let answer = format::read(bytes);
@@ -88,7 +90,7 @@ pub extern "C" fn dock_read(bytes: &[u8], fields: &mut [u32; 450]) -> Answer
 
 // Writes the list value that `fields` says. Accepted: the first value is the number of bytes written; else `out` keeps its bytes.
 #[no_mangle]
-pub extern "C" fn dock_write(fields: &[u32; 450], out: &mut [u8]) -> Answer
+pub extern "C" fn dock_write(fields: &[u32; NUMBERS], out: &mut [u8]) -> Answer
     ensures { λ a. ⌜ WriteCall (now (fields .entry)) (now (out .entry)) a (now (out .exit)) ⌝ }
 {
     let answer = format::write(list_in(fields), out);
@@ -97,7 +99,7 @@ pub extern "C" fn dock_write(fields: &[u32; 450], out: &mut [u8]) -> Answer
 
 // Tests the list value that `fields` says for an overloaded interval.
 #[no_mangle]
-pub extern "C" fn dock_overload(fields: &[u32; 450]) -> Answer
+pub extern "C" fn dock_overload(fields: &[u32; NUMBERS]) -> Answer
     ensures { λ a. ⌜ OverloadCall (now (fields .entry)) a ⌝ }
 {
     verdict_as(jackson::overload(list_in(fields)))
@@ -105,7 +107,7 @@ pub extern "C" fn dock_overload(fields: &[u32; 450]) -> Answer
 
 // Fills `plan` with Jackson's schedule of the list value that `fields` says, its windows as given. Refused: `plan` keeps its bytes.
 #[no_mangle]
-pub extern "C" fn dock_schedule(fields: &[u32; 450], plan: &mut [u8]) -> Answer
+pub extern "C" fn dock_schedule(fields: &[u32; NUMBERS], plan: &mut [u8]) -> Answer
     ensures { λ a. ⌜ ScheduleCall (now (fields .entry)) (now (plan .entry)) a (now (plan .exit)) ⌝ }
 {
     let verdict = jackson::schedule(list_in(fields), plan);
@@ -113,7 +115,7 @@ pub extern "C" fn dock_schedule(fields: &[u32; 450], plan: &mut [u8]) -> Answer
 }
 
 // What narrowing answered: the values are the moves and this second one, and `narrowed` is the list, flat; refused, it keeps its values.
-fn give_narrowed(answer: NarrowAnswer, second: u64, narrowed: &mut [u32; 450]) -> Answer
+fn give_narrowed(answer: NarrowAnswer, second: u64, narrowed: &mut [u32; NUMBERS]) -> Answer
     ensures { λ a. ⌜ NarrowCall (narrowAnswerOf answer) second (now (narrowed .entry)) a (now (narrowed .exit)) ⌝ }
 {
     let verdict = answer.verdict;
@@ -132,14 +134,14 @@ fn give_narrowed(answer: NarrowAnswer, second: u64, narrowed: &mut [u32; 450]) -
 
 // Narrows the list value that `fields` says until its windows are settled.
 #[no_mangle]
-pub extern "C" fn dock_settle(fields: &[u32; 450], narrowed: &mut [u32; 450]) -> Answer
+pub extern "C" fn dock_settle(fields: &[u32; NUMBERS], narrowed: &mut [u32; NUMBERS]) -> Answer
     ensures { λ a. ⌜ SettleCall (now (fields .entry)) (now (narrowed .entry)) a (now (narrowed .exit)) ⌝ }
 {
     give_narrowed(narrow::settle(list_in(fields)), 0, narrowed)
 }
 
 // The bounds that planning answered; refused, `bounds` keeps its values.
-fn give_bounds(answer: PlanAnswer, bounds: &mut [u32; 128])
+fn give_bounds(answer: PlanAnswer, bounds: &mut [u32; BOUNDS])
     ensures { λ _. ⌜ now (bounds .exit)
         ≡ settledOr (now (bounds .entry)) (λ _. answer .ends ++ answer .starts) (narrowedIn (answer .narrowed)) ⌝ }
 {
@@ -158,10 +160,10 @@ fn give_bounds(answer: PlanAnswer, bounds: &mut [u32; 128])
 // its values.
 #[no_mangle]
 pub extern "C" fn dock_plan(
-    fields: &[u32; 450],
+    fields: &[u32; NUMBERS],
     plan: &mut [u8],
-    narrowed: &mut [u32; 450],
-    bounds: &mut [u32; 128],
+    narrowed: &mut [u32; NUMBERS],
+    bounds: &mut [u32; BOUNDS],
 ) -> Answer
     ensures { λ a. ⌜ PlanCall (now (fields .entry)) (now (plan .entry)) (now (narrowed .entry)) (now (bounds .entry)) a
         (now (plan .exit)) (now (narrowed .exit)) (now (bounds .exit)) ⌝ }
@@ -175,10 +177,10 @@ pub extern "C" fn dock_plan(
 // `narrowed` is the settled list, flat, and `plan` begins with the plan. Refused: each keeps its values.
 #[no_mangle]
 pub extern "C" fn dock_early(
-    fields: &[u32; 450],
+    fields: &[u32; NUMBERS],
     place: u64,
     plan: &mut [u8],
-    narrowed: &mut [u32; 450],
+    narrowed: &mut [u32; NUMBERS],
 ) -> Answer
     ensures { λ a. ⌜ EarlyCall (now (fields .entry)) place (now (plan .entry)) (now (narrowed .entry)) a
         (now (plan .exit)) (now (narrowed .exit)) ⌝ }
@@ -190,10 +192,10 @@ pub extern "C" fn dock_early(
 // Shows the late plan, with the place's greatest start.
 #[no_mangle]
 pub extern "C" fn dock_late(
-    fields: &[u32; 450],
+    fields: &[u32; NUMBERS],
     place: u64,
     plan: &mut [u8],
-    narrowed: &mut [u32; 450],
+    narrowed: &mut [u32; NUMBERS],
 ) -> Answer
     ensures { λ a. ⌜ LateCall (now (fields .entry)) place (now (plan .entry)) (now (narrowed .entry)) a
         (now (plan .exit)) (now (narrowed .exit)) ⌝ }

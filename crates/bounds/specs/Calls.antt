@@ -7,6 +7,7 @@ use lib.ListN.{length, drop, replicate}
 use lib.Dec.{leb, ltb}
 use Rattle.base.specs.Outcomes.{Outcome, answered, refused, Row, row, firstOf, andThen, accepts}
 use Rattle.base.specs.Counting.{listOf}
+use Rattle.list.specs.DayLists.{mostEntries}
 use Rattle.list.specs.Refusals.{outcomeOf}
 use Rattle.jackson.specs.Windows.{Windows, roomFault}
 use Rattle.jackson.specs.Intervals.{overloadOf}
@@ -19,7 +20,7 @@ use Rattle.bounds.specs.declared.types.BoundAnswer.{BoundAnswer}
 
 -- a number for each place below n; from n on 0
 abbrev pub byPlace : ℕ → (ℕ → ℕ) → List ℕ
-byPlace n f = listOf 64 (λ i. cond (ltb i n) (f i) 0)
+byPlace n f = listOf mostEntries (λ i. cond (ltb i n) (f i) 0)
 
 -- the least ends and greatest starts of all places
 abbrev pub leastEnds : (ℕ → Bool) → Windows → List ℕ
@@ -30,7 +31,7 @@ greatestStarts whole w = byPlace (w .n) (greatestStart overloadOf whole w)
 
 -- these numbers, or 0 for each place of windows without room
 abbrev pub inRoom : Windows → List ℕ → List ℕ
-inRoom w xs = cond (accepts (roomFault w)) xs (replicate 64 0)
+inRoom w xs = cond (accepts (roomFault w)) xs (replicate mostEntries 0)
 
 -- what `bounds_of` answers of the windows w
 pub record HoldsBounds (whole : ℕ → Bool) (w : Windows) (b : Bounds) : Type 0 where

@@ -7,10 +7,11 @@ use jackson::unchecked_overload;
 use jackson::zeros;
 use list::is_accepted;
 use list::places_held;
+use list::types::ENTRIES;
 ghost use mathlib.Core.Path.{_≡_};
 ghost use Prim.Native.Nat.{_<_};
 ghost use Rattle.base.specs.Outcomes.{accepts};
-ghost use Rattle.list.specs.DayLists.{marked};
+ghost use Rattle.list.specs.DayLists.{marked, mostEntries};
 ghost use Rattle.jackson.specs.Windows.{windowsIn, withD, Formed, Searchable};
 ghost use Rattle.jackson.specs.Intervals.{overloadOf};
 ghost use Rattle.bounds.specs.Ends.{leastEnd};
@@ -18,7 +19,7 @@ ghost use Rattle.bounds.specs.Calls.{leastEnds, greatestStarts, HoldsBou
 
 // Whether a plan exists when entry k's d is e.
 fn has_plan_by(windows: WindowSet, k: usize, e: u16) -> bool
-    requires { ⌜ k < 64 ⌝ }
+    requires { ⌜ k < mostEntries ⌝ }
     ensures { λ b. ⌜ b ≡ accepts (overloadOf (withD (windowsIn windows) k e)) ⌝ }
 {
     let mut trial = windows;
@@ -52,7 +53,7 @@ pub(crate) fn least_end(windows: WindowSet, k: usize, whole: bool) -> u16
 }
 
 // The least ends of the entries of these windows, of which `whole` marks the whole ones. Places from n on are 0.
-fn least_ends(whole: [bool; 64], windows: WindowSet) -> [u16; 64]
+fn least_ends(whole: [bool; ENTRIES], windows: WindowSet) -> [u16; ENTRIES]
     requires { ⌜ Formed (windowsIn windows) ⌝ }
     ensures { λ xs. ⌜ xs ≡ leastEnds (marked whole) (windowsIn windows) ⌝ }
 {
@@ -67,7 +68,7 @@ fn least_ends(whole: [bool; 64], windows: WindowSet) -> [u16; 64]
 }
 
 // The greatest starts: the mirrors of the least ends in the mirror.
-fn greatest_starts(whole: [bool; 64], windows: WindowSet) -> [u16; 64]
+fn greatest_starts(whole: [bool; ENTRIES], windows: WindowSet) -> [u16; ENTRIES]
     requires { ⌜ Formed (windowsIn windows) ⌝ }
     ensures { λ xs. ⌜ xs ≡ greatestStarts (marked whole) (windowsIn windows) ⌝ }
 {
@@ -84,7 +85,7 @@ fn greatest_starts(whole: [bool; 64], windows: WindowSet) -> [u16; 64]
 }
 
 // The least ends and greatest starts of windows.
-pub fn bounds_of(whole: [bool; 64], windows: WindowSet) -> Bounds
+pub fn bounds_of(whole: [bool; ENTRIES], windows: WindowSet) -> Bounds
     ensures { λ b. ⌜ HoldsBounds (marked whole) (windowsIn windows) b ⌝ }
 {
     if !is_accepted(room_fault(windows)) {

@@ -4,7 +4,7 @@ use mathlib.Core.Path.{_≡_}
 use mathlib.Core.List.{List}
 use lib.ListN.{length, take}
 use Rattle.list.specs.Checks.{WellFormed}
-use Rattle.format.specs.Writing.{bytesOf}
+use Rattle.format.specs.Writing.{bytesOf, readLimit}
 use Rattle.list.specs.declared.types.DayList.{DayList}
 use Rattle.report.specs.Reports.{printedOf}
 use Rattle.report.specs.Laws.{ReportLaw}
@@ -12,7 +12,7 @@ use Rattle.report.specs.Laws.{ReportLaw}
 -- "it takes 964 bytes at most; a longest list has 963": so many bytes of an input are read at most, and they are more than any list has, so
 -- that bytes left over are seen
 pub record InputLimit (limit : ℕ) : Type 0 where
-  pub most : limit ≤ 964
+  pub most : limit ≤ readLimit
   pub more : (l : DayList) → WellFormed l → length (bytesOf l) < limit
 
 -- the first size bytes of a buffer are a whole text

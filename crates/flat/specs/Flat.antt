@@ -1,4 +1,4 @@
--- A list value as 450 numbers: H, n, and seven numbers for each of the 64 places.
+-- A list value as numbers.
 use Prim.Native.Nat.{ℕ, zero, suc, _+_, _*_, min}
 use mathlib.Core.Bool.{not}
 use mathlib.Core.List.{List, [], _∷_, _++_}
@@ -6,12 +6,20 @@ use lib.ListN.{getD}
 use lib.Dec.{eqb}
 use Rattle.format.specs.Maps.{kindOf}
 use Rattle.format.specs.EntryFields.{sealOf}
+use Rattle.list.specs.DayLists.{mostEntries}
 use Rattle.list.specs.declared.types.Seal.{Seal}
 use Rattle.list.specs.declared.types.Seal.the-variants.{Missing, Number}
 use Rattle.list.specs.declared.types.Kind.{Kind}
 use Rattle.list.specs.declared.types.Kind.the-variants.{Pause, Whole}
 use Rattle.list.specs.declared.types.Entry.{Entry}
 use Rattle.list.specs.declared.types.DayList.{DayList}
+
+-- how many numbers say a list value: H, n, and seven for each place; and how many its bounds, two for each place
+abbrev pub flatNumbers : ℕ
+flatNumbers = 450
+
+abbrev pub boundNumbers : ℕ
+boundNumbers = 128
 
 -- whether a seal is a number, and that number (0 where it is missing)
 abbrev pub present : Seal → ℕ
@@ -60,4 +68,4 @@ entriesIn (suc k) i xs = entryIn xs (2 + 7 * i) ∷ entriesIn k (i + 1) xs
 
 -- the list value that numbers say
 abbrev pub valueOf : List ℕ → DayList
-valueOf xs = record { frame = record { h = min (getD xs 0 0) 65535 }; n = min (getD xs 1 0) 255; entries = entriesIn 64 0 xs }
+valueOf xs = record { frame = record { h = min (getD xs 0 0) 65535 }; n = min (getD xs 1 0) 255; entries = entriesIn mostEntries 0 xs }

@@ -1,5 +1,7 @@
 // A list value as 450 numbers.
+use crate::NUMBERS;
 use list::types::DayList;
+use list::types::ENTRIES;
 use list::types::Entry;
 use list::types::Frame;
 use list::types::Kind;
@@ -12,7 +14,8 @@ ghost use lib.Seq.{sets};
 ghost use lib.Dec.{eqb};
 ghost use Rattle.format.specs.Maps.{kindOf};
 ghost use Rattle.format.specs.EntryFields.{sealOf};
-ghost use Rattle.flat.specs.Flat.{present, numberOf, wholeOf, flatEntry, flatOf, entryIn, valueOf};
+ghost use Rattle.flat.specs.Flat.{present, numberOf, wholeOf, flatEntry, flatOf, entryIn, valueOf, flatNumbers};
+ghost use Rattle.list.specs.DayLists.{mostEntries};
 
 // The largest u16 for a number that is too large, and likewise below.
 fn u16_of(x: u32) -> u16
@@ -44,8 +47,8 @@ fn kind_in(flag: u32) -> Kind
     if flag == 0 { Kind::Pause } else { Kind::Whole }
 }
 
-fn entry_in(fields: &[u32; 450], at: usize) -> Entry
-    requires { ⌜ at + 7 ≤ 450 ⌝ }
+fn entry_in(fields: &[u32; NUMBERS], at: usize) -> Entry
+    requires { ⌜ at + 7 ≤ flatNumbers ⌝ }
     ensures { λ e. ⌜ e ≡ entryIn (now (fields .entry)) at ⌝ }
 {
     let seal = seal_in(fields[at + 1], fields[at + 2]);
@@ -61,19 +64,19 @@ fn entry_in(fields: &[u32; 450], at: usize) -> Entry
 }
 
 // 64 times the same entry, to start from.
-fn alike(e: Entry) -> [Entry; 64]
-    ensures { λ es. ⌜ es ≡ replicate 64 e ⌝ }
+fn alike(e: Entry) -> [Entry; ENTRIES]
+    ensures { λ es. ⌜ es ≡ replicate mostEntries e ⌝ }
 {
-    [e; 64]
+    [e; ENTRIES]
 }
 
 // The list value that the numbers say, whatever they are.
-pub fn list_in(fields: &[u32; 450]) -> DayList
+pub fn list_in(fields: &[u32; NUMBERS]) -> DayList
     ensures { λ l. ⌜ l ≡ valueOf (now (fields .entry)) ⌝ }
 {
     let mut entries = alike(entry_in(fields, 2));
     let mut i: usize = 0;
-    while i < 64 {
+    while i < ENTRIES {
         entries[i] = entry_in(fields, 2 + 7 * i);
         i += 1;
     }
@@ -114,8 +117,8 @@ fn whole_flag(kind: Kind) -> u32
     }
 }
 
-fn put_entry_numbers(e: Entry, fields: &mut [u32; 450], at: usize)
-    requires { ⌜ at + 7 ≤ 450 ⌝ }
+fn put_entry_numbers(e: Entry, fields: &mut [u32; NUMBERS], at: usize)
+    requires { ⌜ at + 7 ≤ flatNumbers ⌝ }
     ensures { λ _. ⌜ now (fields .exit) ≡ sets (now (fields .entry)) at (flatEntry e) ⌝ }
 {
     let seal = e.seal;
@@ -129,14 +132,14 @@ fn put_entry_numbers(e: Entry, fields: &mut [u32; 450], at: usize)
     fields[at + 6] = whole_flag(kind);
 }
 
-fn no_numbers() -> [u32; 450]
-    ensures { λ r. ⌜ r ≡ replicate 450 0 ⌝ }
+fn no_numbers() -> [u32; NUMBERS]
+    ensures { λ r. ⌜ r ≡ replicate flatNumbers 0 ⌝ }
 {
-    [0; 450]
+    [0; NUMBERS]
 }
 
 // The numbers that say a list value.
-pub fn flat_of(list: DayList) -> [u32; 450]
+pub fn flat_of(list: DayList) -> [u32; NUMBERS]
     ensures { λ r. ⌜ r ≡ flatOf list ⌝ }
 {
     let frame = list.frame;
@@ -144,7 +147,7 @@ pub fn flat_of(list: DayList) -> [u32; 450]
     fields[0] = frame.h as u32;
     fields[1] = list.n as u32;
     let mut i: usize = 0;
-    while i < 64 {
+    while i < ENTRIES {
         put_entry_numbers(list.entries[i], &mut fields, 2 + 7 * i);
         i += 1;
     }

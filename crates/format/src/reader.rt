@@ -12,7 +12,7 @@ use list::types::Verdict;
 ghost use mathlib.Core.Path.{_≡_};
 ghost use Prim.Native.Nat.{_≤_};
 ghost use lib.ListN.{length};
-ghost use Rattle.list.specs.DayLists.{emptyList};
+ghost use Rattle.list.specs.DayLists.{emptyList, mostEntries};
 ghost use Rattle.format.specs.Reading.{frameOf, countOf, bodyOf};
 ghost use Rattle.format.specs.Internal.{ReadsAs};
 ghost use Rattle.format.specs.Calls.{Reads};
@@ -29,7 +29,7 @@ fn read_refused(x: Refusal) -> ReadAnswer
 
 // The entries after a sound header, and row 8.
 fn read_body(bytes: &[u8], frame: Frame, n: u8) -> ReadAnswer
-    requires { ⌜ (3 ≤ length (now bytes)) × (n ≤ 64) × (frame ≡ frameOf (now bytes)) × (n ≡ countOf (now bytes)) ⌝ }
+    requires { ⌜ (3 ≤ length (now bytes)) × (n ≤ mostEntries) × (frame ≡ frameOf (now bytes)) × (n ≡ countOf (now bytes)) ⌝ }
     ensures { λ a. ⌜ ReadsAs (bodyOf (now (bytes .entry))) a ⌝ }
 {
     let none = empty_list();

@@ -14,10 +14,11 @@ ghost use lib.ListN.{length};
 ghost use lib.Seq.{sets};
 ghost use Rattle.format.specs.Writing.{bytesOf};
 ghost use Rattle.format.specs.Calls.{Writes};
+ghost use Rattle.list.specs.DayLists.{mostEntries};
 
 // The bytes of a list's one form.
 fn list_size(list: DayList) -> usize
-    requires { ⌜ list .n ≤ 64 ⌝ }
+    requires { ⌜ list .n ≤ mostEntries ⌝ }
     ensures { λ k. ⌜ k ≡ length (bytesOf list) ⌝ }
 {
     let n = list.n as usize;
@@ -32,7 +33,7 @@ fn list_size(list: DayList) -> usize
 
 // A list's one form, at the start of the buffer.
 fn put_list(list: DayList, out: &mut [u8])
-    requires { ⌜ (list .n ≤ 64) × (length (bytesOf list) ≤ length (now out)) ⌝ }
+    requires { ⌜ (list .n ≤ mostEntries) × (length (bytesOf list) ≤ length (now out)) ⌝ }
     ensures { λ _. ⌜ now (out .exit) ≡ sets (now (out .entry)) 0 (bytesOf list) ⌝ }
 {
     let n = list.n as usize;

@@ -7,7 +7,7 @@ use lib.ListN.{length, getD}
 use lib.Dec.{eqb, leb, ltb}
 use Rattle.base.specs.Outcomes.{Outcome, answered, row, firstOf}
 use Rattle.base.specs.Counting.{firstBelow}
-use Rattle.list.specs.DayLists.{entriesOf, blank}
+use Rattle.list.specs.DayLists.{entriesOf, blank, mostEntries}
 use Rattle.list.specs.declared.types.Seal.the-variants.{Missing}
 use Rattle.list.specs.declared.types.Kind.the-variants.{Pause}
 use Rattle.list.specs.declared.types.Entry.{Entry}
@@ -49,7 +49,7 @@ columns h n r d p = record { h = h; n = n; r = λ i. getD r i 0; d = λ i. getD 
 
 -- the windows that a value of the code's type holds: its arrays have 64 places, whatever its n
 abbrev pub windowsIn : WindowSet → Windows
-windowsIn s = columns (s .h) (min (s .n) 64) (s .r) (s .d) (s .p)
+windowsIn s = columns (s .h) (min (s .n) mostEntries) (s .r) (s .d) (s .p)
 
 -- "A window [r, d) lies in 0 to H and holds at least p minutes." An entry that needs none needs no room, as a finished one in a running
 -- day.

@@ -3,6 +3,7 @@ use crate::types::WindowSet;
 use crate::window_set::unchecked_windows;
 use list::places_held;
 use list::types::DayList;
+use list::types::ENTRIES;
 use list::types::Refusal;
 use list::types::Verdict;
 ghost use mathlib.Core.Path.{_≡_};
@@ -14,6 +15,7 @@ ghost use Rattle.jackson.specs.Windows.{windowsIn};
 ghost use Rattle.jackson.specs.Intervals.{work, isOverloaded, leftEnd, rightEnd, overloadOf};
 ghost use Rattle.jackson.specs.Calls.{Tests};
 ghost use Rattle.jackson.specs.Internal.{windowsHeld, betterLeft, betterRight};
+ghost use Rattle.list.specs.DayLists.{mostEntries};
 
 // An entry's part in the work of [a, b).
 fn share(a: u16, b: u16, r: u16, d: u16, p: u16) -> u16
@@ -29,8 +31,15 @@ fn share(a: u16, b: u16, r: u16, d: u16, p: u16) -> u16
 }
 
 // The work of [a, b).
-fn work_in(count: usize, r: &[u16; 64], d: &[u16; 64], p: &[u16; 64], a: u16, b: u16) -> u32
-    requires { ⌜ count ≤ 64 ⌝ }
+fn work_in(
+    count: usize,
+    r: &[u16; ENTRIES],
+    d: &[u16; ENTRIES],
+    p: &[u16; ENTRIES],
+    a: u16,
+    b: u16,
+) -> u32
+    requires { ⌜ count ≤ mostEntries ⌝ }
     ensures { λ x. ⌜ x ≡ work (windowsHeld count (now (r .entry)) (now (d .entry)) (now (p .entry))) a b ⌝ }
 {
     let mut sum: u32 = 0;
@@ -43,8 +52,15 @@ fn work_in(count: usize, r: &[u16; 64], d: &[u16; 64], p: &[u16; 64], a: u16, b:
 }
 
 // Whether [a, b) is an interval with more work than minutes.
-fn is_overloaded(count: usize, r: &[u16; 64], d: &[u16; 64], p: &[u16; 64], a: u16, b: u16) -> bool
-    requires { ⌜ count ≤ 64 ⌝ }
+fn is_overloaded(
+    count: usize,
+    r: &[u16; ENTRIES],
+    d: &[u16; ENTRIES],
+    p: &[u16; ENTRIES],
+    a: u16,
+    b: u16,
+) -> bool
+    requires { ⌜ count ≤ mostEntries ⌝ }
     ensures { λ x. ⌜ x ≡ isOverloaded (windowsHeld count (now (r .entry)) (now (d .entry)) (now (p .entry))) a b ⌝ }
 {
     if b <= a {
@@ -56,14 +72,14 @@ fn is_overloaded(count: usize, r: &[u16; 64], d: &[u16; 64], p: &[u16; 64], a: u
 // The better of place i and the best so far k, count for none: i if an overloaded interval goes from its r to b and that r is larger.
 fn larger_left(
     count: usize,
-    r: &[u16; 64],
-    d: &[u16; 64],
-    p: &[u16; 64],
+    r: &[u16; ENTRIES],
+    d: &[u16; ENTRIES],
+    p: &[u16; ENTRIES],
     b: u16,
     i: usize,
     k: usize,
 ) -> usize
-    requires { ⌜ count ≤ 64 ⌝ }
+    requires { ⌜ count ≤ mostEntries ⌝ }
     requires { ⌜ i < count ⌝ }
     requires { ⌜ k ≤ count ⌝ }
     ensures { λ x. ⌜ x ≡ betterLeft (windowsHeld count (now (r .entry)) (now (d .entry)) (now (p .entry))) b i k ⌝ }
@@ -81,8 +97,14 @@ fn larger_left(
 }
 
 // The place whose r is the largest left end of an overloaded interval that ends at b, count for none.
-fn left_end(count: usize, r: &[u16; 64], d: &[u16; 64], p: &[u16; 64], b: u16) -> usize
-    requires { ⌜ count ≤ 64 ⌝ }
+fn left_end(
+    count: usize,
+    r: &[u16; ENTRIES],
+    d: &[u16; ENTRIES],
+    p: &[u16; ENTRIES],
+    b: u16,
+) -> usize
+    requires { ⌜ count ≤ mostEntries ⌝ }
     ensures { λ k. ⌜ k ≡ leftEnd (windowsHeld count (now (r .entry)) (now (d .entry)) (now (p .entry))) b ⌝ }
 {
     let mut k: usize = count;
@@ -97,13 +119,13 @@ fn left_end(count: usize, r: &[u16; 64], d: &[u16; 64], p: &[u16; 64], b: u16) -
 // The better of place i and the best so far k, count for none: i if an overloaded interval ends at its d and that d is smaller.
 fn smaller_right(
     count: usize,
-    r: &[u16; 64],
-    d: &[u16; 64],
-    p: &[u16; 64],
+    r: &[u16; ENTRIES],
+    d: &[u16; ENTRIES],
+    p: &[u16; ENTRIES],
     i: usize,
     k: usize,
 ) -> usize
-    requires { ⌜ count ≤ 64 ⌝ }
+    requires { ⌜ count ≤ mostEntries ⌝ }
     requires { ⌜ i < count ⌝ }
     requires { ⌜ k ≤ count ⌝ }
     ensures { λ x. ⌜ x ≡ betterRight (windowsHeld count (now (r .entry)) (now (d .entry)) (now (p .entry))) i k ⌝ }
@@ -121,8 +143,8 @@ fn smaller_right(
 }
 
 // The place whose d is the smallest right end of an overloaded interval, count for none.
-fn right_end(count: usize, r: &[u16; 64], d: &[u16; 64], p: &[u16; 64]) -> usize
-    requires { ⌜ count ≤ 64 ⌝ }
+fn right_end(count: usize, r: &[u16; ENTRIES], d: &[u16; ENTRIES], p: &[u16; ENTRIES]) -> usize
+    requires { ⌜ count ≤ mostEntries ⌝ }
     ensures { λ k. ⌜ k ≡ rightEnd (windowsHeld count (now (r .entry)) (now (d .entry)) (now (p .entry))) ⌝ }
 {
     let mut k: usize = count;

@@ -3,6 +3,7 @@ use crate::types::Day;
 use crate::types::Minute;
 use crate::types::WindowSet;
 use list::places_held;
+use list::types::ENTRIES;
 ghost use mathlib.Core.Path.{_≡_};
 ghost use mathlib.Core.Bool.{_&&_};
 ghost use Prim.Native.Nat.{_-_, _<_, _≤_};
@@ -12,6 +13,7 @@ ghost use Rattle.jackson.specs.Plans.{idle};
 ghost use Rattle.jackson.specs.Minutes.{earliestDeadline, chosen};
 ghost use Rattle.jackson.specs.Calls.{Advances};
 ghost use Rattle.jackson.specs.Internal.{stateAt, betterReady, IsAfter};
+ghost use Rattle.list.specs.DayLists.{mostEntries};
 
 // An entry has its r reached and minutes left.
 fn is_ready(t: u16, r: u16, left: u16) -> bool
@@ -21,10 +23,17 @@ fn is_ready(t: u16, r: u16, left: u16) -> bool
 }
 
 // The better of place i and the best so far k, 255 for none: i if it is ready and its d is smaller.
-fn sooner(i: usize, k: u8, t: u16, r: &[u16; 64], d: &[u16; 64], left: &[u16; 64]) -> u8
-    requires { ⌜ i < 64 ⌝ }
-    requires { ⌜ ((k ≡ idle → ⊥) → k < 64) ⌝ }
-    ensures { λ x. ⌜ x ≡ betterReady (stateAt 64 t (now (r .entry)) (now (d .entry)) (now (left .entry))) i k ⌝ }
+fn sooner(
+    i: usize,
+    k: u8,
+    t: u16,
+    r: &[u16; ENTRIES],
+    d: &[u16; ENTRIES],
+    left: &[u16; ENTRIES],
+) -> u8
+    requires { ⌜ i < mostEntries ⌝ }
+    requires { ⌜ ((k ≡ idle → ⊥) → k < mostEntries) ⌝ }
+    ensures { λ x. ⌜ x ≡ betterReady (stateAt mostEntries t (now (r .entry)) (now (d .entry)) (now (left .entry))) i k ⌝ }
 {
     if !is_ready(t, r[i], left[i]) {
         return k;
@@ -39,8 +48,14 @@ fn sooner(i: usize, k: u8, t: u16, r: &[u16; 64], d: &[u16; 64], left: &[u16; 64
 }
 
 // The ready place with the smallest d, the lowest among equals, 255 for none.
-fn earliest_deadline(count: usize, t: u16, r: &[u16; 64], d: &[u16; 64], left: &[u16; 64]) -> u8
-    requires { ⌜ count ≤ 64 ⌝ }
+fn earliest_deadline(
+    count: usize,
+    t: u16,
+    r: &[u16; ENTRIES],
+    d: &[u16; ENTRIES],
+    left: &[u16; ENTRIES],
+) -> u8
+    requires { ⌜ count ≤ mostEntries ⌝ }
     ensures { λ k. ⌜ k ≡ earliestDeadline (stateAt count t (now (r .entry)) (now (d .entry)) (now (left .entry))) ⌝ }
 {
     let mut k: u8 = 255;
@@ -87,7 +102,7 @@ fn advanced(day: Day, k: u8) -> Day
 {
     let mut windows = day.windows;
     let place = k as usize;
-    if place < 64 {
+    if place < ENTRIES {
         windows.p[place] = one_less(windows.p[place]);
     }
     Day {

@@ -1,10 +1,12 @@
 // The mirror of windows.
 use crate::types::WindowSet;
 use list::places_held;
+use list::types::ENTRIES;
 ghost use mathlib.Core.Path.{_≡_};
 ghost use Prim.Native.Nat.{_-_, _≤_};
 ghost use Rattle.jackson.specs.Mirrors.{MirrorOf};
 ghost use Rattle.jackson.specs.Internal.{MirroredSide};
+ghost use Rattle.list.specs.DayLists.{mostEntries};
 
 // The minutes from x to the day's end.
 fn minutes_after(h: u16, x: u16) -> u16
@@ -14,8 +16,13 @@ fn minutes_after(h: u16, x: u16) -> u16
 }
 
 // One side of the mirrored windows: of the first count entries h minus the other side, of the rest the side as it is.
-fn mirrored_side(h: u16, count: usize, side: [u16; 64], other: &[u16; 64]) -> [u16; 64]
-    requires { ⌜ count ≤ 64 ⌝ }
+fn mirrored_side(
+    h: u16,
+    count: usize,
+    side: [u16; ENTRIES],
+    other: &[u16; ENTRIES],
+) -> [u16; ENTRIES]
+    requires { ⌜ count ≤ mostEntries ⌝ }
     ensures { λ xs. ⌜ MirroredSide h count side (now (other .entry)) xs ⌝ }
 {
     let mut xs = side;

@@ -2,20 +2,21 @@
 use crate::types::WindowSet;
 use list::places_held;
 use list::types::DayList;
+use list::types::ENTRIES;
 use list::types::Refusal;
 use list::types::Verdict;
 ghost use mathlib.Core.Path.{_≡_};
 ghost use lib.ListN.{replicate};
 ghost use Rattle.list.specs.Refusals.{verdictOf};
-ghost use Rattle.list.specs.DayLists.{emptyList};
+ghost use Rattle.list.specs.DayLists.{emptyList, mostEntries};
 ghost use Rattle.jackson.specs.Windows.{windowsIn, roomIn, roomFault};
 ghost use Rattle.jackson.specs.Calls.{Holds};
 
 // A 0 for each place.
-pub fn zeros() -> [u16; 64]
-    ensures { λ xs. ⌜ xs ≡ replicate 64 0 ⌝ }
+pub fn zeros() -> [u16; ENTRIES]
+    ensures { λ xs. ⌜ xs ≡ replicate mostEntries 0 ⌝ }
 {
-    [0; 64]
+    [0; ENTRIES]
 }
 
 // The windows of the empty list.

@@ -1,15 +1,17 @@
 // The places of a list: how many the arrays have, and which entries are whole.
 use crate::types::DayList;
+use crate::types::ENTRIES;
 use crate::types::Kind;
 ghost use mathlib.Core.Path.{_≡_};
 ghost use Prim.Native.Nat.{min};
-ghost use Rattle.list.specs.DayLists.{isWhole, wholeIn, marked};
+ghost use Rattle.list.specs.DayLists.{isWhole, wholeIn, marked, mostEntries};
 
 // How many of n places the arrays have.
 pub fn places_held(n: u8) -> usize
-    ensures { λ k. ⌜ k ≡ min n 64 ⌝ }
+    ensures { λ k. ⌜ k ≡ min n mostEntries ⌝ }
 {
-    if n < 64 { n as usize } else { 64 }
+    let count = n as usize;
+    if count < ENTRIES { count } else { ENTRIES }
 }
 
 // Whether an entry of this kind is whole.
@@ -23,11 +25,11 @@ pub fn is_whole(kind: Kind) -> bool
 }
 
 // Marks the places of the whole entries.
-pub fn whole_places(list: DayList) -> [bool; 64]
+pub fn whole_places(list: DayList) -> [bool; ENTRIES]
     ensures { λ marks. ⌜ marked marks ≡ wholeIn list ⌝ }
 {
     let count = places_held(list.n);
-    let mut marks = [false; 64];
+    let mut marks = [false; ENTRIES];
     let mut i: usize = 0;
     while i < count {
         let e = list.entries[i];

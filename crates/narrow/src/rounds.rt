@@ -7,6 +7,7 @@ use jackson::room_fault;
 use jackson::types::WindowSet;
 use jackson::unchecked_overload;
 use list::places_held;
+use list::types::ENTRIES;
 use list::types::Refusal;
 use list::types::Verdict;
 ghost use mathlib.Core.Path.{_≡_};
@@ -93,7 +94,7 @@ fn visit(whole: bool, windows: WindowSet, moves: u32, k: usize) -> WindowsAnswer
 }
 
 // One round: visits the entries from place 0 up.
-pub(crate) fn one_round(whole: [bool; 64], windows: WindowSet, moves: u32) -> WindowsAnswer
+pub(crate) fn one_round(whole: [bool; ENTRIES], windows: WindowSet, moves: u32) -> WindowsAnswer
     requires { ⌜ Countable (marked whole) windows moves ⌝ }
     ensures { λ a. ⌜ narrowedOf a ≡ round overloadOf (marked whole) (narrowedBy windows moves) ⌝ }
 {
@@ -116,7 +117,7 @@ pub(crate) fn one_round(whole: [bool; 64], windows: WindowSet, moves: u32) -> Wi
 }
 
 // Rounds until one makes no move, or a refusal.
-fn all_rounds(whole: [bool; 64], windows: WindowSet) -> WindowsAnswer
+fn all_rounds(whole: [bool; ENTRIES], windows: WindowSet) -> WindowsAnswer
     requires { ⌜ Countable (marked whole) windows 0 ⌝ }
     ensures { λ a. ⌜ narrowedOf a ≡ allRounds overloadOf (marked whole) (windowsIn windows) ⌝ }
 {
@@ -149,7 +150,7 @@ fn unmoved_with(verdict: Verdict, windows: WindowSet) -> WindowsAnswer
 
 // Narrows windows until they are settled, where `whole` marks the whole entries: row 7, row 9 for the windows as given, then rounds and
 // row 10.
-pub fn narrow_windows(whole: [bool; 64], windows: WindowSet) -> WindowsAnswer
+pub fn narrow_windows(whole: [bool; ENTRIES], windows: WindowSet) -> WindowsAnswer
     ensures { λ a. ⌜ NarrowsWindows (marked whole) windows a ⌝ }
 {
     let fault = room_fault(windows);

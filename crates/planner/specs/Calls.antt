@@ -6,7 +6,7 @@ use mathlib.Core.List.{List, [], _∷_, _++_}
 use lib.ListN.{length, getD, take, drop, replicate}
 use lib.Dec.{eqb}
 use Rattle.base.specs.Outcomes.{Row, Outcome, answered, refused, firstOf, andThen}
-use Rattle.list.specs.DayLists.{wholeIn}
+use Rattle.list.specs.DayLists.{wholeIn, mostEntries}
 use Rattle.list.specs.Checks.{checkOf}
 use Rattle.list.specs.declared.types.DayList.{DayList}
 use Rattle.list.specs.declared.types.Verdict.the-variants.{Accepted}
@@ -61,10 +61,10 @@ planOf l room = narrowAfter (planChecks l room) l
 
 -- the least ends, greatest starts and broken entries beside the windows answered; 0 beside a refusal
 abbrev pub endsOf : (ℕ → Bool) → Outcome Narrowed → List ℕ
-endsOf whole = settledOr (replicate 64 0) (leastEnds whole)
+endsOf whole = settledOr (replicate mostEntries 0) (leastEnds whole)
 
 abbrev pub startsOf : (ℕ → Bool) → Outcome Narrowed → List ℕ
-startsOf whole = settledOr (replicate 64 0) (greatestStarts whole)
+startsOf whole = settledOr (replicate mostEntries 0) (greatestStarts whole)
 
 abbrev pub brokenOf : (ℕ → Bool) → Outcome Narrowed → ℕ
 brokenOf whole = settledOr 0 (λ w. brokenIn whole w (placesIn (schedule w)))

@@ -4,6 +4,7 @@ use mathlib.Core.Bool.{Bool, cond}
 use mathlib.Core.List.{List, [], _∷_}
 use lib.ListN.{length, take}
 use Rattle.base.specs.Outcomes.{Outcome, answered, firstOf}
+use Rattle.list.specs.DayLists.{mostEntries}
 use Rattle.list.specs.declared.types.DayList.{DayList}
 use Rattle.jackson.specs.Windows.{Windows}
 use Rattle.jackson.specs.Plans.{Plan, placesIn}
@@ -19,7 +20,7 @@ bufferFault h room = firstOf (bufferRow h room ∷ []) (answered tt)
 
 -- the first bytes are a plan in the windows
 pub record HoldsPlan (w : Windows) (bytes : List ℕ) : Type 0 where
-  pub few : w .n ≤ 64
+  pub few : w .n ≤ mostEntries
   pub room : w .h ≤ length bytes
   pub plan : Plan w (placesIn (take (w .h) bytes))
 

@@ -1,6 +1,7 @@
 // Broken entries of a plan.
 use jackson::types::WindowSet;
 use list::places_held;
+use list::types::ENTRIES;
 ghost use mathlib.Core.Path.{_≡_};
 ghost use Prim.Native.Nat.{_<_, _≤_};
 ghost use lib.ListN.{length, take};
@@ -60,7 +61,7 @@ fn one_broken(whole: bool, windows: WindowSet, plan: &[u8], k: usize) -> u8
 }
 
 // How many entries the plan in the windows breaks, of which `whole` marks the whole ones.
-pub(crate) fn broken_in(whole: [bool; 64], windows: WindowSet, plan: &[u8]) -> u8
+pub(crate) fn broken_in(whole: [bool; ENTRIES], windows: WindowSet, plan: &[u8]) -> u8
     requires { ⌜ HoldsPlan (windowsIn windows) (now plan) ⌝ }
     ensures { λ x. ⌜ x ≡ brokenIn (marked whole) (windowsIn windows) (placesIn (take (windows .h) (now (plan .entry)))) ⌝ }
 {

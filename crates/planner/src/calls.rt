@@ -10,6 +10,7 @@ use jackson::unchecked_schedule;
 use jackson::unchecked_windows;
 use jackson::zeros;
 use list::types::DayList;
+use list::types::ENTRIES;
 use list::types::Refusal;
 use list::types::Verdict;
 use list::whole_places;
@@ -61,7 +62,7 @@ fn shown_checks(list: DayList, k: usize, room: usize) -> Verdict
 }
 
 // Narrows the windows of a list that passed the checks before 9; their refusal is handed on.
-fn narrowed_after(checks: Verdict, whole: [bool; 64], windows: WindowSet) -> WindowsAnswer
+fn narrowed_after(checks: Verdict, whole: [bool; ENTRIES], windows: WindowSet) -> WindowsAnswer
     ensures { λ a. ⌜ narrowedOf a ≡ andThen (verdictOf checks) (λ _. narrowWindows (marked whole) (windowsIn windows)) ⌝ }
 {
     let Verdict::Accepted = checks else {

@@ -1,4 +1,5 @@
 // What the calls that narrow answer.
+use list::types::ENTRIES;
 use narrow::types::NarrowAnswer;
 
 // What planning answers: the narrowed list with its moves, the number of whole entries that the plan breaks, and of each place its
@@ -6,8 +7,8 @@ use narrow::types::NarrowAnswer;
 pub struct PlanAnswer {
     pub narrowed: NarrowAnswer,
     pub broken: u8,
-    pub ends: [u16; 64],
-    pub starts: [u16; 64],
+    pub ends: [u16; ENTRIES],
+    pub starts: [u16; ENTRIES],
 }
 
 // What showing a plan answers: the narrowed list with its moves, and the place's least end or greatest start, 0 beside a refusal.

@@ -3,6 +3,8 @@ use crate::lines::put_entry_line;
 use crate::lines::put_head;
 use crate::runs::put_runs;
 use list::types::DayList;
+use list::types::ENTRIES;
+use list::types::LONGEST_DAY;
 use list::types::Verdict;
 use list::types::WriteAnswer;
 use planner::plan_day;
@@ -11,16 +13,17 @@ ghost use Prim.Native.Nat.{_≤_};
 ghost use Rattle.list.specs.Checks.{WellFormed};
 ghost use Rattle.report.specs.Reports.{plannedText, reportOf};
 ghost use Rattle.report.specs.Internal.{Puts, PutsOr, entriesText, answerText};
+ghost use Rattle.list.specs.DayLists.{mostEntries};
 
 // The entries' lines, with a least end and a greatest start for each place.
 fn put_entries(
     out: &mut [u8],
     at: usize,
     list: DayList,
-    ends: [u16; 64],
-    starts: [u16; 64],
+    ends: [u16; ENTRIES],
+    starts: [u16; ENTRIES],
 ) -> usize
-    requires { ⌜ list .n ≤ 64 ⌝ }
+    requires { ⌜ list .n ≤ mostEntries ⌝ }
     ensures { λ next. ⌜ Puts (now (out .entry)) at (entriesText list ends starts) (now (out .exit)) next ⌝ }
 {
     let n = list.n as usize;
@@ -35,7 +38,7 @@ fn put_entries(
 
 // The text of a planned day, whose plan's bytes are `plan`.
 fn put_day(out: &mut [u8], answer: PlanAnswer, plan: &[u8]) -> usize
-    requires { ⌜ answer .narrowed .list .n ≤ 64 ⌝ }
+    requires { ⌜ answer .narrowed .list .n ≤ mostEntries ⌝ }
     ensures { λ next. ⌜ Puts (now (out .entry)) 0 (answerText answer (now (plan .entry))) (now (out .exit)) next ⌝ }
 {
     let narrowed = answer.narrowed;
@@ -52,7 +55,7 @@ fn put_planned(out: &mut [u8], list: DayList) -> WriteAnswer
     requires { ⌜ WellFormed list ⌝ }
     ensures { λ a. ⌜ PutsOr (plannedText list) (now (out .entry)) a (now (out .exit)) ⌝ }
 {
-    let mut plan = [0u8; 1440];
+    let mut plan = [0u8; LONGEST_DAY as usize];
     let answer = plan_day(list, &mut plan);
     let narrowed = answer.narrowed;
     let verdict = narrowed.verdict;
