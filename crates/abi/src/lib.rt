@@ -23,7 +23,8 @@ ghost use Rattle.list.specs.Refusals.{codeOf, verdictOf, writeAnswerOf};
 ghost use Rattle.narrow.specs.Calls.{narrowAnswerOf, narrowedIn};
 ghost use Rattle.planner.specs.Calls.{settledOr};
 ghost use Rattle.codes.specs.Codes.{three};
-ghost use Rattle.abi.specs.Calls.{answerWith, ReadCall, WriteCall, OverloadCall, ScheduleCall, NarrowCall, SettleCall, PlanCall, EarlyCall, LateCall, ReportCall, LineCall};
+ghost use Rattle.abi.specs.Calls.{answerWith, ReadCall, WriteCall, OverloadCall, ScheduleCall, NarrowCall, SettleCall, PlanCall};
+ghost use Rattle.abi.specs.Calls.{EarlyCall, LateCall, ReportCall, LineCall};
 
 // What a call answers: 0 or a refusal's number, and three values, 0 where there are fewer.
 #[repr(C)]

@@ -1,6 +1,6 @@
 // Refusals as numbers, for printing and for callers in other languages.
 // Promises: `numbers_of` gives every refusal document 01's number and the values that it carries, by equality with the definition of
-// specs/. Uses the crate list.
+// specs/. Uses the crates base and list.
 use list::types::Refusal;
 ghost use mathlib.Core.Path.{_≡_};
 ghost use mathlib.Core.List.{[], _∷_};

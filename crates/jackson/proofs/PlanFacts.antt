@@ -114,7 +114,8 @@ end-is h m i some =
     }
 
 -- all minutes of a place lie from its start to its end
-pub start-to-end : (h : ℕ) (m : ℕ → ℕ) (i s e : ℕ) → IsStart h m i s → IsEnd h m i e → (t : ℕ) → t < h → m t ≡ i → (s ≤ t) × (t < e)
+pub start-to-end : (h : ℕ) (m : ℕ → ℕ) (i s e : ℕ) → IsStart h m i s → IsEnd h m i e
+    → (t : ℕ) → t < h → m t ≡ i → (s ≤ t) × (t < e)
 start-to-end h m i s e start end t below q =
     (le-or-lt s t (λ l. l) (λ l. absurd (start .none-before t l q)), le-or-lt e t (λ l. absurd (end .none-after t l below q)) (λ l. l))
 

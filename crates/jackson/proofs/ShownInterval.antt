@@ -9,7 +9,8 @@ use lib.Dec.{ltb}
 use Rattle.base.specs.Outcomes.{Code, Outcome, answered, refused}
 use Rattle.base.proofs.Inversion.{Says, by-row}
 use Rattle.jackson.specs.Windows.{Windows}
-use Rattle.jackson.specs.Intervals.{work, Overloaded, IntervalShown, NoOverload, ShowsOverload, isOverloaded, leftOf, leftEnd, rightOf, rightEnd, overloadOf}
+use Rattle.jackson.specs.Intervals.{work, Overloaded, IntervalShown, NoOverload, ShowsOverload, isOverloaded, leftOf, leftEnd}
+use Rattle.jackson.specs.Intervals.{rightOf, rightEnd, overloadOf}
 use Rattle.base.proofs.Scans.{smaller-ranks, larger-ranks, best-below, best-some, best-smallest, best-largest}
 
 -- what the overload test says by its answer, and by a refusal

@@ -1,8 +1,8 @@
 // The day's list (document 01, "The day's list"): its value, the refusals of every call, and when a value is turned back.
 // Promises: `check` tests a value, `header_fault` and `entry_fault` are its rows for a header and for an entry, which the reader gives too;
-// `empty_list` is what stands beside a refusal; `is_accepted` says whether a verdict is none, `is_whole` whether a kind is whole,
-// `whole_places` which entries are, and `places_held` how many of n places the arrays have. Each is total: its contract states the answer
-// by equality with definitions of specs/, for every value. Uses the crate base.
+// `empty_list` is what stands beside a refusal; `is_accepted` says whether a verdict is no refusal, `is_whole` whether a kind is
+// whole, `whole_places` which entries are, and `places_held` how many of n places the arrays have. Each is total: its contract states the
+// answer by equality with definitions of specs/, for every value. Uses the crate base.
 mod blank;
 mod checks;
 mod places;

@@ -12,7 +12,8 @@ use Rattle.jackson.specs.Windows.{Windows, Formed}
 use Rattle.base.proofs.Sums.{sum-le, sum-add, term-le}
 use Rattle.narrow.specs.Searching.{Test}
 use Rattle.narrow.specs.Settling.{minutesCut}
-use Rattle.narrow.specs.Rounds.{Side, earliest, latest, step, Narrowed, moved, movesOf, counted, narrowSide, visit, visits, round, rounds, slack}
+use Rattle.narrow.specs.Rounds.{Side, earliest, latest, step, Narrowed, moved, movesOf, counted, narrowSide, visit, visits, round}
+use Rattle.narrow.specs.Rounds.{rounds, slack}
 use Rattle.narrow.specs.Laws.{WholeRefused}
 use Rattle.jackson.proofs.Puts.{place-cases}
 use Rattle.narrow.proofs.StepsKeep.{Keeps, keeps-same, keeps-n, keeps-p, keeps-trans, RefusedAt, step-says}

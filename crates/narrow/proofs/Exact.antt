@@ -15,7 +15,8 @@ use Rattle.jackson.specs.Plans.{Plannable}
 use Rattle.jackson.specs.Mirrors.{mirror}
 use Rattle.base.proofs.Sums.{le-or-lt}
 use Rattle.base.proofs.Searches.{First, first-below}
-use Rattle.narrow.specs.Searching.{Test, trials, failedStarts, leastStart, greatestEnd, IsLeastStart, NoStart, IsGreatestEnd, NoEnd, SearchLaw}
+use Rattle.narrow.specs.Searching.{Test, trials, failedStarts, leastStart, greatestEnd, IsLeastStart, NoStart, IsGreatestEnd, NoEnd}
+use Rattle.narrow.specs.Searching.{SearchLaw}
 use Rattle.narrow.proofs.Planners.{Planner}
 use Rattle.jackson.proofs.Puts.{fixed-formed, up-to-formed}
 use Rattle.jackson.proofs.MirrorWindows.{plannable-mirror, mirror-plannable, formed-mirror, mirror-r, mirror-d, fixed-at-mirror}

@@ -11,7 +11,8 @@ use Rattle.jackson.specs.Plans.{Plannable}
 use Rattle.base.proofs.Sums.{le-or-lt, below-suc}
 use Rattle.narrow.specs.Searching.{Test, leastStart, greatestEnd}
 use Rattle.narrow.specs.Settling.{Settled, SettledInside, Widest}
-use Rattle.narrow.specs.Rounds.{Side, earliest, latest, step, Narrowed, moved, movesOf, counted, narrowSide, visit, visits, round, rounds, slack}
+use Rattle.narrow.specs.Rounds.{Side, earliest, latest, step, Narrowed, moved, movesOf, counted, narrowSide, visit, visits, round}
+use Rattle.narrow.specs.Rounds.{rounds, slack}
 use Rattle.narrow.specs.StepLists.{NothingLeft}
 use Rattle.narrow.proofs.Planners.{Planner}
 use Rattle.narrow.proofs.RoundsEnd.{rounds-by}

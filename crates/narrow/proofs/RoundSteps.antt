@@ -11,7 +11,8 @@ use Rattle.jackson.specs.Windows.{Windows, withR, withD, Formed}
 use Rattle.narrow.specs.Searching.{Test, leastStart, greatestEnd, IsLeastStart, NoStart, IsGreatestEnd, NoEnd}
 use Rattle.narrow.specs.Rounds.{Side, earliest, latest, step, Narrowed, counted, narrowSide, visit, visits, round, rounds, slack}
 use Rattle.narrow.specs.StepLists.{Step, NamesWhole, stepsLeave, someRefused}
-use Rattle.narrow.specs.RoundsByPlans.{StepGives, start, no-start, end, no-end, StepsGive, done, found, none, visitSteps, roundSteps, RoundGives, RoundsGive, last, next, stopped, roundsSteps}
+use Rattle.narrow.specs.RoundsByPlans.{StepGives, start, no-start, end, no-end, StepsGive, done, found, none, visitSteps, roundSteps}
+use Rattle.narrow.specs.RoundsByPlans.{RoundGives, RoundsGive, last, next, stopped, roundsSteps}
 use Rattle.narrow.proofs.Planners.{Planner}
 use Rattle.narrow.proofs.StepsKeep.{keeps-n}
 use Rattle.narrow.proofs.Costs.{Costs, CostsOr, side-says, visits-says, round-cost}

@@ -7,7 +7,8 @@ use native.Mathlib.Omega.{arith}
 use Rattle.base.specs.Outcomes.{Outcome, answered, refused, andThen}
 use Rattle.jackson.specs.Windows.{Windows}
 use Rattle.narrow.specs.Searching.{Test}
-use Rattle.narrow.specs.Rounds.{Side, earliest, latest, step, Narrowed, unmoved, movesOf, counted, narrowSide, visit, visits, movedBefore, round}
+use Rattle.narrow.specs.Rounds.{Side, earliest, latest, step, Narrowed, unmoved, movesOf, counted, narrowSide, visit, visits}
+use Rattle.narrow.specs.Rounds.{movedBefore, round}
 
 -- with m moves made before
 abbrev after : ℕ → Narrowed → Narrowed

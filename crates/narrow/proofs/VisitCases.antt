@@ -17,7 +17,8 @@ use Rattle.jackson.specs.Intervals.{overloadOf}
 use Rattle.jackson.specs.declared.types.WindowSet.{WindowSet}
 use Rattle.base.proofs.Sums.{le-or-lt}
 use Rattle.narrow.specs.Searching.{Test}
-use Rattle.narrow.specs.Rounds.{Side, earliest, latest, Narrowed, step, counted, narrowSide, visit, visits, round, rounds, allRounds, slack}
+use Rattle.narrow.specs.Rounds.{Side, earliest, latest, Narrowed, step, counted, narrowSide, visit, visits, round, rounds, allRounds}
+use Rattle.narrow.specs.Rounds.{slack}
 use Rattle.narrow.specs.Internal.{narrowedBy, Countable}
 use Rattle.narrow.specs.Calls.{narrowedOf}
 use Rattle.narrow.specs.declared.types.WindowsAnswer.{WindowsAnswer}

@@ -39,12 +39,15 @@ use Rattle.bounds.proofs.ShownFacts.{shown-long}
 use Rattle.planner.specs.BrokenEntries.{brokenIn}
 use Rattle.planner.specs.Demand2.{PlansWindows}
 use Rattle.planner.specs.Demand3.{Told, Demand3}
-use Rattle.planner.specs.Calls.{planChecks, shownChecks, settledOr, planned, planOf, endsOf, startsOf, brokenOf, toldByPlan, PlansDay, shownOf, putShown, toldByShown, Shows}
+use Rattle.planner.specs.Calls.{planChecks, shownChecks, settledOr, planned, planOf, endsOf, startsOf, brokenOf, toldByPlan, PlansDay}
+use Rattle.planner.specs.Calls.{shownOf, putShown, toldByShown, Shows}
 use Rattle.planner.specs.Internal.{NarrowsAfter}
 use Rattle.planner.specs.declared.types.PlanAnswer.{PlanAnswer}
 use Rattle.planner.specs.declared.types.ShownAnswer.{ShownAnswer}
 use Rattle.planner.proofs.Demands.{AtPlace, ByRules, demand3}
-use Rattle.planner.proofs.CallCases.{plan-formed, shown-plan, shown-formed, IsSettled, outcome-is, is-settled, windows-told, settled-few, settled-day, settled-plan, Planning, place-in, ends-are, starts-are, plan-is, broken-is, shown-bound, shown-stored}
+use Rattle.planner.proofs.CallCases.{plan-formed, shown-plan, shown-formed, IsSettled, outcome-is, is-settled, windows-told}
+use Rattle.planner.proofs.CallCases.{settled-few, settled-day, settled-plan, Planning, place-in, ends-are, starts-are, plan-is}
+use Rattle.planner.proofs.CallCases.{broken-is, shown-bound, shown-stored}
 
 -- demand 3 of a call that narrowed after checks that were passed
 told-demand : {checks : Outcome (Unit {0})} {l : DayList} {a : NarrowAnswer} → NarrowsAfter checks l a

@@ -23,7 +23,8 @@ use Rattle.planner.specs.Calls.{PlansDay, Shows}
 use Rattle.planner.specs.declared.types.PlanAnswer.{PlanAnswer}
 use Rattle.planner.specs.declared.types.ShownAnswer.{ShownAnswer}
 use Rattle.bounds.specs.declared.types.Shown.{Shown}
-use Rattle.planner.proofs.Alike.{times-ends, times-starts, times-broken, times-plan, times-bound, times-shown-plan, same-planned, same-shown}
+use Rattle.planner.proofs.Alike.{times-ends, times-starts, times-broken, times-plan, times-bound, times-shown-plan, same-planned}
+use Rattle.planner.proofs.Alike.{same-shown}
 
 -- Two answers of which demand 3 holds.
 module _ {whole : ℕ → Bool} {w : Windows} (s t : Told) (a : Demand3 whole w s) (b : Demand3 whole w t) where

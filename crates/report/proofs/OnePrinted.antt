@@ -14,7 +14,8 @@ use Rattle.narrow.specs.Calls.{listWith}
 use Rattle.planner.specs.BrokenEntries.{brokenIn}
 use Rattle.planner.proofs.OneAnswer.{one-told, one-end, one-start}
 use Rattle.report.specs.Reports.{refusalLine}
-use Rattle.report.specs.Printed.{listPrinted, windowsPrinted, movesPrinted, brokenPrinted, endPrinted, startPrinted, planPrinted, toldBy}
+use Rattle.report.specs.Printed.{listPrinted, windowsPrinted, movesPrinted, brokenPrinted, endPrinted, startPrinted, planPrinted}
+use Rattle.report.specs.Printed.{toldBy}
 use Rattle.report.specs.Laws.{PrintsPlan, ReportLaw, unread, refuses, planned}
 
 -- Two texts whose numbers are a plan of the list l.

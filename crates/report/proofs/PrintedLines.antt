@@ -19,7 +19,9 @@ use Rattle.list.specs.declared.types.Entry.{Entry}
 use Rattle.base.specs.Counting.{listOf}
 use Rattle.report.specs.Text.{ascii, decimal, line}
 use Rattle.report.specs.Reports.{sealText, kindText, refusalLine}
-use Rattle.report.specs.Printed.{LineFields, linesOf, lineAt, numberIn, sameField, sealSaid, kindSaid, entrySaid, listPrinted, dayPrinted, countPrinted, movesPrinted, brokenPrinted, placePrinted, endPrinted, startPrinted, runsPrinted, codePrinted}
+use Rattle.report.specs.Printed.{LineFields, linesOf, lineAt, numberIn, sameField, sealSaid, kindSaid, entrySaid, listPrinted}
+use Rattle.report.specs.Printed.{dayPrinted, countPrinted, movesPrinted, brokenPrinted, placePrinted, endPrinted, startPrinted}
+use Rattle.report.specs.Printed.{runsPrinted, codePrinted}
 use Rattle.report.proofs.DecimalFacts.{decimal-is}
 use Rattle.report.proofs.Fields.{Word, Words, decimal-word, line-alone, kept, all-length, all-at}
 
@@ -166,7 +168,8 @@ module _ {text : List ℕ} {h n moves broken : ℕ} {e : ℕ → Entry} {end sta
       all : map at (listOf (countPrinted text) (λ i. i)) ≡ es
       all =
           ap (λ (k : ℕ). map at (listOf k (λ i. i))) count-is
-          ∙ entries-taken at es n (omega (arith, long)) (λ i l. ap entrySaid (line-is i l) ∙ entry-said i (e i) (end i) (start i) ∙ each i l)
+          ∙ entries-taken at es n (omega (arith, long))
+          (λ i l. ap entrySaid (line-is i l) ∙ entry-said i (e i) (end i) (start i) ∙ each i l)
           ∙ take-all n es (omega (arith, long))
 
 -- A refusal's line: that of row 9, which carries three values, and those of the others, which carry one.

@@ -39,11 +39,14 @@ use Rattle.planner.specs.Demand2.{PlansWindows}
 use Rattle.planner.proofs.Demands.{AtPlace, ByRules, widest-formed, demand3, plans-windows}
 use Rattle.report.specs.Text.{line}
 use Rattle.report.specs.Runs.{beginsRun}
-use Rattle.report.specs.Reports.{headLine, entryLine, entryLines, runLine, runLines, refusalLine, dayText, plannedText, reportOf, printed, printedOf}
-use Rattle.report.specs.Printed.{LineFields, linesOf, listPrinted, windowsPrinted, dayPrinted, runsPrinted, placeBy, planPrinted, toldBy, codePrinted, toldRefused}
+use Rattle.report.specs.Reports.{headLine, entryLine, entryLines, runLine, runLines, refusalLine, dayText, plannedText, reportOf}
+use Rattle.report.specs.Reports.{printed, printedOf}
+use Rattle.report.specs.Printed.{LineFields, linesOf, listPrinted, windowsPrinted, dayPrinted, runsPrinted, placeBy, planPrinted}
+use Rattle.report.specs.Printed.{toldBy, codePrinted, toldRefused}
 use Rattle.report.specs.Laws.{SaysRuns, PrintsPlan, PrintsRefusal, ReportLaw, unread, refuses, planned}
 use Rattle.report.proofs.Fields.{text-said, kept, kept-each, kept-text}
-use Rattle.report.proofs.PrintedLines.{headFields, head-words, entryFields, entry-words, Lines, day-is, count-is, moves-is, broken-is, place-is, end-is, start-is, runs-is, list-is, nine-said, one-said}
+use Rattle.report.proofs.PrintedLines.{headFields, head-words, entryFields, entry-words, Lines, day-is, count-is, moves-is}
+use Rattle.report.proofs.PrintedLines.{broken-is, place-is, end-is, start-is, runs-is, list-is, nine-said, one-said}
 use Rattle.report.proofs.PrintedRuns.{runFields, run-words, runsOf, place-said, runs-said}
 
 -- The lines of a list's text.

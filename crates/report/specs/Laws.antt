@@ -15,7 +15,8 @@ use Rattle.planner.specs.Demand3.{Demand3}
 use Rattle.planner.specs.Demand2.{PlansWindows}
 use Rattle.report.specs.Runs.{Run}
 use Rattle.report.specs.Reports.{refusalLine, reportOf}
-use Rattle.report.specs.Printed.{LineFields, numberIn, dayPrinted, countPrinted, brokenPrinted, listPrinted, windowsPrinted, placePrinted, runsPrinted, planPrinted, toldBy, codePrinted, toldRefused}
+use Rattle.report.specs.Printed.{LineFields, numberIn, dayPrinted, countPrinted, brokenPrinted, listPrinted, windowsPrinted}
+use Rattle.report.specs.Printed.{placePrinted, runsPrinted, planPrinted, toldBy, codePrinted, toldRefused}
 
 -- a run's line says the minutes from s to e and the place k
 pub record SaysRun (fs : LineFields) (s e k : ℕ) : Type 0 where

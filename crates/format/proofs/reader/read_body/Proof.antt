@@ -6,7 +6,8 @@ use mathlib.Core.Path.{sym, ap, _∙_}
 use native.Mathlib.Omega.{arith}
 use Prim.Native.Nat.{_-_}
 use Rattle.base.specs.Outcomes.{answered}
-use Rattle.format.proofs.ReadCases.{SoFar, start, entry-refused, next, done, list-read, size-here, body-refused, body-left, body-done, reads-refused, reads-list}
+use Rattle.format.proofs.ReadCases.{SoFar, start, entry-refused, next, done, list-read, size-here, body-refused, body-left}
+use Rattle.format.proofs.ReadCases.{body-done, reads-refused, reads-list}
 use Rattle.format.proofs.reader.read_body.Statement.{statement}
 use Rattle.format.proofs.reader.read_body.Tie as tie
 
