@@ -2,7 +2,7 @@
 // Promises: each call answers 0 or a refusal's number of document 01, with its values, and leaves in its buffers what
 // specs/Calls.antt says, whatever the bytes and numbers are. What it cannot check are the pointers themselves: a caller lends
 // `bytes`, `out` and `plan` with their lengths, `fields` and `narrowed` with 450 numbers each, `bounds` with 128 and `values` with 3, and
-// no two of them overlap. Uses the crates list, format, flat, jackson, narrow, planner, report and codes.
+// no two of them overlap. Uses all crates but dock.
 use codes::RefusalCode;
 use flat::BOUNDS;
 use flat::NUMBERS;

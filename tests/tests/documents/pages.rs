@@ -18,7 +18,10 @@ struct Link {
 }
 
 fn pages() -> Vec<String> {
-    let docs = names(&root().join("docs"), "md").into_iter().map(|name| format!("docs/{name}.md"));
+    let folders = ["docs", "docs/landings"];
+    let docs = folders.into_iter().flat_map(|folder| {
+        names(&root().join(folder), "md").into_iter().map(move |name| format!("{folder}/{name}.md"))
+    });
     ["README.md", "samples/README.md"].map(String::from).into_iter().chain(docs).collect()
 }
 
