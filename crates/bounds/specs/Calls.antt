@@ -5,10 +5,10 @@ use mathlib.Core.Bool.{Bool, cond}
 use mathlib.Core.List.{List, [], _∷_, _++_}
 use lib.ListN.{length, drop, replicate}
 use lib.Dec.{leb, ltb}
-use Rattle.base.specs.Outcomes.{Outcome, answered, refused, Row, row, firstOf, andThen, accepts}
+use Rattle.base.specs.Outcomes.{Outcome, answered, Row, row, firstOf, andThen, accepts}
 use Rattle.base.specs.Counting.{listOf}
 use Rattle.list.specs.DayLists.{mostEntries}
-use Rattle.list.specs.Refusals.{outcomeOf}
+use Rattle.list.specs.Refusals.{verdictOf}
 use Rattle.jackson.specs.Windows.{Windows, roomFault}
 use Rattle.jackson.specs.Intervals.{overloadOf}
 use Rattle.jackson.specs.Calls.{bufferRow}
@@ -42,18 +42,13 @@ pub record HoldsBounds (whole : ℕ → Bool) (w : Windows) (b : Bounds) : Type 
 abbrev pub placeRow : ℕ → ℕ → Row
 placeRow n k = row 13 (leb n k) k
 
--- row 7 for windows without room, then rows 13 and 11 for a place and a plan buffer of this length
+-- rows 6 and 7 for windows without room, then rows 13 and 11 for a place and a plan buffer of this length
 unfoldable pub showRows : Windows → ℕ → ℕ → Outcome (Unit {0})
 showRows w k room = andThen (roomFault w) (λ _. firstOf (placeRow (w .n) k ∷ bufferRow (w .h) room ∷ []) (answered tt))
-
--- what stands where nothing was refused, and where something was
-abbrev pub passedOr : {A : Type 0} → Outcome (Unit {0}) → A → A → A
-passedOr (answered _) x y = x
-passedOr (refused _) x y = y
 
 -- what `store_plan` answers of place k in the windows w, where `whole` says whether its entry is whole, and leaves in a plan buffer that
 -- held old. "In a longer buffer the bytes after H keep their values." "A refusal writes nothing to any lent buffer."
 pub record StoresPlan (x : Shown) (whole : Bool) (w : Windows) (k : ℕ) (old : List ℕ) (a : BoundAnswer) (new : List ℕ) : Type 0 where
-  pub outcome : outcomeOf (a .verdict) tt ≡ showRows w k (length old)
-  pub bound : a .bound ≡ passedOr (showRows w k (length old)) (boundOf x (λ _. whole) k w) 0
-  pub buffer : new ≡ passedOr (showRows w k (length old)) (shownPlan x (λ _. whole) k w ++ drop (w .h) old) old
+  pub outcome : verdictOf (a .verdict) ≡ showRows w k (length old)
+  pub bound : a .bound ≡ cond (accepts (showRows w k (length old))) (boundOf x (λ _. whole) k w) 0
+  pub buffer : new ≡ cond (accepts (showRows w k (length old))) (shownPlan x (λ _. whole) k w ++ drop (w .h) old) old

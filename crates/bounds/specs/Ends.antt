@@ -12,8 +12,8 @@ use Rattle.base.specs.Outcomes.{accepts}
 abbrev pub spare : Windows → ℕ → ℕ
 spare w k = w .d k - (w .r k + w .p k)
 
--- how many ends, from r + p up, come before the first that has a plan when it is entry k's d; d itself needs no test, since the windows
--- have a plan
+-- how many ends, from r + p up, come before the first that has a plan when it is entry k's d; d itself is not tested: in settled windows
+-- it has one
 unfoldable pub failedDeadlines : Test → Windows → ℕ → ℕ
 failedDeadlines test w k = firstBelow (spare w k) (λ j. accepts (test (withD w k (w .r k + w .p k + j))))
 
@@ -22,7 +22,7 @@ unfoldable pub failedReleases : Test → Windows → ℕ → ℕ
 failedReleases test w k = firstBelow (spare w k) (λ j. accepts (test (withR w k (w .d k - w .p k - j))))
 
 -- "a pause entry has its least end .. over all plans. A whole entry has r + p": that it is over all plans is `end-bound` and `early-is` of
--- Demand3.antt
+-- Demand3.antt of the crate planner
 unfoldable pub leastEnd : Test → (ℕ → Bool) → Windows → ℕ → ℕ
 leastEnd test whole w k = cond (whole k) (w .r k + w .p k) (w .r k + w .p k + failedDeadlines test w k)
 

@@ -5,12 +5,12 @@ use mathlib.Core.Bool.{Bool, true, false, not, false≢true}
 use mathlib.Core.List.{[], _∷_}
 use Prim.Native.Nat.{ℕ, _+_, _<_, _≤_}
 use native.Mathlib.Omega.{arith}
-use borrow.Author.Tests.{le-leb, lt-leb, lt-ltb, le-ltb}
+use borrow.Author.Tests.{le-leb, lt-leb, lt-ltb, le-ltb, eq-eqb, ne-eqb}
 use lib.Dec.{leb}
 use Rattle.base.specs.Outcomes.{code, answered, refused}
 use Rattle.base.specs.Counting.{firstBelow}
 use Rattle.base.proofs.Inversion.{answered-refused}
-use Rattle.base.proofs.Sums.{le-or-lt}
+use Rattle.base.proofs.Sums.{le-or-lt, same-cases}
 use Rattle.base.proofs.Searches.{First, first-below, one-first}
 use Rattle.jackson.specs.Windows.{Windows, roomIn, roomFault, Roomy, Formed, Inside, withWindows}
 
@@ -59,12 +59,18 @@ module _ (w : Windows) where
       let z : firstBelow (w .n) (lacksRoom w) ≡ w .n = one-first (w .n) (lacksRoom w) _ _ (first-below _ _) none in
       rw (z, le-ltb (w .n) (w .n) (omega arith))
 
-  -- the first that does is carried
-  pub first-lacking : (i : ℕ) → i < w .n → First (w .n) (lacksRoom w) i → roomFault w ≡ refused (code 7 (i ∷ []))
-  unfolding roomFault
-  first-lacking i h first =
-      let z : firstBelow (w .n) (lacksRoom w) ≡ i = one-first (w .n) (lacksRoom w) _ _ (first-below _ _) first in
-      rw (z, lt-ltb i (w .n) h)
+  -- the first that does is carried, by 6 if it needs no minute
+  module _ (i : ℕ) (h : i < w .n) (first : First (w .n) (lacksRoom w) i) where
+    first-is : firstBelow (w .n) (lacksRoom w) ≡ i
+    first-is = one-first (w .n) (lacksRoom w) _ _ (first-below _ _) first
+
+    pub lacks-minutes : w .p i ≡ 0 → roomFault w ≡ refused (code 6 (i ∷ []))
+    unfolding roomFault
+    lacks-minutes e = rw (first-is, lt-ltb i (w .n) h, eq-eqb (w .p i) 0 e) refl
+
+    pub lacks-room : (w .p i ≡ 0 → ⊥) → roomFault w ≡ refused (code 7 (i ∷ []))
+    unfolding roomFault
+    lacks-room e = rw (first-is, lt-ltb i (w .n) h, ne-eqb (w .p i) 0 e) refl
 
   -- so windows pass exactly if they have room
   pub formed-passes : Formed w → roomFault w ≡ answered tt
@@ -81,7 +87,6 @@ module _ (w : Windows) where
       })
 
   pub passes-formed : w .n ≤ 255 → roomFault w ≡ answered tt → Formed w
-  unfolding roomFault
   passes-formed few e =
       record {
         few = few;
@@ -96,7 +101,10 @@ module _ (w : Windows) where
       end : w .n ≤ firstBelow (w .n) (lacksRoom w)
       end =
           le-or-lt (w .n) (firstBelow (w .n) (lacksRoom w)) (λ l. l)
-          (λ l. absurd (answered-refused (rw (lt-ltb (firstBelow (w .n) (lacksRoom w)) (w .n) l) at e) refl))
+          (λ l. absurd
+          (same-cases (w .p (firstBelow (w .n) (lacksRoom w))) 0
+          (λ z _. answered-refused e (lacks-minutes _ l first z))
+          (λ z _. answered-refused e (lacks-room _ l first z))))
 
       each : (i : ℕ) → i < w .n → Room (w .h) (w .r i) (w .d i) (w .p i)
       each i h = go (roomIn (w .h) (w .r i) (w .d i) (w .p i)) refl

@@ -7,8 +7,9 @@ use Prim.Native.Nat.{ℕ, _+_, _<_, _≤_}
 use native.Mathlib.Omega.{arith}
 use Rattle.base.specs.Outcomes.{code, answered, refused}
 use Rattle.base.proofs.Sums.{below-suc}
+use Rattle.base.proofs.Searches.{First}
 use Rattle.jackson.specs.Windows.{Windows, roomIn, roomFault}
-use Rattle.jackson.proofs.Room.{lacksRoom, all-room, first-lacking}
+use Rattle.jackson.proofs.Room.{no-minutes, lacksRoom, all-room, lacks-minutes, lacks-room}
 
 -- the first i of n places have room
 pub record Roomed (w : Windows) (n i : ℕ) : Type 0 where
@@ -32,20 +33,27 @@ module _ (w : Windows) (n : ℕ) where
           none-before = λ j l. so .none j (omega (arith, so .count, so .passed));
         }))
 
-    module _ (h : i < n) (b : Bool) (is : b ≡ roomIn (w .h) (w .r i) (w .d i) (w .p i)) where
-      pub room-next : b ≡ true → Roomed w n (i + 1)
-      room-next e =
-          record {
-            count = so .count;
-            held = so .held;
-            passed = omega (arith, h);
-            none =
-                λ j l.
-                below-suc i (λ k. lacksRoom w k ≡ true → ⊥) (so .none) (λ q. false≢true (rw (sym is ∙ e) at q)) j (omega arith);
-          }
+    module _ (h : i < n) where
+      lacking : roomIn (w .h) (w .r i) (w .d i) (w .p i) ≡ false → First (w .n) (lacksRoom w) i
+      lacking e = record { within = omega (arith, so .count); passes = λ _. rw e; none-before = so .none }
 
-      pub room-stops : b ≡ false → refused (code 7 (i ∷ [])) ≡ roomFault w
-      room-stops e =
-          sym
-          (first-lacking w i (omega (arith, so .count))
-          (record { within = omega (arith, so .count); passes = λ _. rw (sym is ∙ e); none-before = so .none }))
+      place : i < w .n
+      place = omega (arith, so .count)
+
+      pub room-minutes : w .p i ≡ 0 → refused (code 6 (i ∷ [])) ≡ roomFault w
+      room-minutes e = sym (lacks-minutes w i place (lacking (no-minutes (w .h) (w .r i) (w .d i) (w .p i) (omega (arith, e)))) e)
+
+      module _ (b : Bool) (is : b ≡ roomIn (w .h) (w .r i) (w .d i) (w .p i)) where
+        pub room-next : b ≡ true → Roomed w n (i + 1)
+        room-next e =
+            record {
+              count = so .count;
+              held = so .held;
+              passed = omega (arith, h);
+              none =
+                  λ j l.
+                  below-suc i (λ k. lacksRoom w k ≡ true → ⊥) (so .none) (λ q. false≢true (rw (sym is ∙ e) at q)) j (omega arith);
+            }
+
+        pub room-stops : (w .p i ≡ 0 → ⊥) → b ≡ false → refused (code 7 (i ∷ [])) ≡ roomFault w
+        room-stops some e = sym (lacks-room w i place (lacking (sym is ∙ e)) some)

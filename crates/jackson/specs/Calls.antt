@@ -77,10 +77,10 @@ pub record Fills (l : DayList) (old : List ℕ) (v : Verdict) (new : List ℕ) :
   pub plan : verdictOf v ≡ answered tt → PlanBytes (windowsOf l) (take (l .frame .h) new)
 
 -- row 11 alone, for windows that are not tested
-abbrev pub roomOf : Windows → ℕ → Outcome (Unit {0})
-roomOf w room = firstOf (bufferRow (w .h) room ∷ []) (answered tt)
+abbrev pub bufferFault : ℕ → ℕ → Outcome (Unit {0})
+bufferFault h room = firstOf (bufferRow h room ∷ []) (answered tt)
 
 -- what filling a plan buffer that held old with the schedule of such windows answers, and what the buffer holds then
 pub record FillsWindows (w : Windows) (old : List ℕ) (v : Verdict) (new : List ℕ) : Type 0 where
-  pub outcome : verdictOf v ≡ roomOf w (length old)
-  pub buffer : new ≡ planAfter (roomOf w (length old)) w old
+  pub outcome : verdictOf v ≡ bufferFault (w .h) (length old)
+  pub buffer : new ≡ planAfter (bufferFault (w .h) (length old)) w old

@@ -69,11 +69,11 @@ pub record Formed (w : Windows) : Type 0 where
 abbrev pub roomIn : ℕ → ℕ → ℕ → ℕ → Bool
 roomIn h r d p = leb 1 p && (leb d h && leb (r + p) d)
 
--- row 7 for windows, the test of `Formed`: it carries the first place without room
+-- rows 6 and 7 for windows, the test of `Formed`: they carry the first place that has no minutes or no room
 unfoldable pub roomFault : Windows → Outcome (Unit {0})
 roomFault w =
     let i = firstBelow (w .n) (λ j. not (roomIn (w .h) (w .r j) (w .d j) (w .p j))) in
-    firstOf (row 7 (ltb i (w .n)) i ∷ []) (answered tt)
+    firstOf (row 6 (ltb i (w .n) && eqb (w .p i) 0) i ∷ row 7 (ltb i (w .n)) i ∷ []) (answered tt)
 
 -- arrays with windows that have room, and an entry
 pub record Searchable (s : WindowSet) (k : ℕ) : Type 0 where

@@ -70,13 +70,16 @@ fn has_room(h: u16, r: u16, d: u16, p: u16) -> bool
     r as u32 + p as u32 <= d as u32
 }
 
-// Row 7 for windows: it carries the first place without room.
+// Rows 6 and 7 for windows: they carry the first place that has no minutes or no room.
 pub fn room_fault(windows: WindowSet) -> Verdict
     ensures { λ v. ⌜ verdictOf v ≡ roomFault (windowsIn windows) ⌝ }
 {
     let count = places_held(windows.n);
     let mut i: usize = 0;
     while i < count {
+        if windows.p[i] == 0 {
+            return Verdict::Refused(Refusal::NoMinutes(i));
+        }
         if !has_room(windows.h, windows.r[i], windows.d[i], windows.p[i]) {
             return Verdict::Refused(Refusal::BadWindow(i));
         }

@@ -6,7 +6,7 @@ use mathlib.Core.List.{List}
 use Prim.Native.Nat.{ℕ, _+_, _-_, _<_, _≤_}
 use native.Mathlib.Omega.{arith}
 use Rattle.base.specs.Outcomes.{refused}
-use Rattle.list.specs.Refusals.{codeOf, verdictOf}
+use Rattle.list.specs.Refusals.{codeOf, outcomeOf, verdictOf}
 use Rattle.list.specs.DayLists.{emptyList, wholeIn, marked}
 use Rattle.list.specs.Checks.{checkOf, WellFormed}
 use Rattle.list.specs.declared.types.DayList.{DayList}
@@ -15,18 +15,20 @@ use Rattle.list.specs.declared.types.Verdict.{Verdict}
 use Rattle.list.specs.declared.types.Verdict.the-variants.{Accepted, Refused}
 use Rattle.base.proofs.Inversion.{answered-refused}
 use Rattle.list.proofs.Verdicts.{by-accepted, by-refused}
-use Rattle.jackson.specs.Windows.{windowsOf, windowsIn, roomFault, Formed}
+use Rattle.jackson.specs.Windows.{windowsOf, columns, windowsIn, roomFault, Formed}
 use Rattle.jackson.specs.Intervals.{overloadOf}
 use Rattle.jackson.specs.Calls.{Holds}
 use Rattle.jackson.specs.declared.types.WindowSet.{WindowSet}
 use Rattle.base.proofs.Sums.{sum-most}
 use Rattle.jackson.proofs.Room.{formed-passes, passes-formed}
 use Rattle.jackson.proofs.ListLaws.{list-formed}
-use Rattle.narrow.specs.Rounds.{unmoved, round, allRounds, narrowing}
+use Rattle.narrow.specs.Rounds.{Narrowed, unmoved, round, allRounds, narrowing}
 use Rattle.narrow.specs.Calls.{listWith, narrowWindows, narrowedOf, settleOf, roundOf, AnswersAs, NarrowsWindows, Settles, MakesRound}
 use Rattle.narrow.specs.Internal.{narrowedBy, Countable}
 use Rattle.narrow.specs.declared.types.NarrowAnswer.{NarrowAnswer}
 use Rattle.narrow.specs.declared.types.WindowsAnswer.{WindowsAnswer}
+use Rattle.narrow.proofs.StepsKeep.{keeps-n}
+use Rattle.narrow.proofs.Costs.{rounds-cost}
 use Rattle.narrow.proofs.NarrowLaws.{narrow-law}
 use Rattle.narrow.proofs.OverloadPlanner.{overload-planner}
 use Rattle.narrow.proofs.ListAnswers.{answers-refused, settles, makes-round}
@@ -47,12 +49,13 @@ module _ (whole : ℕ → Bool) (s : WindowSet) where
   room-passed : (v : Verdict) → verdictOf v ≡ roomFault (windowsIn s) → v ≡ Accepted → Formed (windowsIn s)
   room-passed v says e = passes-formed (windowsIn s) (omega arith) (by-accepted says e)
 
-  narrows : (a : WindowsAnswer) → narrowedOf a ≡ narrowWindows whole (windowsIn s)
+  narrows : (a : WindowsAnswer) → narrowedOf a ≡ narrowWindows whole (windowsIn s) → a .windows .n ≡ s .n
       → ((x : Refusal) → a .verdict ≡ Refused x → a ≡ record { verdict = Refused x; windows = s; moves = 0 }) → NarrowsWindows whole s a
   unfolding narrowWindows
-  narrows a is beside =
+  narrows a is same-n beside =
       record {
         outcome = is;
+        n = same-n;
         beside = beside;
         law =
             λ formed.
@@ -65,18 +68,18 @@ module _ (whole : ℕ → Bool) (s : WindowSet) where
       → (a : WindowsAnswer) → a ≡ record { verdict = v; windows = s; moves = 0 } → NarrowsWindows whole s a
   stopped v x e is a made =
       rw made
-      (narrows (record { verdict = v; windows = s; moves = 0 }) (rw e is)
+      (narrows (record { verdict = v; windows = s; moves = 0 }) (rw e is) refl
       (λ y q. ap (λ (u : Verdict). record { verdict = u; windows = s; moves = 0 }) q))
 
-  module _ (v : Verdict) (says : verdictOf v ≡ roomFault (windowsIn s)) where
-    pub windows-without-room : (x : Refusal) → v ≡ Refused x → (a : WindowsAnswer) → a ≡ record { verdict = v; windows = s; moves = 0 }
+  module _ (fault : Verdict) (says : verdictOf fault ≡ roomFault (windowsIn s)) where
+    pub windows-without-room : (x : Refusal) → fault ≡ Refused x → (a : WindowsAnswer) → a ≡ record { verdict = fault; windows = s; moves = 0 }
         → NarrowsWindows whole s a
     unfolding narrowWindows
-    windows-without-room x e = stopped v x e (rw (by-refused says e) refl)
+    windows-without-room x e = stopped fault x e (rw (by-refused says e) refl)
 
-    module _ (e : v ≡ Accepted) where
+    module _ (e : fault ≡ Accepted) where
       pub windows-countable : s .h < 65536 → Countable whole s 0
-      windows-countable short = room-countable whole s short (room-passed v says e)
+      windows-countable short = room-countable whole s short (room-passed fault says e)
 
       module _ (t : Verdict) (tested : verdictOf t ≡ overloadOf (windowsIn s)) where
         pub windows-overloaded : (x : Refusal) → t ≡ Refused x → (a : WindowsAnswer) → a ≡ record { verdict = t; windows = s; moves = 0 }
@@ -93,8 +96,32 @@ module _ (whole : ℕ → Bool) (s : WindowSet) where
               → a ≡ record { verdict = found .verdict; windows = s; moves = 0 } → NarrowsWindows whole s a
           windows-stopped x r = stopped (found .verdict) x r (rw r at rounds-are)
 
-          pub windows-found : found .verdict ≡ Accepted → NarrowsWindows whole s found
-          windows-found r = narrows found rounds-are (λ x z. absurd (answered-refused (ap verdictOf (sym z ∙ r)) refl))
+          -- n is kept, whatever it is
+          abbrev answer : WindowsAnswer
+          answer =
+              let u = found .windows in
+              record {
+                verdict = found .verdict;
+                windows = record { h = u .h; n = s .n; r = u .r; d = u .d; p = u .p };
+                moves = found .moves;
+              }
+
+          pub windows-found : found .verdict ≡ Accepted → NarrowsWindows whole s answer
+          windows-found r = narrows answer (same-windows ∙ rounds-are) refl (λ x z. absurd (answered-refused (ap verdictOf (sym z ∙ r)) refl))
+            where
+              v : Narrowed
+              v = record { windows = windowsIn (found .windows); moves = found .moves }
+
+              same-n : windowsIn (found .windows) .n ≡ windowsIn s .n
+              same-n =
+                  keeps-n
+                  (rounds-cost overloadOf whole (unmoved (windowsIn s)) (room-passed fault says e) _ v (rw r at (sym is)) .keeps)
+
+              same-windows : narrowedOf answer ≡ narrowedOf found
+              same-windows =
+                  let u = found .windows in
+                  λ k.
+                  outcomeOf (found .verdict) (record { windows = columns (u .h) (sym same-n k) (u .r) (u .d) (u .p); moves = found .moves })
 
 -- the answer that code makes of what rounds gave
 module _ (l : DayList) (found : WindowsAnswer) where

@@ -20,7 +20,7 @@ pub mod OneOutcome
 mod MirrorSides
 pub mod Alike
 -- The list with the windows found, and what the answers of the calls on lists say.
-pub mod ListWindows
+mod ListWindows
 pub mod ListAnswers
 -- What the code's proofs cite, case by case.
 mod SearchCases

@@ -1,4 +1,4 @@
--- The list with other windows: how code makes it, and what its windows are.
+-- The list with other windows, as code makes it.
 -- Assumes nothing.
 use mathlib.Core.Path.{_≡_, refl, sym, ap, _∙_}
 use mathlib.Core.List.{List, [], _∷_, _++_}

@@ -43,17 +43,18 @@ entriesWith w i (e ∷ es) = entryWith e (w .r i) (w .d i) ∷ entriesWith w (i 
 unfoldable pub listWith : DayList → Windows → DayList
 listWith l w = dayList (l .frame) (entriesWith w 0 (entriesOf l))
 
--- Narrowing windows, where `whole` says which entries are whole: row 7 for windows without room, row 9, then rounds and row 10.
+-- Narrowing windows, where `whole` says which entries are whole: rows 6 and 7 for windows without room, row 9, then rounds and row 10.
 unfoldable pub narrowWindows : (ℕ → Bool) → Windows → Outcome Narrowed
 narrowWindows whole w = andThen (roomFault w) (λ _. narrowing overloadOf whole w)
 
--- the answer of a call
+-- an answer with windows
 abbrev pub narrowedOf : WindowsAnswer → Outcome Narrowed
 narrowedOf a = outcomeOf (a .verdict) (record { windows = windowsIn (a .windows); moves = a .moves })
 
 -- what `narrow_windows` answers of the windows s
 pub record NarrowsWindows (whole : ℕ → Bool) (s : WindowSet) (a : WindowsAnswer) : Type 0 where
   pub outcome : narrowedOf a ≡ narrowWindows whole (windowsIn s)
+  pub n : a .windows .n ≡ s .n
   pub beside : (x : Refusal) → a .verdict ≡ Refused x → a ≡ record { verdict = Refused x; windows = s; moves = 0 }
   -- the law, for windows with room, of the windows and moves answered
   pub law : Formed (windowsIn s) → NarrowLaw overloadOf whole (windowsIn s) (narrowedOf a)
@@ -70,7 +71,7 @@ roundOf l = andThen (checkOf l) (λ _. round overloadOf (wholeIn l) (unmoved (wi
 abbrev pub listed : DayList → Outcome Narrowed → Outcome (DayList × ℕ)
 listed l o = andThen o (λ v. answered (listWith l (v .windows), v .moves))
 
--- the answer of a call
+-- an answer with a list
 abbrev pub narrowAnswerOf : NarrowAnswer → Outcome (DayList × ℕ)
 narrowAnswerOf a = outcomeOf (a .verdict) (a .list, a .moves)
 

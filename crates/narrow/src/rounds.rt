@@ -148,7 +148,7 @@ fn unmoved_with(verdict: Verdict, windows: WindowSet) -> WindowsAnswer
     }
 }
 
-// Narrows windows until they are settled, where `whole` marks the whole entries: row 7, row 9 for the windows as given, then rounds and
+// Narrows windows until they are settled, where `whole` marks the whole entries: rows 6 and 7, row 9 for the windows as given, then rounds and
 // row 10.
 pub fn narrow_windows(whole: [bool; ENTRIES], windows: WindowSet) -> WindowsAnswer
     ensures { λ a. ⌜ NarrowsWindows (marked whole) windows a ⌝ }
@@ -166,5 +166,11 @@ pub fn narrow_windows(whole: [bool; ENTRIES], windows: WindowSet) -> WindowsAnsw
     let Verdict::Accepted = verdict else {
         return unmoved_with(verdict, windows);
     };
-    found
+    let mut settled = found.windows;
+    settled.n = windows.n;
+    WindowsAnswer {
+        verdict: verdict,
+        windows: settled,
+        moves: found.moves,
+    }
 }

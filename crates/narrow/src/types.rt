@@ -3,7 +3,7 @@ use jackson::types::WindowSet;
 use list::types::DayList;
 use list::types::Verdict;
 
-// The narrowed windows and their moves beside Accepted; the windows given and 0 beside a refusal.
+// The narrowed windows and their moves beside Accepted. `narrow_windows` answers the windows given and 0 beside a refusal.
 pub struct WindowsAnswer {
     pub verdict: Verdict,
     pub windows: WindowSet,

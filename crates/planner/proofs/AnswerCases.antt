@@ -9,9 +9,10 @@ use borrow.Author.Tests.{eq-eqb, ne-eqb}
 use lib.Dec.{eqb}
 use lib.ListN.{length, getD, take, replicate}
 use lib.Seq.{take-at}
-use Rattle.base.specs.Outcomes.{Outcome, answered}
+use Rattle.base.specs.Outcomes.{Outcome, answered, refused}
 use Rattle.base.proofs.Sums.{same-cases}
 use Rattle.list.specs.DayLists.{wholeIn, marked}
+use Rattle.list.specs.Refusals.{codeOf}
 use Rattle.list.specs.Checks.{WellFormed}
 use Rattle.list.specs.declared.types.Refusal.{Refusal}
 use Rattle.list.specs.declared.types.Verdict.{Verdict}
@@ -22,8 +23,8 @@ use Rattle.jackson.specs.Plans.{placesIn}
 use Rattle.jackson.specs.Intervals.{overloadOf}
 use Rattle.jackson.specs.Minutes.{schedule}
 use Rattle.jackson.specs.Calls.{FillsWindows}
-use Rattle.jackson.specs.declared.types.WindowSet.{WindowSet}
-use Rattle.narrow.specs.Calls.{narrowedIn}
+use Rattle.narrow.specs.declared.types.WindowsAnswer.{WindowsAnswer}
+use Rattle.narrow.specs.Calls.{narrowedOf, narrowedIn}
 use Rattle.narrow.specs.declared.types.NarrowAnswer.{NarrowAnswer}
 use Rattle.jackson.proofs.ListLaws.{list-formed}
 use Rattle.bounds.specs.Ends.{leastEnd, greatestStart}
@@ -45,7 +46,7 @@ use Rattle.planner.specs.Internal.{NarrowsAfter}
 use Rattle.planner.specs.declared.types.PlanAnswer.{PlanAnswer}
 use Rattle.planner.specs.declared.types.ShownAnswer.{ShownAnswer}
 use Rattle.planner.proofs.Demands.{AtPlace, ByRules, demand3}
-use Rattle.planner.proofs.CallCases.{plan-formed, shown-plan, shown-formed, IsSettled, outcome-is, is-settled, windows-told}
+use Rattle.planner.proofs.CallCases.{plan-formed, shown-plan, shown-formed, IsSettled, is-settled, windows-told}
 use Rattle.planner.proofs.CallCases.{settled-few, settled-day, settled-plan, Planning, place-in, ends-are, starts-are, plan-is}
 use Rattle.planner.proofs.CallCases.{broken-is, shown-bound, shown-stored}
 
@@ -162,39 +163,43 @@ module _ (x : Shown) (l : DayList) (k : ℕ) (old : List ℕ) (a : ShownAnswer) 
 
 -- What the code meets: narrowing after the checks was refused, or not.
 pub plan-refused : {l : DayList} {old : List ℕ} {a : NarrowAnswer} → NarrowsAfter (planChecks l (length old)) l a
-    → {x : Refusal} → a .verdict ≡ Refused x → {ends starts : List ℕ} → ends ≡ replicate 64 0 → starts ≡ replicate 64 0
+    → (found : WindowsAnswer) {x : Refusal} → found .verdict ≡ Refused x → narrowedOf found ≡ planOf l (length old)
+    → {ends starts : List ℕ} → ends ≡ replicate 64 0 → starts ≡ replicate 64 0
     → PlansDay l old (record { narrowed = a; broken = 0; ends = ends; starts = starts }) old
-plan-refused after e no-ends no-starts =
-    let z = outcome-is after (Refused _) e in
+plan-refused {l} {old} after found {x} e is no-ends no-starts =
+    let z : planOf l (length old) ≡ refused (codeOf x) = sym is ∙ rw e in
     plans-day _ _ _ _ after (rw z refl) (rw z no-ends) (rw z no-starts) (rw z refl)
 
-pub plan-done : {l : DayList} {old : List ℕ} {a : NarrowAnswer} {marks : List Bool} {s : WindowSet}
-    → Planning (planChecks l (length old)) l old a marks s → {v : Verdict} {new : List ℕ} → FillsWindows (windowsIn s) old v new
-    → {x : ℕ} → x ≡ brokenIn (marked marks) (windowsIn s) (placesIn (take (s .h) new))
-    → {b : Bounds} → HoldsBounds (marked marks) (windowsIn s) b
+pub plan-done : {l : DayList} {old : List ℕ} {marks : List Bool} {found : WindowsAnswer}
+    → Planning (planChecks l (length old)) l old marks found → {v : Verdict} {new : List ℕ} → FillsWindows (windowsIn (found .windows)) old v new
+    → {x : ℕ} → x ≡ brokenIn (marked marks) (windowsIn (found .windows)) (placesIn (take (found .windows .h) new))
+    → {b : Bounds} → HoldsBounds (marked marks) (windowsIn (found .windows)) b
+    → {a : NarrowAnswer} → NarrowsAfter (planChecks l (length old)) l a
     → PlansDay l old (record { narrowed = a; broken = x; ends = b .ends; starts = b .starts }) new
-plan-done {l} {old} planning fills broken bounds =
-    plans-day l old _ _ (planning .after)
+plan-done {l} {old} planning fills broken bounds after =
+    plans-day l old _ _ after
     (broken-is planning fills _ broken)
     (ends-are planning bounds)
     (starts-are planning bounds)
     (plan-is planning fills)
 
 pub shown-refused : (x : Shown) {l : DayList} {k : ℕ} {old : List ℕ} {a : NarrowAnswer} → NarrowsAfter (shownChecks l k (length old)) l a
-    → {r : Refusal} → a .verdict ≡ Refused r → Shows x l k old (record { narrowed = a; bound = 0 }) old
-shown-refused x {l} {k} {old} {a} after {r} e =
-    let z = outcome-is after (Refused r) e in
+    → (found : WindowsAnswer) {r : Refusal} → found .verdict ≡ Refused r → narrowedOf found ≡ shownOf l k (length old)
+    → Shows x l k old (record { narrowed = a; bound = 0 }) old
+shown-refused x {l} {k} {old} {a} after found {r} e is =
+    let z : shownOf l k (length old) ≡ refused (codeOf r) = sym is ∙ rw e in
     shows x l k old _ old after (rw z refl) (rw z refl)
 
-module _ {l : DayList} {k : ℕ} {old : List ℕ} {a : NarrowAnswer} {marks : List Bool} {s : WindowSet}
-    (planning : Planning (shownChecks l k (length old)) l old a marks s) (long : length (l .entries) ≡ 64) where
+module _ {l : DayList} {k : ℕ} {old : List ℕ} {marks : List Bool} {found : WindowsAnswer}
+    (planning : Planning (shownChecks l k (length old)) l old marks found) (long : length (l .entries) ≡ 64) where
   -- the place asked is one of the settled windows
-  pub shown-place : k < windowsIn s .n
+  pub shown-place : k < windowsIn (found .windows) .n
   shown-place =
-      let passed = shown-plan l k (length old) (planning .settled .passed) in
+      let passed = shown-plan l k (length old) (planning .passed) in
       place-in planning (plan-formed l (length old) (passed .1)) long k (passed .0)
 
-  pub shown-done : {x : Shown} {b : BoundAnswer} {new : List ℕ} → StoresPlan x (marked marks k) (windowsIn s) k old b new
+  pub shown-done : {x : Shown} {b : BoundAnswer} {new : List ℕ} → StoresPlan x (marked marks k) (windowsIn (found .windows)) k old b new
+      → {a : NarrowAnswer} → NarrowsAfter (shownChecks l k (length old)) l a
       → Shows x l k old (record { narrowed = a; bound = b .bound }) new
-  shown-done {x} {b} {new} stores =
-      shows x l k old _ new (planning .after) (shown-bound planning shown-place stores) (shown-stored planning shown-place stores)
+  shown-done {x} {b} {new} stores after =
+      shows x l k old _ new after (shown-bound planning shown-place stores) (shown-stored planning shown-place stores)

@@ -11,7 +11,7 @@ use lib.Seq.{length-take-le, take-at}
 use Rattle.base.specs.Outcomes.{Code, Row, Outcome, answered, refused, firstOf, andThen}
 use Rattle.base.proofs.Inversion.{answered-same, answered-refused}
 use Rattle.list.specs.Refusals.{codeOf, outcomeOf, verdictOf}
-use Rattle.list.specs.DayLists.{wholeIn, marked}
+use Rattle.list.specs.DayLists.{emptyList, wholeIn, marked}
 use Rattle.list.specs.Checks.{checkOf, WellFormed}
 use Rattle.list.specs.declared.types.Refusal.{Refusal}
 use Rattle.list.specs.declared.types.Refusal.the-variants.{UnknownPlace}
@@ -24,7 +24,7 @@ use Rattle.jackson.specs.Windows.{Windows, windowsOf, windowsIn, Formed}
 use Rattle.jackson.specs.Plans.{placesIn}
 use Rattle.jackson.specs.Intervals.{overloadOf}
 use Rattle.jackson.specs.Minutes.{schedule}
-use Rattle.jackson.specs.Calls.{Holds, bufferRow, FillsWindows}
+use Rattle.jackson.specs.Calls.{Holds, bufferRow, bufferFault, FillsWindows}
 use Rattle.jackson.specs.declared.types.WindowSet.{WindowSet}
 use Rattle.jackson.proofs.Room.{formed-passes}
 use Rattle.jackson.proofs.ListLaws.{list-few, list-formed}
@@ -36,7 +36,7 @@ use Rattle.narrow.specs.declared.types.NarrowAnswer.{NarrowAnswer}
 use Rattle.narrow.proofs.OverloadPlanner.{overload-planner}
 use Rattle.narrow.proofs.StepsKeep.{Keeps}
 use Rattle.narrow.proofs.NarrowLaws.{narrow-law}
-use Rattle.narrow.proofs.ListAnswers.{settle-keeps, holds-answer}
+use Rattle.narrow.proofs.ListAnswers.{answers-refused, settle-keeps, holds-answer}
 use Rattle.bounds.specs.ShownPlans.{boundOf, shownPlan}
 use Rattle.bounds.specs.Calls.{leastEnds, greatestStarts, inRoom, HoldsBounds, placeRow, showRows, StoresPlan}
 use Rattle.bounds.specs.declared.types.Shown.{Shown}
@@ -47,8 +47,8 @@ use Rattle.jackson.proofs.StoredPlans.{stored-long, filled-with, schedule-long}
 use Rattle.planner.specs.BrokenEntries.{brokenIn}
 use Rattle.planner.specs.Demand2.{PlansWindows}
 use Rattle.planner.specs.Calls.{beforeNine, planChecks, shownChecks, narrowAfter, settledOr, planned, endsOf, startsOf, brokenOf}
-use Rattle.planner.specs.Internal.{bufferFault, HoldsPlan, NarrowsAfter}
-use Rattle.planner.proofs.Demands.{plans-windows}
+use Rattle.planner.specs.Internal.{HoldsPlan, NarrowsAfter}
+use Rattle.planner.proofs.Demands.{widest-formed, plans-windows}
 
 -- The checks before 9.
 module _ (l : DayList) (v : Verdict) (checked : verdictOf v ≡ checkOf l) where
@@ -118,6 +118,17 @@ module _ (l : DayList) where
 
 -- Narrowing after them, from the marks of the whole entries and the windows of the list.
 module _ (checks : Outcome (Unit {0})) (l : DayList) (formed : checks ≡ answered tt → WellFormed l) where
+  after-checks : (a : NarrowAnswer) → AnswersAs l (narrowAfter checks l) a → NarrowsAfter checks l a
+  unfolding settleOf
+  after-checks a answers = record { answers = answers; holds = holds-answer l a (narrowAfter checks l) keeps answers }
+    where
+      keeps : (v : Narrowed) → narrowAfter checks l ≡ answered v → Keeps (windowsOf l) (v .windows) × WellFormed l
+      keeps v = go checks refl
+        where
+          go : (o : Outcome (Unit {0})) → checks ≡ o → narrowAfter o l ≡ answered v → Keeps (windowsOf l) (v .windows) × WellFormed l
+          go (answered t) e q = settle-keeps l v (rw (formed e) q)
+          go (refused k) e q = absurd (answered-refused q refl)
+
   module _ (marks : List Bool) (kinds : marked marks ≡ wholeIn l) (s : WindowSet) (holds : Holds l s) (found : WindowsAnswer)
       (is : narrowedOf found ≡ andThen checks (λ _. narrowWindows (marked marks) (windowsIn s))) where
     pub found-is : narrowedOf found ≡ narrowAfter checks l
@@ -132,22 +143,23 @@ module _ (checks : Outcome (Unit {0})) (l : DayList) (formed : checks ≡ answer
         go (answered t) e = given ∙ rw (formed-passes (windowsOf l) (list-formed l (formed e)))
         go (refused k) e = refl
 
-    pub narrows-after : (a : NarrowAnswer) → AnswersAs l (narrowedOf found) a → NarrowsAfter checks l a
-    unfolding settleOf
-    narrows-after a answers =
-        let after : AnswersAs l (narrowAfter checks l) a = rw found-is at answers in
-        record { answers = after; holds = holds-answer l a (narrowAfter checks l) keeps after }
-      where
-        keeps : (v : Narrowed) → narrowAfter checks l ≡ answered v → Keeps (windowsOf l) (v .windows) × WellFormed l
-        keeps v = go checks refl
-          where
-            go : (o : Outcome (Unit {0})) → checks ≡ o → narrowAfter o l ≡ answered v → Keeps (windowsOf l) (v .windows) × WellFormed l
-            go (answered t) e q = settle-keeps l v (rw (formed e) q)
-            go (refused k) e q = absurd (answered-refused q refl)
+  -- the answer that code makes of what was found, and a refusal with what stands beside it
+  module _ (found : WindowsAnswer) (is : narrowedOf found ≡ narrowAfter checks l) (a : NarrowAnswer) where
+    pub narrows-after : AnswersAs l (narrowedOf found) a → NarrowsAfter checks l a
+    narrows-after answers = after-checks a (rw is at answers)
+
+    pub narrows-not : (x : Refusal) → found .verdict ≡ Refused x → a ≡ record { verdict = found .verdict; list = emptyList; moves = 0 }
+        → NarrowsAfter checks l a
+    narrows-not x e made = after-checks a (answers-refused l a (narrowAfter checks l) (found .verdict) x made e (sym is ∙ rw e))
 
 -- the windows and moves answered
 abbrev pub settledIn : NarrowAnswer → Narrowed
 settledIn a = record { windows = windowsOf (a .list); moves = a .moves }
+
+-- checks that were passed
+checks-passed : (checks : Outcome (Unit {0})) (l : DayList) (v : Narrowed) → narrowAfter checks l ≡ answered v → checks ≡ answered tt
+checks-passed (answered t) l v q = refl
+checks-passed (refused k) l v q = absurd (answered-refused q refl)
 
 -- an answer that is no refusal: the list answered has the settled windows
 pub record IsSettled (checks : Outcome (Unit {0})) (l : DayList) (a : NarrowAnswer) : Type 0 where
@@ -162,17 +174,10 @@ module _ {checks : Outcome (Unit {0})} {l : DayList} {a : NarrowAnswer} (after :
   pub outcome-is : (v : Verdict) → a .verdict ≡ v → narrowAfter checks l ≡ outcomeOf v (settledIn a)
   outcome-is v e = sym (after .holds .narrowed) ∙ ap (λ (u : Verdict). outcomeOf u (settledIn a)) e
 
-  checks-passed : narrowAfter checks l ≡ answered (settledIn a) → checks ≡ answered tt
-  checks-passed = go checks
-    where
-      go : (o : Outcome (Unit {0})) → narrowAfter o l ≡ answered (settledIn a) → o ≡ answered tt
-      go (answered t) q = refl
-      go (refused k) q = absurd (answered-refused q refl)
-
   pub is-settled : a .verdict ≡ Accepted → (checks ≡ answered tt → WellFormed l) → IsSettled checks l a
   is-settled e formed =
       let outcome = outcome-is Accepted e in
-      let passed = checks-passed outcome in
+      let passed = checks-passed checks l (settledIn a) outcome in
       let law = narrow-law overload-planner (wholeIn l) (windowsOf l) (list-formed l (formed passed)) in
       record {
         passed = passed;
@@ -208,123 +213,105 @@ windows-told a v = go (a .verdict) refl
     go Accepted e q = (e, ap (λ (x : Narrowed). x .windows) (answered-same refl q))
     go (Refused x) e q = absurd (answered-refused q refl)
 
--- and those found
-windows-found : (found : WindowsAnswer) (v : Narrowed) → narrowedOf found ≡ answered v → windowsIn (found .windows) ≡ v .windows
-windows-found found v = go (found .verdict)
-  where
-    go : (t : Verdict) → outcomeOf t (record { windows = windowsIn (found .windows); moves = found .moves }) ≡ answered v
-        → windowsIn (found .windows) ≡ v .windows
-    go Accepted q = ap (λ (x : Narrowed). x .windows) (answered-same refl q)
-    go (Refused x) q = absurd (answered-refused q refl)
-
--- What the code has where nothing was refused: narrowing's answer, the settled windows in arrays with the marks of the whole entries, and a
--- plan buffer with room.
-pub record Planning (checks : Outcome (Unit {0})) (l : DayList) (old : List ℕ) (a : NarrowAnswer) (marks : List Bool)
-    (s : WindowSet) : Type 0 where
-  pub after : NarrowsAfter checks l a
-  pub settled : IsSettled checks l a
+-- What the code has where nothing was refused: the settled windows in arrays, with the marks of the whole entries, and a plan buffer with
+-- room.
+pub record Planning (checks : Outcome (Unit {0})) (l : DayList) (old : List ℕ) (marks : List Bool) (found : WindowsAnswer) : Type 0 where
+  pub passed : checks ≡ answered tt
+  pub outcome : narrowAfter checks l ≡ answered (record { windows = windowsIn (found .windows); moves = found .moves })
+  pub widest : Widest (wholeIn l) (windowsOf l) (windowsIn (found .windows))
+  pub formed : Formed (windowsIn (found .windows))
   pub kinds : marked marks ≡ wholeIn l
-  pub windows : windowsIn s ≡ windowsOf (a .list)
   pub room : l .frame .h ≤ length old
 
-pub is-planning : {checks : Outcome (Unit {0})} {l : DayList} {old : List ℕ} {a : NarrowAnswer} {marks : List Bool} (found : WindowsAnswer)
-    → NarrowsAfter checks l a → (checks ≡ answered tt → planChecks l (length old) ≡ answered tt) → marked marks ≡ wholeIn l
-    → narrowedOf found ≡ narrowAfter checks l → a .verdict ≡ Accepted → Planning checks l old a marks (found .windows)
-is-planning {checks} {l} {old} {a} {marks} found after plan kinds is e =
-    let settled = is-settled after e (λ q. plan-formed l (length old) (plan q)) in
+pub is-planning : {checks : Outcome (Unit {0})} {l : DayList} {old : List ℕ} {marks : List Bool} (found : WindowsAnswer)
+    → (checks ≡ answered tt → planChecks l (length old) ≡ answered tt) → marked marks ≡ wholeIn l
+    → narrowedOf found ≡ narrowAfter checks l → found .verdict ≡ Accepted → Planning checks l old marks found
+is-planning {checks} {l} {old} found plan kinds is e =
+    let v : Narrowed = record { windows = windowsIn (found .windows); moves = found .moves } in
+    let outcome : narrowAfter checks l ≡ answered v = sym is ∙ rw e in
+    let passed = checks-passed checks l v outcome in
+    let given = list-formed l (plan-formed l (length old) (plan passed)) in
+    let widest = narrow-law overload-planner (wholeIn l) (windowsOf l) given .widest v (rw passed at outcome) in
     record {
-      after = after;
-      settled = settled;
+      passed = passed;
+      outcome = outcome;
+      widest = widest;
+      formed = widest-formed (wholeIn l) (windowsOf l) (windowsIn (found .windows)) given widest;
       kinds = kinds;
-      windows = windows-found found (settledIn a) (is ∙ settled .outcome);
-      room = plan-room l (length old) (plan (settled .passed));
+      room = plan-room l (length old) (plan passed);
     }
 
-module _ {checks : Outcome (Unit {0})} {l : DayList} {old : List ℕ} {a : NarrowAnswer} {marks : List Bool} {s : WindowSet}
-    (planning : Planning checks l old a marks s) where
-  abbrev settled : IsSettled checks l a
-  settled = planning .settled
+module _ {checks : Outcome (Unit {0})} {l : DayList} {old : List ℕ} {marks : List Bool} {found : WindowsAnswer}
+    (planning : Planning checks l old marks found) where
+  abbrev w : Windows
+  w = windowsIn (found .windows)
 
-  abbrev windows : windowsIn s ≡ windowsOf (a .list)
-  windows = planning .windows
+  day-is : w .h ≡ l .frame .h
+  day-is = ap (λ (u : Windows). u .h) (planning .widest .entries)
 
-  arrays-formed : Formed (windowsIn s)
-  arrays-formed = rw windows (settled-formed settled)
-
-  day-is : s .h ≡ l .frame .h
-  day-is = ap (λ (w : Windows). w .h) windows ∙ settled-day settled
-
-  arrays-room : s .h ≤ length old
-  arrays-room = omega (arith, day-is, planning .room)
+  has-room : w .h ≤ length old
+  has-room = omega (arith, day-is, planning .room)
 
   -- a place of the list is one of the settled windows
-  pub place-in : WellFormed l → length (l .entries) ≡ 64 → (k : ℕ) → k < l .n → k < windowsIn s .n
+  pub place-in : WellFormed l → length (l .entries) ≡ 64 → (k : ℕ) → k < l .n → k < w .n
   place-in formed long k h =
       let given : windowsOf l .n ≡ l .n = length-take-le (l .n) (l .entries) (omega (arith, long, sound-list l formed .header .room)) in
-      let same : windowsOf (a .list) .n ≡ windowsOf l .n = ap (λ (w : Windows). w .n) (settled .widest .entries) in
-      let held : windowsIn s .n ≡ windowsOf (a .list) .n = ap (λ (w : Windows). w .n) windows in
-      omega (arith, given, same, held, h)
+      let same : w .n ≡ windowsOf l .n = ap (λ (u : Windows). u .n) (planning .widest .entries) in
+      omega (arith, given, same, h)
 
   -- the bounds of the settled windows
-  module _ {b : Bounds} (bounds : HoldsBounds (marked marks) (windowsIn s) b) where
-    in-room : (xs : List ℕ) → inRoom (windowsIn s) xs ≡ xs
-    in-room xs = rw (formed-passes (windowsIn s) arrays-formed) refl
+  module _ {b : Bounds} (bounds : HoldsBounds (marked marks) w b) where
+    in-room : (xs : List ℕ) → inRoom w xs ≡ xs
+    in-room xs = rw (formed-passes w (planning .formed)) refl
 
     pub ends-are : b .ends ≡ endsOf (wholeIn l) (narrowAfter checks l)
-    ends-are = bounds .ends ∙ in-room _ ∙ (λ i. leastEnds (planning .kinds i) (windows i)) ∙ rw (settled .outcome) refl
+    ends-are = bounds .ends ∙ in-room _ ∙ (λ i. leastEnds (planning .kinds i) w) ∙ rw (planning .outcome) refl
 
     pub starts-are : b .starts ≡ startsOf (wholeIn l) (narrowAfter checks l)
-    starts-are = bounds .starts ∙ in-room _ ∙ (λ i. greatestStarts (planning .kinds i) (windows i)) ∙ rw (settled .outcome) refl
+    starts-are = bounds .starts ∙ in-room _ ∙ (λ i. greatestStarts (planning .kinds i) w) ∙ rw (planning .outcome) refl
 
   -- the day's plan
-  module _ {v : Verdict} {new : List ℕ} (fills : FillsWindows (windowsIn s) old v new) where
-    stored : new ≡ schedule (windowsIn s) ++ drop (s .h) old
-    stored = filled-with (windowsIn s) old v new fills arrays-room
+  module _ {v : Verdict} {new : List ℕ} (fills : FillsWindows w old v new) where
+    stored : new ≡ schedule w ++ drop (w .h) old
+    stored = filled-with w old v new fills has-room
 
     pub plan-is : new ≡ planned schedule old (narrowAfter checks l)
-    plan-is = rw (settled .outcome) (stored ∙ (λ i. schedule (windows i) ++ drop (windows i .h) old))
+    plan-is = rw (planning .outcome) stored
 
-    front : take (s .h) new ≡ schedule (windowsIn s)
-    front = rw stored (take-at (schedule (windowsIn s)) _ _ (schedule-long _))
+    front : take (w .h) new ≡ schedule w
+    front = rw stored (take-at (schedule w) _ _ (schedule-long _))
 
     pub plan-long : length new ≡ length old
-    plan-long = stored-long (s .h) (schedule (windowsIn s)) old new stored (schedule-long _) arrays-room
+    plan-long = stored-long (w .h) (schedule w) old new stored (schedule-long _) has-room
 
-    pub plan-held : HoldsPlan (windowsIn s) new
+    pub plan-held : HoldsPlan w new
     plan-held =
         record {
           few = omega arith;
-          room = omega (arith, plan-long, arrays-room);
-          plan = rw (front, windows) (settled-plan settled .plan .plan);
+          room = omega (arith, plan-long, has-room);
+          plan = rw front (plans-windows (wholeIn l) w (planning .formed) (planning .widest .settled .plan) .plan .plan);
         }
 
-    pub broken-is : (x : ℕ) → x ≡ brokenIn (marked marks) (windowsIn s) (placesIn (take (s .h) new))
-        → x ≡ brokenOf (wholeIn l) (narrowAfter checks l)
+    pub broken-is : (x : ℕ) → x ≡ brokenIn (marked marks) w (placesIn (take (w .h) new)) → x ≡ brokenOf (wholeIn l) (narrowAfter checks l)
     broken-is x e =
         e
-        ∙ ap (λ (xs : List ℕ). brokenIn (marked marks) (windowsIn s) (placesIn xs)) front
-        ∙ (λ i. brokenIn (planning .kinds i) (windows i) (placesIn (schedule (windows i))))
-        ∙ rw (settled .outcome) refl
+        ∙ ap (λ (xs : List ℕ). brokenIn (marked marks) w (placesIn xs)) front
+        ∙ (λ i. brokenIn (planning .kinds i) w (placesIn (schedule w)))
+        ∙ rw (planning .outcome) refl
 
   -- a shown plan
-  module _ {x : Shown} {k : ℕ} (place : k < windowsIn s .n) {b : BoundAnswer} {new : List ℕ}
-      (stores : StoresPlan x (marked marks k) (windowsIn s) k old b new) where
-    rows-are : showRows (windowsIn s) k (length old) ≡ answered tt
+  module _ {x : Shown} {k : ℕ} (place : k < w .n) {b : BoundAnswer} {new : List ℕ} (stores : StoresPlan x (marked marks k) w k old b new) where
+    rows-are : showRows w k (length old) ≡ answered tt
     unfolding showRows
-    rows-are = rw (formed-passes (windowsIn s) arrays-formed, lt-leb _ k place, le-ltb (length old) (s .h) arrays-room) refl
+    rows-are = rw (formed-passes w (planning .formed), lt-leb _ k place, le-ltb (length old) (w .h) has-room) refl
 
     kind-is : marked marks k ≡ wholeIn l k
     kind-is = ap (λ (whole : ℕ → Bool). whole k) (planning .kinds)
 
     pub shown-bound : b .bound ≡ settledOr 0 (boundOf x (wholeIn l) k) (narrowAfter checks l)
-    shown-bound =
-        rw (settled .outcome)
-        ((rw rows-are at (stores .bound))
-        ∙ bound-kind x (wholeIn l) _ (windowsIn s) k kind-is
-        ∙ ap (boundOf x (wholeIn l) k) windows)
+    shown-bound = rw (planning .outcome) ((rw rows-are at (stores .bound)) ∙ bound-kind x (wholeIn l) _ w k kind-is)
 
     pub shown-stored : new ≡ planned (shownPlan x (wholeIn l) k) old (narrowAfter checks l)
     shown-stored =
-        rw (settled .outcome)
-        ((rw rows-are at (stores .buffer))
-        ∙ (λ i. plan-kind x (wholeIn l) (marked marks k) (windows i) k kind-is i ++ drop (windows i .h) old))
+        rw (planning .outcome)
+        ((rw rows-are at (stores .buffer)) ∙ (λ i. plan-kind x (wholeIn l) (marked marks k) w k kind-is i ++ drop (w .h) old))

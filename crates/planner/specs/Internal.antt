@@ -1,22 +1,17 @@
 -- What private functions promise each other. No public promise cites these.
 use Prim.Native.Nat.{ℕ, _≤_}
 use mathlib.Core.Bool.{Bool, cond}
-use mathlib.Core.List.{List, [], _∷_}
+use mathlib.Core.List.{List}
 use lib.ListN.{length, take}
-use Rattle.base.specs.Outcomes.{Outcome, answered, firstOf}
+use Rattle.base.specs.Outcomes.{Outcome}
 use Rattle.list.specs.DayLists.{mostEntries}
 use Rattle.list.specs.declared.types.DayList.{DayList}
 use Rattle.jackson.specs.Windows.{Windows}
 use Rattle.jackson.specs.Plans.{Plan, placesIn}
-use Rattle.jackson.specs.Calls.{bufferRow}
 use Rattle.narrow.specs.Calls.{AnswersAs, HoldsAnswer}
 use Rattle.narrow.specs.declared.types.NarrowAnswer.{NarrowAnswer}
 use Rattle.planner.specs.BrokenEntries.{isBroken}
 use Rattle.planner.specs.Calls.{narrowAfter}
-
--- row 11 alone
-abbrev pub bufferFault : ℕ → ℕ → Outcome (Unit {0})
-bufferFault h room = firstOf (bufferRow h room ∷ []) (answered tt)
 
 -- the first bytes are a plan in the windows
 pub record HoldsPlan (w : Windows) (bytes : List ℕ) : Type 0 where

@@ -16,15 +16,16 @@ use list::types::Verdict;
 use list::whole_places;
 use narrow::answer_with;
 use narrow::narrow_windows;
+use narrow::refused_with;
 use narrow::types::WindowsAnswer;
 ghost use mathlib.Core.Path.{_≡_};
 ghost use Rattle.base.specs.Outcomes.{andThen};
 ghost use Rattle.list.specs.Refusals.{verdictOf};
 ghost use Rattle.list.specs.DayLists.{marked};
 ghost use Rattle.jackson.specs.Windows.{windowsIn};
+ghost use Rattle.jackson.specs.Calls.{bufferFault};
 ghost use Rattle.narrow.specs.Calls.{narrowWindows, narrowedOf};
 ghost use Rattle.planner.specs.Calls.{planChecks, shownChecks, PlansDay, Shows, ShowsEarly, ShowsLate};
-ghost use Rattle.planner.specs.Internal.{bufferFault};
 
 // Row 11 for a plan buffer of this length.
 fn buffer_fault(h: usize, room: usize) -> Verdict
@@ -82,11 +83,10 @@ pub fn plan_day(list: DayList, plan: &mut [u8]) -> PlanAnswer
     let whole = whole_places(list);
     let checks = plan_checks(list, plan.len());
     let found = narrowed_after(checks, whole, unchecked_windows(list));
-    let narrowed = answer_with(list, found);
-    let verdict = narrowed.verdict;
+    let verdict = found.verdict;
     let Verdict::Accepted = verdict else {
         return PlanAnswer {
-            narrowed: narrowed,
+            narrowed: refused_with(verdict),
             broken: 0,
             ends: zeros(),
             starts: zeros(),
@@ -98,7 +98,7 @@ pub fn plan_day(list: DayList, plan: &mut [u8]) -> PlanAnswer
     let ends = bounds.ends;
     let starts = bounds.starts;
     PlanAnswer {
-        narrowed: narrowed,
+        narrowed: answer_with(list, found),
         broken: broken,
         ends: ends,
         starts: starts,
@@ -112,17 +112,16 @@ fn show_plan(shown: Shown, list: DayList, k: usize, plan: &mut [u8]) -> ShownAns
     let whole = whole_places(list);
     let checks = shown_checks(list, k, plan.len());
     let found = narrowed_after(checks, whole, unchecked_windows(list));
-    let narrowed = answer_with(list, found);
-    let verdict = narrowed.verdict;
+    let verdict = found.verdict;
     let Verdict::Accepted = verdict else {
         return ShownAnswer {
-            narrowed: narrowed,
+            narrowed: refused_with(verdict),
             bound: 0,
         };
     };
     let stored = store_plan(shown, whole[k], found.windows, k, plan);
     ShownAnswer {
-        narrowed: narrowed,
+        narrowed: answer_with(list, found),
         bound: stored.bound,
     }
 }

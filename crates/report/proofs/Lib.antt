@@ -1,12 +1,12 @@
 -- Laws of the report's text.
-pub mod Texts
+mod Texts
 -- Numbers are printed in base ten.
 pub mod DecimalFacts
 -- The runs found are the maximal runs.
 pub mod RunFacts
 -- How long a line and a text are at most.
 mod LineLengths
-pub mod Lengths
+mod Lengths
 -- How many bytes of an input decide its report.
 pub mod FirstBytes
 -- What the lines of a text say, and the law of what is printed: ReportLaws.

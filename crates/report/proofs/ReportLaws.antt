@@ -43,7 +43,7 @@ use Rattle.report.specs.Reports.{headLine, entryLine, entryLines, runLin
 use Rattle.report.specs.Reports.{printed, printedOf}
 use Rattle.report.specs.Printed.{LineFields, linesOf, listPrinted, windowsPrinted, dayPrinted, runsPrinted, placeBy, planPrinted}
 use Rattle.report.specs.Printed.{toldBy, codePrinted, toldRefused}
-use Rattle.report.specs.Laws.{SaysRuns, PrintsPlan, PrintsRefusal, ReportLaw, unread, refuses, planned}
+use Rattle.report.specs.Laws.{SaysRuns, PrintsPlan, PrintsRefusal, ReportLaw, unread, refuses, plans}
 use Rattle.report.proofs.Fields.{text-said, kept, kept-each, kept-text}
 use Rattle.report.proofs.PrintedLines.{headFields, head-words, entryFields, entry-words, Lines, day-is, count-is, moves-is}
 use Rattle.report.proofs.PrintedLines.{broken-is, place-is, end-is, start-is, runs-is, list-is, nine-said, one-said}
@@ -215,4 +215,4 @@ report-law bs = read (readOf bs) refl
             → ReportLaw bs (printed (andThen o (λ v. answered (dayText l v))))
         narrowed (refused k) q =
             refuses l k e (rw (e, q)) (prints-refusal k (unplanned-says l formed k q)) (refuses-plan l formed k q)
-        narrowed (answered v) q = planned l e (rw (e, q)) (prints-plan l formed v q)
+        narrowed (answered v) q = plans l e (rw (e, q)) (prints-plan l formed v q)

@@ -56,4 +56,4 @@ pub data ReportLaw (bs text : List ℕ) : Type 0 where
   refuses : (l : DayList) (k : Code) → readOf bs ≡ answered l → reportOf bs ≡ refused k → PrintsRefusal k text
       → Demand3 (wholeIn l) (windowsOf l) (toldRefused text) → ReportLaw bs text
   -- the list l is planned: the text is its report, byte for byte, and the demands hold of the numbers printed
-  planned : (l : DayList) → readOf bs ≡ answered l → reportOf bs ≡ answered text → PrintsPlan l text → ReportLaw bs text
+  plans : (l : DayList) → readOf bs ≡ answered l → reportOf bs ≡ answered text → PrintsPlan l text → ReportLaw bs text

@@ -3,8 +3,9 @@
 // that is turned back is refused by number and values, and a shorter buffer as 12 with the bytes needed. `refusal_line` stores the line
 // that the program prints for a refusal, whatever its number and values, or refuses a shorter buffer likewise. A refusal leaves the buffer
 // as it was. REPORT_BYTES are enough for every text, and REFUSAL_BYTES for every line.
-// Uses `read` of the crate format, the types of list, `plan_day` of planner and the type `RefusalCode` of codes; definitions and laws of base, jackson,
-// narrow and bounds.
+// The top theorem, demands 2 and 3 of the numbers printed, is `report-law` of proofs/ReportLaws.antt.
+// Uses `read` of the crate format, the types of list, `plan_day` of planner and the type `RefusalCode` of codes; definitions and laws of
+// base, jackson, narrow and bounds.
 mod day;
 mod lines;
 mod runs;

@@ -77,13 +77,14 @@ returns-3 c =
 
 returns-4 : tie.Need-returns-4
 returns-4 c =
-    let room-fault = c .before .before .before .before .before .before .before .before .room-fault in
-    let enum-told = c .before .before .before .before .before .before .enum-told in
-    let test = c .before .before .before .before .before .unchecked-overload in
-    let enum-told3 = c .before .before .before .enum-told3 in
-    let found = c .before .before .all-rounds in
-    windows-found _ _ (room-fault .result) (room-fault .ensures) (enum-told .given .1) (test .result) (test .ensures) (enum-told3 .given .1)
-    (found .result) (found .ensures) (c .enum-told5 .given .1)
+    let args = c .before .before .before .before .before .before .before .before .before .before .args in
+    let room-fault = c .before .before .before .before .before .before .before .before .before .room-fault in
+    let enum-told = c .before .before .before .before .before .before .before .enum-told in
+    let test = c .before .before .before .before .before .before .unchecked-overload in
+    let enum-told3 = c .before .before .before .before .enum-told3 in
+    let found = c .before .before .before .all-rounds in
+    windows-found (marked (args .whole)) (args .windows) (room-fault .result) (room-fault .ensures) (enum-told .given .1) (test .result)
+    (test .ensures) (enum-told3 .given .1) (found .result) (found .ensures) (c .before .enum-told5 .given .1)
 
 pub narrow-windows-spec : {M : Type 1} → statement M
 narrow-windows-spec =
