@@ -50,8 +50,8 @@ module _ (a : WriteAnswer) (b : Answer) (q : b ≡ answerWith (λ n. n ∷ []) (
       let of-value = subst (λ (k : DayList). Writes k old a new) p w in
       record { answer = q ∙ ap (answerWith (λ n. n ∷ [])) (of-value .outcome); buffer = of-value .buffer }
 
-  pub text-said : (o : Outcome (List ℕ)) → StoresText o old a new → TextCall o old b new
-  text-said o w = record { answer = q ∙ ap (answerWith (λ n. n ∷ [])) (w .outcome); buffer = w .buffer }
+  pub text-call-said : (o : Outcome (List ℕ)) → StoresText o old a new → TextCall o old b new
+  text-call-said o w = record { answer = q ∙ ap (answerWith (λ n. n ∷ [])) (w .outcome); buffer = w .buffer }
 
 module _ (xs : List ℕ) (l : DayList) (p : l ≡ valueOf xs) (v : Verdict) (b : Answer) (q : b ≡ answerWith (λ _. []) (verdictOf v)) where
   pub overload-said : Tests l v → OverloadCall xs b

@@ -95,16 +95,16 @@ module _ (x : Shown) (whole : Bool) (s : WindowSet) (k : ℕ) (old : List ℕ) (
       → a ≡ record { verdict = Refused r; bound = 0 } → StoresPlan x whole (windowsIn s) k old a old
   plan-refused r q a made = rw made (record { outcome = rw q refl; bound = rw q refl; buffer = rw q refl })
 
-  pub no-room : (r : Refusal) → v ≡ Refused r → StoresPlan x whole (windowsIn s) k old (record { verdict = v; bound = 0 }) old
+  pub stores-no-room : (r : Refusal) → v ≡ Refused r → StoresPlan x whole (windowsIn s) k old (record { verdict = v; bound = 0 }) old
   unfolding showRows
-  no-room r e = plan-refused r (rw (by-refused says e) refl) _ (ap (λ (u : Verdict). record { verdict = u; bound = 0 }) e)
+  stores-no-room r e = plan-refused r (rw (by-refused says e) refl) _ (ap (λ (u : Verdict). record { verdict = u; bound = 0 }) e)
 
   module _ (e : v ≡ Accepted) where
     room-passed : roomFault (windowsIn s) ≡ answered tt
     room-passed = by-accepted says e
 
-    pub plan-formed : Formed (windowsIn s)
-    plan-formed = passes-formed (windowsIn s) (omega arith) room-passed
+    pub stored-formed : Formed (windowsIn s)
+    stored-formed = passes-formed (windowsIn s) (omega arith) room-passed
 
     pub no-place : windowsIn s .n ≤ k → (a : BoundAnswer) → a ≡ record { verdict = Refused (UnknownPlace k); bound = 0 }
         → StoresPlan x whole (windowsIn s) k old a old

@@ -91,8 +91,8 @@ module _ (bs old : List ℕ) (a : WriteAnswer) (new : List ℕ) (reports : Repor
       go (refused k) q = absurd (answered-refused (ap writeAnswerOf e) (stores-as _ q .outcome))
 
   -- row 12 cannot hold
-  pub report-refused : (x : Refusal) → a ≡ NotWritten x → printedOf bs ≡ refusalLine (codeOf x)
-  report-refused x e = go (reportOf bs) refl
+  pub refused-printed : (x : Refusal) → a ≡ NotWritten x → printedOf bs ≡ refusalLine (codeOf x)
+  refused-printed x e = go (reportOf bs) refl
     where
       go : (o : Outcome (List ℕ)) → reportOf bs ≡ o → printed o ≡ refusalLine (codeOf x)
       go (answered text) q = absurd (text-taken text old a new (stores-as _ q) (text-room text q) x e)

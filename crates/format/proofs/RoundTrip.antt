@@ -29,7 +29,7 @@ use Rattle.list.proofs.Sound.{Header, header-says, header-passes, SoundList, ch
 use Rattle.format.proofs.FieldTrip.{bytes-drop, u16-back, u16-stands, byte-stands}
 use Rattle.format.proofs.EntryTrip.{EntryFits}
 use Rattle.format.proofs.ReadCases.{read-body, body-done}
-use Rattle.format.proofs.WriteCases.{list-short, has-room, list-written}
+use Rattle.format.proofs.WriteCases.{list-short, form-fits, list-written}
 use Rattle.format.proofs.ListTrip.{TakenEntries, entries-say, entries-read-back, every-take, every-at}
 
 module _ (l : DayList) (t : Typed l) (w : WellFormed l) where
@@ -188,7 +188,7 @@ module _ (bs : List ℕ) where
 
 -- no list's one form is longer
 pub longest : (l : DayList) → WellFormed l → length (bytesOf l) ≤ longestList
-longest l w = list-short l (has-room l w)
+longest l w = list-short l (form-fits l w)
 
 -- 64 entries that write all their fields
 fullest : DayList

@@ -89,15 +89,15 @@ entries-short f [] = omega arith
 entries-short f (e ∷ es) = simp length-append (omega (arith, entry-short f e, entries-short f es))
 
 module _ (l : DayList) where
-  pub list-length : length (bytesOf l) ≡ 3 + length (restBytes l 0)
+  pub form-length : length (bytesOf l) ≡ 3 + length (restBytes l 0)
   unfolding bytesOf
-  list-length = simp length-append (omega arith)
+  form-length = simp length-append (omega arith)
 
   pub list-short : l .n ≤ 64 → length (bytesOf l) ≤ longestList
-  list-short h = omega (arith, list-length, entries-short (l .frame) (entriesOf l), length-take (l .n) (l .entries))
+  list-short h = omega (arith, form-length, entries-short (l .frame) (entriesOf l), length-take (l .n) (l .entries))
 
   pub sized-start : SizedSoFar l 3 0
-  sized-start = record { passed = omega arith; total = sym list-length }
+  sized-start = record { passed = omega arith; total = sym form-length }
 
   -- the header and the entries one after the other
   pub list-stored : {old o : List ℕ} {next : ℕ} → Wrote old 0 (u16Bytes (l .frame .h)) o next
@@ -111,13 +111,13 @@ module _ (l : DayList) where
       record {
         passed = omega arith;
         long = refl;
-        room = omega (arith, list-length, wrote-length w, length-set o 2 (l .n));
+        room = omega (arith, form-length, wrote-length w, length-set o 2 (l .n));
         rest = refl;
       }
 
   -- a well-formed list has room for its entries
-  pub has-room : WellFormed l → l .n ≤ 64
-  has-room w = sound-list l w .header .room
+  pub form-fits : WellFormed l → l .n ≤ 64
+  form-fits w = sound-list l w .header .room
 
   -- a well-formed list that has room is written
   pub list-written : (room : ℕ) → WellFormed l → length (bytesOf l) ≤ room → writeOf l room ≡ answered (length (bytesOf l))

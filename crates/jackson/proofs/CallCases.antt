@@ -152,9 +152,9 @@ module _ (l : DayList) (old : List ℕ) (a : DayAnswer) (starts : Starts l a) wh
     tests : overloadOf (windowsIn (a .day .windows)) ≡ overloadOf (windowsOf l)
     tests = ap (λ (s : State). overloadOf (s .windows)) begins
 
-    pub too-short : length old < l .frame .h → Fills l old (Refused (PlanBufferShort (l .frame .h))) old
+    pub fill-too-short : length old < l .frame .h → Fills l old (Refused (PlanBufferShort (l .frame .h))) old
     unfolding fillOf
-    too-short h =
+    fill-too-short h =
         let z = lt-ltb (length old) (l .frame .h) h in
         fills-of l old _ _ (rw (well-formed, z) refl) (rw (well-formed, z) refl)
 
@@ -166,20 +166,20 @@ module _ (l : DayList) (old : List ℕ) (a : DayAnswer) (starts : Starts l a) wh
           let nine : overloadOf (windowsOf l) ≡ refused (codeOf x) = sym tests ∙ sym test ∙ ap verdictOf r in
           fills-of l old _ _ (rw (well-formed, z) (test ∙ tests)) (rw (well-formed, z, nine) refl)
 
-      pub planned : (new : List ℕ) → u ≡ Accepted → new ≡ listOf (l .frame .h) (placeAt (stateIn (a .day))) ++ drop (l .frame .h) old
+      pub fill-planned : (new : List ℕ) → u ≡ Accepted → new ≡ listOf (l .frame .h) (placeAt (stateIn (a .day))) ++ drop (l .frame .h) old
           → Fills l old Accepted new
       unfolding fillOf schedule
-      planned new r bytes =
+      fill-planned new r bytes =
           let z = le-ltb (length old) (l .frame .h) h in
           let fine : overloadOf (windowsOf l) ≡ answered tt = sym tests ∙ sym test ∙ ap verdictOf r in
           fills-of l old _ _ (rw (well-formed, z) (sym fine)) (rw (well-formed, z, fine) (rw (← begins) bytes))
 
 -- filling it with the schedule of windows that are not tested
 module _ (w : Windows) (old : List ℕ) where
-  pub no-room : length old < w .h → FillsWindows w old (Refused (PlanBufferShort (w .h))) old
-  no-room h = let z = lt-ltb (length old) (w .h) h in record { outcome = rw z refl; buffer = rw z refl }
+  pub fill-no-room : length old < w .h → FillsWindows w old (Refused (PlanBufferShort (w .h))) old
+  fill-no-room h = let z = lt-ltb (length old) (w .h) h in record { outcome = rw z refl; buffer = rw z refl }
 
-  pub has-room : (new : List ℕ) → w .h ≤ length old → new ≡ listOf (w .h) (placeAt (dayStart w)) ++ drop (w .h) old
+  pub fill-room : (new : List ℕ) → w .h ≤ length old → new ≡ listOf (w .h) (placeAt (dayStart w)) ++ drop (w .h) old
       → FillsWindows w old Accepted new
   unfolding schedule
-  has-room new h bytes = let z = le-ltb (length old) (w .h) h in record { outcome = rw z refl; buffer = rw z bytes }
+  fill-room new h bytes = let z = le-ltb (length old) (w .h) h in record { outcome = rw z refl; buffer = rw z bytes }

@@ -24,28 +24,28 @@ module _ (h r d p : ℕ) where
   pub room-passes : Room h r d p → roomIn h r d p ≡ true
   room-passes has = rw (le-leb 1 p (has .minutes), le-leb d h (has .in-day), le-leb (r + p) d (has .room))
 
-  pub no-minutes : p < 1 → roomIn h r d p ≡ false
-  no-minutes less = rw (lt-leb 1 p less)
+  pub room-no-minutes : p < 1 → roomIn h r d p ≡ false
+  room-no-minutes less = rw (lt-leb 1 p less)
 
-  pub past-day : 1 ≤ p → h < d → roomIn h r d p ≡ false
-  past-day some less = rw (le-leb 1 p some, lt-leb d h less)
+  pub room-past-day : 1 ≤ p → h < d → roomIn h r d p ≡ false
+  room-past-day some less = rw (le-leb 1 p some, lt-leb d h less)
 
-  pub too-short : 1 ≤ p → d ≤ h → d < r + p → roomIn h r d p ≡ false
-  too-short some in-day less = rw (le-leb 1 p some, le-leb d h in-day, lt-leb (r + p) d less)
+  pub room-too-short : 1 ≤ p → d ≤ h → d < r + p → roomIn h r d p ≡ false
+  room-too-short some in-day less = rw (le-leb 1 p some, le-leb d h in-day, lt-leb (r + p) d less)
 
   -- with a minute needed and d in the day, the sum decides
   pub room-sum : 1 ≤ p → d ≤ h → leb (r + p) d ≡ roomIn h r d p
   room-sum some in-day = rw (le-leb 1 p some, le-leb d h in-day)
 
-  pub has-room : roomIn h r d p ≡ true → Room h r d p
-  has-room e =
+  pub room-has : roomIn h r d p ≡ true → Room h r d p
+  room-has e =
       le-or-lt 1 p
       (λ a. le-or-lt d h
       (λ b. le-or-lt (r + p) d
       (λ c. record { minutes = a; in-day = b; room = c })
-      (λ c. absurd (false≢true (sym (too-short a b c) ∙ e))))
-      (λ b. absurd (false≢true (sym (past-day a b) ∙ e))))
-      (λ a. absurd (false≢true (sym (no-minutes a) ∙ e)))
+      (λ c. absurd (false≢true (sym (room-too-short a b c) ∙ e))))
+      (λ b. absurd (false≢true (sym (room-past-day a b) ∙ e))))
+      (λ a. absurd (false≢true (sym (room-no-minutes a) ∙ e)))
 
 -- the entry at a place has none
 abbrev pub lacksRoom : Windows → ℕ → Bool
@@ -110,7 +110,7 @@ module _ (w : Windows) where
       each i h = go (roomIn (w .h) (w .r i) (w .d i) (w .p i)) refl
         where
           go : (b : Bool) → roomIn (w .h) (w .r i) (w .d i) (w .p i) ≡ b → Room (w .h) (w .r i) (w .d i) (w .p i)
-          go true q = has-room _ _ _ _ q
+          go true q = room-has _ _ _ _ q
           go false q = absurd (first .none-before i (omega (arith, end)) (rw q))
 
 -- windows with room have what the law of plans asks

@@ -9,7 +9,7 @@ use Rattle.base.specs.Outcomes.{code, answered, refused}
 use Rattle.base.proofs.Sums.{below-suc}
 use Rattle.base.proofs.Searches.{First}
 use Rattle.jackson.specs.Windows.{Windows, roomIn, roomFault}
-use Rattle.jackson.proofs.Room.{no-minutes, lacksRoom, all-room, lacks-minutes, lacks-room}
+use Rattle.jackson.proofs.Room.{room-no-minutes, lacksRoom, all-room, lacks-minutes, lacks-room}
 
 -- the first i of n places have room
 pub record Roomed (w : Windows) (n i : ℕ) : Type 0 where
@@ -41,7 +41,7 @@ module _ (w : Windows) (n : ℕ) where
       place = omega (arith, so .count)
 
       pub room-minutes : w .p i ≡ 0 → refused (code 6 (i ∷ [])) ≡ roomFault w
-      room-minutes e = sym (lacks-minutes w i place (lacking (no-minutes (w .h) (w .r i) (w .d i) (w .p i) (omega (arith, e)))) e)
+      room-minutes e = sym (lacks-minutes w i place (lacking (room-no-minutes (w .h) (w .r i) (w .d i) (w .p i) (omega (arith, e)))) e)
 
       module _ (b : Bool) (is : b ≡ roomIn (w .h) (w .r i) (w .d i) (w .p i)) where
         pub room-next : b ≡ true → Roomed w n (i + 1)

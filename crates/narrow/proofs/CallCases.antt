@@ -72,7 +72,8 @@ module _ (whole : ℕ → Bool) (s : WindowSet) where
       (λ y q. ap (λ (u : Verdict). record { verdict = u; windows = s; moves = 0 }) q))
 
   module _ (fault : Verdict) (says : verdictOf fault ≡ roomFault (windowsIn s)) where
-    pub windows-without-room : (x : Refusal) → fault ≡ Refused x → (a : WindowsAnswer) → a ≡ record { verdict = fault; windows = s; moves = 0 }
+    pub windows-without-room : (x : Refusal) → fault ≡ Refused x → (a : WindowsAnswer)
+        → a ≡ record { verdict = fault; windows = s; moves = 0 }
         → NarrowsWindows whole s a
     unfolding narrowWindows
     windows-without-room x e = stopped fault x e (rw (by-refused says e) refl)
@@ -107,7 +108,8 @@ module _ (whole : ℕ → Bool) (s : WindowSet) where
               }
 
           pub windows-found : found .verdict ≡ Accepted → NarrowsWindows whole s answer
-          windows-found r = narrows answer (same-windows ∙ rounds-are) refl (λ x z. absurd (answered-refused (ap verdictOf (sym z ∙ r)) refl))
+          windows-found r =
+              narrows answer (same-windows ∙ rounds-are) refl (λ x z. absurd (answered-refused (ap verdictOf (sym z ∙ r)) refl))
             where
               v : Narrowed
               v = record { windows = windowsIn (found .windows); moves = found .moves }

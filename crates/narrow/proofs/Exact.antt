@@ -49,11 +49,11 @@ module _ (w : Windows) (k : ℕ) where
   one : (s t : ℕ) → (t < s → ⊥) → (s < t → ⊥) → s ≡ t
   one s t a b = le-or-lt s t (λ l. le-or-lt t s (λ m. omega arith) (λ m. absurd (b m))) (λ l. absurd (a l))
 
-  pub one-start : (s t : ℕ) → IsLeastStart w k s → IsLeastStart w k t → s ≡ t
-  one-start s t a b = one s t (λ l. a .least t (b .from-r) l (b .plan)) (λ l. b .least s (a .from-r) l (a .plan))
+  pub one-least-start : (s t : ℕ) → IsLeastStart w k s → IsLeastStart w k t → s ≡ t
+  one-least-start s t a b = one s t (λ l. a .least t (b .from-r) l (b .plan)) (λ l. b .least s (a .from-r) l (a .plan))
 
-  pub one-end : (s t : ℕ) → IsGreatestEnd w k s → IsGreatestEnd w k t → s ≡ t
-  one-end s t a b = one s t (λ l. b .greatest s l (a .to-d) (a .plan)) (λ l. a .greatest t l (b .to-d) (b .plan))
+  pub one-greatest-end : (s t : ℕ) → IsGreatestEnd w k s → IsGreatestEnd w k t → s ≡ t
+  one-greatest-end s t a b = one s t (λ l. b .greatest s l (a .to-d) (a .plan)) (λ l. a .greatest t l (b .to-d) (b .plan))
 
   -- and where there is one it is not so that there is none
   pub some-start : (s : ℕ) → IsLeastStart w k s → NoStart w k → ⊥
@@ -164,10 +164,10 @@ module _ {test : Test} (planner : Planner test) (w : Windows) (formed : Formed w
   pub search-law : SearchLaw test w k
   search-law =
       record {
-        start-is = answered-is (IsLeastStart w k) (NoStart w k) k (one-start w k) (some-start w k) _ starts;
-        no-start = refused-none (IsLeastStart w k) (NoStart w k) k (one-start w k) (some-start w k) _ starts;
-        end-is = answered-is (IsGreatestEnd w k) (NoEnd w k) k (one-end w k) (some-end w k) _ end-searched;
-        no-end = refused-none (IsGreatestEnd w k) (NoEnd w k) k (one-end w k) (some-end w k) _ end-searched;
+        start-is = answered-is (IsLeastStart w k) (NoStart w k) k (one-least-start w k) (some-start w k) _ starts;
+        no-start = refused-none (IsLeastStart w k) (NoStart w k) k (one-least-start w k) (some-start w k) _ starts;
+        end-is = answered-is (IsGreatestEnd w k) (NoEnd w k) k (one-greatest-end w k) (some-end w k) _ end-searched;
+        no-end = refused-none (IsGreatestEnd w k) (NoEnd w k) k (one-greatest-end w k) (some-end w k) _ end-searched;
       }
     where
       starts : SearchSays (IsLeastStart w k) (NoStart w k) k (leastStart test w k)

@@ -17,7 +17,7 @@ use Rattle.narrow.proofs.Planners.{Planner}
 use Rattle.narrow.proofs.StepsKeep.{keeps-n}
 use Rattle.narrow.proofs.Costs.{Costs, CostsOr, side-says, visits-says, round-cost}
 use Rattle.narrow.proofs.RoundsEnd.{rounds-by}
-use Rattle.narrow.proofs.Exact.{SearchSays, one-start, one-end, some-start, some-end, start-searched, end-searched}
+use Rattle.narrow.proofs.Exact.{SearchSays, one-least-start, one-greatest-end, some-start, some-end, start-searched, end-searched}
 
 -- Steps one after the other.
 
@@ -190,11 +190,11 @@ names-rounds whole n (suc m) = names-append whole n (roundSteps whole n) _ (name
 -- Steps and rounds give one outcome.
 
 step-unique : {k : ℕ} {w : Windows} {side : Side} {a b : Outcome Windows} → StepGives k w side a → StepGives k w side b → a ≡ b
-step-unique {k} {w} (start a) (start b) = ap (λ s. answered (withR w k s)) (one-start w k _ _ a b)
+step-unique {k} {w} (start a) (start b) = ap (λ s. answered (withR w k s)) (one-least-start w k _ _ a b)
 step-unique {k} {w} (start a) (no-start b) = absurd (some-start w k _ a b)
 step-unique {k} {w} (no-start a) (start b) = absurd (some-start w k _ b a)
 step-unique (no-start a) (no-start b) = refl
-step-unique {k} {w} (end a) (end b) = ap (λ e. answered (withD w k e)) (one-end w k _ _ a b)
+step-unique {k} {w} (end a) (end b) = ap (λ e. answered (withD w k e)) (one-greatest-end w k _ _ a b)
 step-unique {k} {w} (end a) (no-end b) = absurd (some-end w k _ a b)
 step-unique {k} {w} (no-end a) (end b) = absurd (some-end w k _ b a)
 step-unique (no-end a) (no-end b) = refl

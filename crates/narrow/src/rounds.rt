@@ -148,8 +148,8 @@ fn unmoved_with(verdict: Verdict, windows: WindowSet) -> WindowsAnswer
     }
 }
 
-// Narrows windows until they are settled, where `whole` marks the whole entries: rows 6 and 7, row 9 for the windows as given, then rounds and
-// row 10.
+// Narrows windows until they are settled, where `whole` marks the whole entries: rows 6 and 7, row 9 for the windows as given, then rounds
+// and row 10.
 pub fn narrow_windows(whole: [bool; ENTRIES], windows: WindowSet) -> WindowsAnswer
     ensures { λ a. ⌜ NarrowsWindows (marked whole) windows a ⌝ }
 {

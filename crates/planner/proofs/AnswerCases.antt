@@ -171,7 +171,8 @@ plan-refused {l} {old} after found {x} e is no-ends no-starts =
     plans-day _ _ _ _ after (rw z refl) (rw z no-ends) (rw z no-starts) (rw z refl)
 
 pub plan-done : {l : DayList} {old : List ℕ} {marks : List Bool} {found : WindowsAnswer}
-    → Planning (planChecks l (length old)) l old marks found → {v : Verdict} {new : List ℕ} → FillsWindows (windowsIn (found .windows)) old v new
+    → Planning (planChecks l (length old)) l old marks found → {v : Verdict} {new : List ℕ}
+    → FillsWindows (windowsIn (found .windows)) old v new
     → {x : ℕ} → x ≡ brokenIn (marked marks) (windowsIn (found .windows)) (placesIn (take (found .windows .h) new))
     → {b : Bounds} → HoldsBounds (marked marks) (windowsIn (found .windows)) b
     → {a : NarrowAnswer} → NarrowsAfter (planChecks l (length old)) l a

@@ -300,7 +300,8 @@ module _ {checks : Outcome (Unit {0})} {l : DayList} {old : List ℕ} {marks : L
         ∙ rw (planning .outcome) refl
 
   -- a shown plan
-  module _ {x : Shown} {k : ℕ} (place : k < w .n) {b : BoundAnswer} {new : List ℕ} (stores : StoresPlan x (marked marks k) w k old b new) where
+  module _ {x : Shown} {k : ℕ} (place : k < w .n) {b : BoundAnswer} {new : List ℕ}
+      (stores : StoresPlan x (marked marks k) w k old b new) where
     rows-are : showRows w k (length old) ≡ answered tt
     unfolding showRows
     rows-are = rw (formed-passes w (planning .formed), lt-leb _ k place, le-ltb (length old) (w .h) has-room) refl

@@ -74,8 +74,8 @@ module _ (l : DayList) (well : WellFormed l) (old : List ℕ) (long : length old
     answered-is : planOf l (length old) ≡ answered settled
     answered-is = outcome-is ∙ narrowed-is Accepted v
 
-    pub list-few : a .narrowed .list .n ≤ 64
-    list-few = sound-list (a .narrowed .list) (plans .holds .formed v) .header .room
+    pub answered-few : a .narrowed .list .n ≤ 64
+    answered-few = sound-list (a .narrowed .list) (plans .holds .formed v) .header .room
 
     list-is : a .narrowed .list ≡ listWith l w
     list-is =
@@ -89,12 +89,12 @@ module _ (l : DayList) (well : WellFormed l) (old : List ℕ) (long : length old
     ends-are : (i : ℕ) → i < a .narrowed .list .n → getD (a .ends) i 0 ≡ leastEnd overloadOf (wholeIn l) w i
     ends-are i below =
         ap (λ (xs : List ℕ). getD xs i 0) (plans .ends ∙ ap (endsOf (wholeIn l)) answered-is)
-        ∙ by-place (leastEnd overloadOf (wholeIn l) w) (w .n) i (omega (arith, count-is, list-few)) (omega (arith, count-is))
+        ∙ by-place (leastEnd overloadOf (wholeIn l) w) (w .n) i (omega (arith, count-is, answered-few)) (omega (arith, count-is))
 
     starts-are : (i : ℕ) → i < a .narrowed .list .n → getD (a .starts) i 0 ≡ greatestStart overloadOf (wholeIn l) w i
     starts-are i below =
         ap (λ (xs : List ℕ). getD xs i 0) (plans .starts ∙ ap (startsOf (wholeIn l)) answered-is)
-        ∙ by-place (greatestStart overloadOf (wholeIn l) w) (w .n) i (omega (arith, count-is, list-few)) (omega (arith, count-is))
+        ∙ by-place (greatestStart overloadOf (wholeIn l) w) (w .n) i (omega (arith, count-is, answered-few)) (omega (arith, count-is))
 
     broken-is : a .broken ≡ brokenIn (wholeIn l) w (placesIn (schedule w))
     broken-is = plans .broken ∙ ap (brokenOf (wholeIn l)) answered-is

@@ -40,7 +40,7 @@ use Rattle.report.specs.Runs.{beginsRun, runEnd}
 use Rattle.report.specs.Reports.{entryLineAt, entryLines, runLine, runLines, dayText, plannedText, reportOf}
 use Rattle.report.specs.Calls.{enough}
 use Rattle.report.proofs.Texts.{texts-short}
-use Rattle.report.proofs.LineLengths.{head-short, entry-short, run-short}
+use Rattle.report.proofs.LineLengths.{head-short, entry-line-short, run-short}
 use Rattle.report.proofs.RunFacts.{begins-entry, run-in-day}
 
 broken-few : (whole : ℕ → Bool) (w : Windows) (m : ℕ → ℕ) → brokenIn whole w m ≤ w .n
@@ -138,7 +138,7 @@ module _ (l : DayList) (formed : WellFormed l) where
         let in-day = there .in-day i place in
         let same-p : w .p i ≡ given .p i = ap (λ (x : Windows). x .p i) (best .entries) in
         rw (listed-entry l w i in-list)
-        (entry-short i (entryWith (getD (entriesOf l) i blank) (w .r i) (w .d i)) _ _ (omega (arith, few))
+        (entry-line-short i (entryWith (getD (entriesOf l) i blank) (w .r i) (w .d i)) _ _ (omega (arith, few))
         (rw stored (typed .serial i))
         (rw stored (typed .seal i))
         (omega (arith, day))

@@ -50,11 +50,11 @@ unfolding ascii
 kind-short Pause = omega arith
 kind-short Whole = omega arith
 
-pub entry-short : (place : ℕ) (e : Entry) (end start : ℕ) → place < 64 → e .serial < 2 ^ 32 → SealFits (e .seal)
+pub entry-line-short : (place : ℕ) (e : Entry) (end start : ℕ) → place < 64 → e .serial < 2 ^ 32 → SealFits (e .seal)
     → e .r ≤ 1440 → e .d ≤ 1440 → e .p ≤ 1440 → end ≤ 1440 → start ≤ 1440
     → length (entryLine place e end start) ≤ 56
 unfolding entryLine
-entry-short place e end start a serial seal r d p b c =
+entry-line-short place e end start a serial seal r d p b c =
     simp (line-more, line-last)
     (omega (
       arith,

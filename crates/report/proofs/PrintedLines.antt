@@ -132,8 +132,8 @@ module _ {text : List ℕ} {h n moves broken : ℕ} {e : ℕ → Entry} {end sta
   pub moves-is : movesPrinted text ≡ moves
   moves-is = ap (λ (fs : LineFields). numberIn fs 5) head-is ∙ decimal-is moves .value
 
-  pub broken-is : brokenPrinted text ≡ broken
-  broken-is = ap (λ (fs : LineFields). numberIn fs 7) head-is ∙ decimal-is broken .value
+  pub broken-printed-is : brokenPrinted text ≡ broken
+  broken-printed-is = ap (λ (fs : LineFields). numberIn fs 7) head-is ∙ decimal-is broken .value
 
   line-is : (i : ℕ) → i < n → lineAt text (suc i) ≡ fields i
   line-is i l =
@@ -144,11 +144,11 @@ module _ {text : List ℕ} {h n moves broken : ℕ} {e : ℕ → Entry} {end sta
   pub place-is : (i : ℕ) → i < n → placePrinted text i ≡ i
   place-is i l = ap (λ (fs : LineFields). numberIn fs 0) (line-is i l) ∙ decimal-is i .value
 
-  pub end-is : (i : ℕ) → i < n → endPrinted text i ≡ end i
-  end-is i l = ap (λ (fs : LineFields). numberIn fs 7) (line-is i l) ∙ decimal-is (end i) .value
+  pub end-printed-is : (i : ℕ) → i < n → endPrinted text i ≡ end i
+  end-printed-is i l = ap (λ (fs : LineFields). numberIn fs 7) (line-is i l) ∙ decimal-is (end i) .value
 
-  pub start-is : (i : ℕ) → i < n → startPrinted text i ≡ start i
-  start-is i l = ap (λ (fs : LineFields). numberIn fs 8) (line-is i l) ∙ decimal-is (start i) .value
+  pub start-printed-is : (i : ℕ) → i < n → startPrinted text i ≡ start i
+  start-printed-is i l = ap (λ (fs : LineFields). numberIn fs 8) (line-is i l) ∙ decimal-is (start i) .value
 
   pub runs-is : runsPrinted text ≡ runs
   runs-is =
@@ -156,10 +156,10 @@ module _ {text : List ℕ} {h n moves broken : ℕ} {e : ℕ → Entry} {end sta
       ∙ ap (λ (ls : List LineFields). drop (suc n) ls) (lines .said)
       ∙ drop-at (kept n (λ _. true) fields) runs n (all-length fields n)
 
-  pub list-is : (es : List Entry) → length es ≡ n → ((i : ℕ) → i < n → e i ≡ getD es i blank)
+  pub list-printed-is : (es : List Entry) → length es ≡ n → ((i : ℕ) → i < n → e i ≡ getD es i blank)
       → listPrinted text ≡ dayList (record { h = h }) es
   unfolding listPrinted
-  list-is es long each =
+  list-printed-is es long each =
       λ j. dayList (record { h = day-is j }) (all j)
     where
       at : ℕ → Entry

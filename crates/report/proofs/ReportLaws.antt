@@ -20,7 +20,7 @@ use Rattle.jackson.specs.Windows.{Windows, windowsOf, Formed}
 use Rattle.jackson.specs.Intervals.{overloadOf}
 use Rattle.jackson.specs.Plans.{idle, placesIn}
 use Rattle.jackson.specs.Minutes.{schedule}
-use Rattle.base.proofs.Listed.{list-is as minutes-are}
+use Rattle.base.proofs.Listed.{list-is}
 use Rattle.narrow.specs.Settling.{Widest}
 use Rattle.narrow.specs.Rounds.{Narrowed, narrowing}
 use Rattle.narrow.specs.Laws.{Reason}
@@ -46,7 +46,8 @@ use Rattle.report.specs.Printed.{toldBy, codePrinted, toldRefused}
 use Rattle.report.specs.Laws.{SaysRuns, PrintsPlan, PrintsRefusal, ReportLaw, unread, refuses, plans}
 use Rattle.report.proofs.Fields.{text-said, kept, kept-each, kept-text}
 use Rattle.report.proofs.PrintedLines.{headFields, head-words, entryFields, entry-words, Lines, day-is, count-is, moves-is}
-use Rattle.report.proofs.PrintedLines.{broken-is, place-is, end-is, start-is, runs-is, list-is, nine-said, one-said}
+use Rattle.report.proofs.PrintedLines.{broken-printed-is, place-is, end-printed-is, start-printed-is, runs-is, list-printed-is}
+use Rattle.report.proofs.PrintedLines.{nine-said, one-said}
 use Rattle.report.proofs.PrintedRuns.{runFields, run-words, runsOf, place-said, runs-said}
 
 -- The lines of a list's text.
@@ -111,7 +112,7 @@ module _ (l : DayList) (formed : WellFormed l) (v : Narrowed) (e : narrowing ove
 
   list-printed : listPrinted text ≡ settled
   unfolding listWith
-  list-printed = list-is lines (entriesOf settled) all-counted (λ i _. refl) ∙ ap (dayList (l .frame)) (listed-entries l w)
+  list-printed = list-printed-is lines (entriesOf settled) all-counted (λ i _. refl) ∙ ap (dayList (l .frame)) (listed-entries l w)
 
   windows-printed : windowsPrinted text ≡ w
   windows-printed = ap windowsOf list-printed ∙ windows-are
@@ -137,7 +138,7 @@ module _ (l : DayList) (formed : WellFormed l) (v : Narrowed) (e : narrowing ove
   unfolding planPrinted
   plan-printed =
       let long : length (schedule w) ≡ dayPrinted text = demand2-given .plan .long ∙ sym day ∙ sym (day-is lines) in
-      minutes-are (dayPrinted text) (placeBy (runsPrinted text)) idle (schedule w) long
+      list-is (dayPrinted text) (placeBy (runsPrinted text)) idle (schedule w) long
       (λ t below.
       ap (λ (ls : List LineFields). placeBy ls t) (runs-is lines) ∙ place-said (settled .frame .h) plan t (omega (arith, day-is lines)))
 
@@ -147,8 +148,8 @@ module _ (l : DayList) (formed : WellFormed l) (v : Narrowed) (e : narrowing ove
 
   at-place : (k : ℕ) → k < w .n → AtPlace whole w (toldBy text) k
   at-place k below =
-      let end = end-is lines k (omega (arith, count)) in
-      let start = start-is lines k (omega (arith, count)) in
+      let end = end-printed-is lines k (omega (arith, count)) in
+      let start = start-printed-is lines k (omega (arith, count)) in
       record {
         end = end;
         start = start;
@@ -165,7 +166,7 @@ module _ (l : DayList) (formed : WellFormed l) (v : Narrowed) (e : narrowing ove
       record {
         list = list-printed ∙ ap (listWith l) (sym windows-printed);
         places = λ i below. place-is lines i (omega (arith, count-is lines));
-        demand2 = coe 1 0 (j. PlansWindows whole (windows-printed j) (plan-printed j) (broken-is lines j)) demand2-given;
+        demand2 = coe 1 0 (j. PlansWindows whole (windows-printed j) (plan-printed j) (broken-printed-is lines j)) demand2-given;
         demand3 = demand3 whole (windowsOf l) given (toldBy text) (told-is ∙ sym e) rules;
         runs = coe 1 0 (j. SaysRuns (day-is lines j) (placesIn (plan-printed j)) (runs-is lines j)) (runs-said (settled .frame .h) plan);
       }

@@ -1,7 +1,7 @@
 -- What the line's call answered, as numbers.
 -- Assumes nothing.
 use borrow.Author.Needs.{needs}
-use Rattle.abi.proofs.CallCases.{text-said}
+use Rattle.abi.proofs.CallCases.{text-call-said}
 use Rattle.abi.proofs.dock_refusal_line.Statement.{statement}
 use Rattle.abi.proofs.dock_refusal_line.Tie as tie
 
@@ -18,7 +18,7 @@ returns : tie.Need-returns
 returns c =
     let args = c .before .before .before .before .before .before .before .args in
     let line = c .before .before .before .refusal-line in
-    text-said (line .result) _ (c .count-as .ensures) (args .out .now) _ _ (line .ensures .stores)
+    text-call-said (line .result) _ (c .count-as .ensures) (args .out .now) _ _ (line .ensures .stores)
 
 pub dock-refusal-line-spec : {M : Type 1} → statement M
 dock-refusal-line-spec =

@@ -1,7 +1,7 @@
 -- What the report's call answered, as numbers.
 -- Assumes nothing.
 use borrow.Author.Needs.{needs}
-use Rattle.abi.proofs.CallCases.{text-said}
+use Rattle.abi.proofs.CallCases.{text-call-said}
 use Rattle.abi.proofs.dock_report.Statement.{statement}
 use Rattle.abi.proofs.dock_report.Tie as tie
 
@@ -18,7 +18,7 @@ returns : tie.Need-returns
 returns c =
     let args = c .before .before .before .before .before .before .before .args in
     let report = c .before .before .before .report in
-    text-said (report .result) _ (c .count-as .ensures) (args .out .now) _ _ (report .ensures .stores)
+    text-call-said (report .result) _ (c .count-as .ensures) (args .out .now) _ _ (report .ensures .stores)
 
 pub dock-report-spec : {M : Type 1} → statement M
 dock-report-spec = tie.close (tie.spec report-requires count-as-requires same-length returns)

@@ -3,7 +3,7 @@
 use borrow.Author.Needs.{needs}
 use mathlib.Core.Path.{sym}
 use lib.Seq.{length-take-le}
-use Rattle.dock.proofs.Cases.{prints, report-held, report-refused}
+use Rattle.dock.proofs.Cases.{prints, report-held, refused-printed}
 use Rattle.dock.proofs.text_of.Statement.{statement}
 use Rattle.dock.proofs.text_of.Tie as tie
 
@@ -41,7 +41,7 @@ returns-2 c =
     let report = c .before .before .before .before .before .before .before .before .before .report in
     let refused = c .before .before .before .before .before .answer2 .given .1 in
     prints (start .args .input .now) (start .args .count) (start .pre .0) _ _
-    (rw (report-refused _ (start .args .text .now) (report .result) _ (report .ensures) (start .pre .1 .1) _ refused)
+    (rw (refused-printed _ (start .args .text .now) (report .result) _ (report .ensures) (start .pre .1 .1) _ refused)
     (c .before .before .line-of .ensures))
 
 pub text-of-spec : {M : Type 1} → statement M

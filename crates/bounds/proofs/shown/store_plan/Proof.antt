@@ -6,7 +6,7 @@ use native.Mathlib.Omega.{arith}
 use lib.ListN.{length}
 use Rattle.jackson.specs.Windows.{windowsIn}
 use Rattle.bounds.proofs.EndCases.{searchable-at}
-use Rattle.bounds.proofs.ShownCases.{no-room, no-place, no-buffer, plan-formed, plan-stored}
+use Rattle.bounds.proofs.ShownCases.{stores-no-room, no-place, no-buffer, stored-formed, plan-stored}
 use Rattle.bounds.proofs.shown.store_plan.Statement.{statement}
 use Rattle.bounds.proofs.shown.store_plan.Tie as tie
 
@@ -23,7 +23,7 @@ returns : tie.Need-returns
 returns c =
     let args = c .before .before .before .before .args in
     let fault = c .before .before .room-fault in
-    no-room (args .shown) (args .whole) (args .windows) (args .k) (args .plan .now) (fault .result) (fault .ensures) _
+    stores-no-room (args .shown) (args .whole) (args .windows) (args .k) (args .plan .now) (fault .result) (fault .ensures) _
     (c .enum-told2 .given .1)
 
 places-held-requires : tie.Need-places-held-requires
@@ -66,7 +66,7 @@ store-shown-requires c κs =
     let found = c .before .before .before in
     let args = found .before .before .before .before .before .before .args in
     let fault = found .before .before .before .before .room-fault in
-    let formed = plan-formed (args .shown) (args .whole) (args .windows) (args .k) (args .plan .now) (fault .result) (fault .ensures)
+    let formed = stored-formed (args .shown) (args .whole) (args .windows) (args .k) (args .plan .now) (fault .result) (fault .ensures)
     (found .before .before .enum-told .given .1) in
     (searchable-at (args .windows) formed (args .k) (known found), omega (arith, c .before .if2 .left))
 

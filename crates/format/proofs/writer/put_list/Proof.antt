@@ -8,7 +8,7 @@ use native.Mathlib.Omega.{arith}
 use lib.ListN.{length, length-set}
 use Rattle.base.proofs.Walk.{length-mapped}
 use Rattle.base.proofs.Stores.{wrote-length}
-use Rattle.format.proofs.WriteCases.{StoredSoFar, list-length, list-stored, stored-start, stored-room, stored-next, stored-done}
+use Rattle.format.proofs.WriteCases.{StoredSoFar, form-length, list-stored, stored-start, stored-room, stored-next, stored-done}
 use Rattle.format.proofs.writer.put_list.Statement.{statement}
 use Rattle.format.proofs.writer.put_list.Tie as tie
 
@@ -28,12 +28,12 @@ cast-n c = search needs
 put-u16-requires : tie.Need-put-u16-requires Inv-loop μ-loop
 put-u16-requires c κs =
     let start = c .before .before .before in
-    omega (arith, start .pre .1, list-length (start .args .t1))
+    omega (arith, start .pre .1, form-length (start .args .t1))
 
 slice-write-out : tie.Need-slice-write-out Inv-loop μ-loop
 slice-write-out c =
     let start = c .before .before .before .before .before .before in
-    omega (arith, start .pre .1, list-length (start .args .t1), wrote-length (c .before .before .put-u16 .ensures))
+    omega (arith, start .pre .1, form-length (start .args .t1), wrote-length (c .before .before .put-u16 .ensures))
 
 loop-holds : tie.Need-loop-holds Inv-loop μ-loop
 loop-holds c =

@@ -6,7 +6,7 @@ use Rattle.list.specs.Machine.{Typed}
 use Rattle.base.proofs.Walk.{length-mapped}
 use Rattle.list.proofs.InTypes.{each-serial, each-seal}
 use Rattle.list.proofs.Verdicts.{by-accepted}
-use Rattle.format.proofs.WriteCases.{has-room}
+use Rattle.format.proofs.WriteCases.{form-fits}
 use Rattle.format.proofs.CallCases.{write-refused, write-short, write-done}
 use Rattle.format.proofs.writer.write.Statement.{statement}
 use Rattle.format.proofs.writer.write.Tie as tie
@@ -30,7 +30,7 @@ enum-told c = search needs
 list-size-requires : tie.Need-list-size-requires
 list-size-requires c κs =
     let args = c .before .before .before .before .args in
-    has-room (args .list) (by-accepted (c .before .before .check .ensures) (c .enum-told .given .1))
+    form-fits (args .list) (by-accepted (c .before .before .check .ensures) (c .enum-told .given .1))
 
 returns : tie.Need-returns
 returns c =
@@ -44,7 +44,7 @@ put-list-requires c κs =
     let args = c .before .before .before .before .before .before .before .args in
     let check = c .before .before .before .before .before .check in
     let enum-told = c .before .before .before .enum-told in (
-      has-room (args .list) (by-accepted (check .ensures) (enum-told .given .1)),
+      form-fits (args .list) (by-accepted (check .ensures) (enum-told .given .1)),
       omega (arith, c .before .before .list-size .ensures, c .before .if1 .left),
     )
 

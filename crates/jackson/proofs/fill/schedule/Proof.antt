@@ -1,7 +1,7 @@
 -- Filling a plan buffer answers the value check, then rows 11 and 9, and stores the schedule only if none holds.
 -- Assumes nothing.
 use borrow.Author.Needs.{needs}
-use Rattle.jackson.proofs.CallCases.{not-filled, too-short, not-planned, planned}
+use Rattle.jackson.proofs.CallCases.{not-filled, fill-too-short, not-planned, fill-planned}
 use Rattle.jackson.proofs.fill.schedule.Statement.{statement}
 use Rattle.jackson.proofs.fill.schedule.Tie as tie
 
@@ -28,7 +28,7 @@ returns-2 c =
     let args = c .before .before .before .before .before .before .before .args in
     let start-day = c .before .before .before .before .before .start-day in
     let enum-told = c .before .before .before .enum-told in
-    too-short (args .list) (args .plan .now) (start-day .result) (start-day .ensures) (enum-told .given .1) (c .if1 .taken)
+    fill-too-short (args .list) (args .plan .now) (start-day .result) (start-day .ensures) (enum-told .given .1) (c .if1 .taken)
 
 unchecked-overload-requires : tie.Need-unchecked-overload-requires
 unchecked-overload-requires c κs = search needs
@@ -63,7 +63,7 @@ returns-4 c =
     let if1 = c .before .before .before .before .before .before .before .if1 in
     let unchecked-overload = c .before .before .before .before .before .before .unchecked-overload in
     let enum-told3 = c .before .before .before .before .enum-told3 in
-    planned (args .list) (args .plan .now) (start-day .result) (start-day .ensures) (enum-told .given .1) (if1 .left)
+    fill-planned (args .list) (args .plan .now) (start-day .result) (start-day .ensures) (enum-told .given .1) (if1 .left)
     (unchecked-overload .result) (unchecked-overload .ensures) _ (enum-told3 .given .1) (c .before .before .store-places .ensures)
 
 pub schedule-spec : {M : Type 1} → statement M

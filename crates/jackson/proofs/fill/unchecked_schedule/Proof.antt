@@ -2,7 +2,7 @@
 -- Assumes nothing.
 use borrow.Author.Needs.{needs}
 use Rattle.jackson.specs.Windows.{windowsIn}
-use Rattle.jackson.proofs.CallCases.{no-room, has-room}
+use Rattle.jackson.proofs.CallCases.{fill-no-room, fill-room}
 use Rattle.jackson.proofs.fill.unchecked_schedule.Statement.{statement}
 use Rattle.jackson.proofs.fill.unchecked_schedule.Tie as tie
 
@@ -12,7 +12,7 @@ cast-h c = search needs
 returns : tie.Need-returns
 returns c =
     let args = c .before .before .before .args in
-    no-room (windowsIn (args .windows)) (args .plan .now) (c .if1 .taken)
+    fill-no-room (windowsIn (args .windows)) (args .plan .now) (c .if1 .taken)
 
 day-start-requires : tie.Need-day-start-requires
 day-start-requires c κs = search needs
@@ -28,7 +28,7 @@ returns-2 c =
     let args = c .before .before .before .before .before .before .before .before .args in
     let if1 = c .before .before .before .before .before .if1 in
     let day-start = c .before .before .before .before .day-start in
-    has-room (windowsIn (args .windows)) (args .plan .now) _ (if1 .left)
+    fill-room (windowsIn (args .windows)) (args .plan .now) _ (if1 .left)
     (rw (day-start .ensures) at (c .before .before .store-places .ensures))
 
 pub unchecked-schedule-spec : {M : Type 1} → statement M

@@ -3,19 +3,19 @@
 use borrow.Author.Needs.{needs}
 use mathlib.Core.Path.{sym}
 use native.Mathlib.Omega.{arith}
-use Rattle.jackson.proofs.Room.{no-minutes, past-day, room-sum}
+use Rattle.jackson.proofs.Room.{room-no-minutes, room-past-day, room-sum}
 use Rattle.jackson.proofs.window_set.has_room.Statement.{statement}
 use Rattle.jackson.proofs.window_set.has_room.Tie as tie
 
 returns : tie.Need-returns
 returns c =
     let args = c .before .args in
-    sym (no-minutes (args .h) (args .r) (args .d) (args .p) (omega (arith, c .if1 .taken)))
+    sym (room-no-minutes (args .h) (args .r) (args .d) (args .p) (omega (arith, c .if1 .taken)))
 
 returns-2 : tie.Need-returns-2
 returns-2 c =
     let args = c .before .before .args in
-    sym (past-day (args .h) (args .r) (args .d) (args .p) (omega (arith, c .before .if1 .left)) (c .if2 .taken))
+    sym (room-past-day (args .h) (args .r) (args .d) (args .p) (omega (arith, c .before .if1 .left)) (c .if2 .taken))
 
 add-result : tie.Need-add-result
 add-result c = search needs

@@ -18,8 +18,10 @@ found c =
     let args = c .before .before .before .before .before .args in
     let whole-places = c .before .before .before .whole-places in
     let windows = c .before .unchecked-windows in
-    found-is (planChecks (args .list) (length (args .plan .now))) (args .list) (plan-formed (args .list) (length (args .plan .now))) (whole-places .result) (whole-places .ensures)
-    (windows .result) (windows .ensures) (c .narrowed-after .result) (rw (c .before .before .plan-checks .ensures) at (c .narrowed-after .ensures))
+    found-is (planChecks (args .list) (length (args .plan .now))) (args .list) (plan-formed (args .list) (length (args .plan .now)))
+    (whole-places .result) (whole-places .ensures)
+    (windows .result) (windows .ensures) (c .narrowed-after .result)
+    (rw (c .before .before .plan-checks .ensures) at (c .narrowed-after .ensures))
 
 -- where nothing was refused
 planning : (c : tie.After-enum-told)

@@ -23,8 +23,10 @@ found c =
     let args = c .before .before .before .before .before .args in
     let whole-places = c .before .before .before .whole-places in
     let windows = c .before .unchecked-windows in
-    found-is (shownChecks (args .list) (args .k) (length (args .plan .now))) (args .list) (shown-formed (args .list) (args .k) (length (args .plan .now))) (whole-places .result) (whole-places .ensures)
-    (windows .result) (windows .ensures) (c .narrowed-after .result) (rw (c .before .before .shown-checks .ensures) at (c .narrowed-after .ensures))
+    found-is (shownChecks (args .list) (args .k) (length (args .plan .now))) (args .list)
+    (shown-formed (args .list) (args .k) (length (args .plan .now))) (whole-places .result) (whole-places .ensures)
+    (windows .result) (windows .ensures) (c .narrowed-after .result)
+    (rw (c .before .before .shown-checks .ensures) at (c .narrowed-after .ensures))
 
 -- where nothing was refused
 planning : (c : tie.After-enum-told)
@@ -34,7 +36,8 @@ planning : (c : tie.After-enum-told)
     (narrowed .before .before .before .whole-places .result) (narrowed .narrowed-after .result)
 planning c =
     let narrowed = c .before .before in
-    is-planning (narrowed .narrowed-after .result) (λ e. shown-plan _ _ _ e .1) (narrowed .before .before .before .whole-places .ensures) (found narrowed)
+    is-planning (narrowed .narrowed-after .result) (λ e. shown-plan _ _ _ e .1) (narrowed .before .before .before .whole-places .ensures)
+    (found narrowed)
     (c .enum-told .given .1)
 
 whole-places-requires : tie.Need-whole-places-requires
@@ -66,7 +69,8 @@ returns c =
     let why = c .before .enum-told2 .given .1 in
     shown-refused (args .shown)
     (narrows-not (shownChecks (args .list) (args .k) (length (args .plan .now))) (args .list)
-    (shown-formed (args .list) (args .k) (length (args .plan .now))) (narrowed .narrowed-after .result) (found narrowed) (refused .result) _ why
+    (shown-formed (args .list) (args .k) (length (args .plan .now))) (narrowed .narrowed-after .result) (found narrowed) (refused .result)
+    _ why
     (refused .ensures))
     (narrowed .narrowed-after .result) why (found narrowed)
 

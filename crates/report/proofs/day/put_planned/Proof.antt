@@ -2,7 +2,7 @@
 -- Assumes nothing.
 use borrow.Author.Needs.{needs}
 use mathlib.Core.Path.{refl}
-use Rattle.report.proofs.DayCases.{list-few, bytes-long, bytes-room, answered-put, refused-is}
+use Rattle.report.proofs.DayCases.{answered-few, bytes-long, bytes-room, answered-put, refused-is}
 use Rattle.report.proofs.day.put_planned.Statement.{statement}
 use Rattle.report.proofs.day.put_planned.Tie as tie
 
@@ -37,7 +37,7 @@ put-day-requires c κs =
     let start = c .before .before .before .before .before .before .before .before .before .before in
     let plan-day = c .before .before .before .before .before .before .before .plan-day in
     let accepted = c .before .before .before .enum-told .given .1 in
-    list-few (start .args .list) (start .pre) _ refl (plan-day .result) _ (plan-day .ensures) accepted
+    answered-few (start .args .list) (start .pre) _ refl (plan-day .result) _ (plan-day .ensures) accepted
 
 enum-known-verdict : tie.Need-enum-known-verdict
 enum-known-verdict c = search needs
