@@ -49,21 +49,18 @@ defaultWritten f m e = (m .r && eqb (e .r) (defaultR f)) || (m .d && eqb (e .d) 
 -- rows 1 and 5 of an entry with these fields at the start of bs, what is left of the input from place at on: 1 carries the
 -- input's length, at + length bs
 abbrev pub fieldRows : Frame → ℕ → Fields → List ℕ → List Row
-fieldRows f at m bs =
-    row 1 (ltb (length bs) (sizeOf m)) (at + length bs) ∷ row 5 (defaultWritten f m (entryAt f m bs)) at ∷ []
+fieldRows f at m bs = row 1 (ltb (length bs) (sizeOf m)) (at + length bs) ∷ row 5 (defaultWritten f m (entryAt f m bs)) at ∷ []
 
 -- that entry with the bytes that it took, or the first of its rows 1, 5, 6 and 7 that holds
 unfoldable pub fieldsEntry : Frame → ℕ → Fields → List ℕ → Outcome (Entry × ℕ)
 fieldsEntry f at m bs =
-    firstOf (fieldRows f at m bs)
-    (andThen (entryFault f at (entryAt f m bs)) (λ _. answered (entryAt f m bs, sizeOf m)))
+    firstOf (fieldRows f at m bs) (andThen (entryFault f at (entryAt f m bs)) (λ _. answered (entryAt f m bs, sizeOf m)))
 
 -- The entry at the start of bs with the bytes that it took, or the first of its rows that holds: "a missing map byte is 1", then
 -- row 4, then the others.
 unfoldable pub entryOf : Frame → ℕ → List ℕ → Outcome (Entry × ℕ)
 entryOf f at bs =
-    firstOf (row 1 (eqb (length bs) 0) (at + length bs) ∷ [])
-    (andThen (mapFields at (getD bs 0 0)) (λ m. fieldsEntry f at m bs))
+    firstOf (row 1 (eqb (length bs) 0) (at + length bs) ∷ []) (andThen (mapFields at (getD bs 0 0)) (λ m. fieldsEntry f at m bs))
 
 -- the answer of reading one entry
 abbrev pub entryAnswerOf : EntryAnswer → Outcome (Entry × ℕ)

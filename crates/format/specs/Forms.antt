@@ -19,13 +19,7 @@ sealed (Number x) = true
 
 -- the fields of an entry's one form: those that are neither missing nor at their default
 abbrev pub fieldsIn : Frame → Entry → Fields
-fieldsIn f e =
-    record {
-      seal = sealed (e .seal);
-      r = not (eqb (e .r) (defaultR f));
-      d = not (eqb (e .d) (defaultD f));
-      kind = e .kind;
-    }
+fieldsIn f e = record { seal = sealed (e .seal); r = not (eqb (e .r) (defaultR f)); d = not (eqb (e .d) (defaultD f)); kind = e .kind }
 
 abbrev pub sealBytes : Seal → List ℕ
 sealBytes Missing = []
@@ -41,6 +35,4 @@ timesBytes m e = minuteBytes (m .r) (e .r) ++ (minuteBytes (m .d) (e .d) ++ u16B
 
 -- an entry's one form
 unfoldable pub entryBytes : Frame → Entry → List ℕ
-entryBytes f e =
-    mapOf (fieldsIn f e)
-    ∷ (u32Bytes (e .serial) ++ (sealBytes (e .seal) ++ timesBytes (fieldsIn f e) e))
+entryBytes f e = mapOf (fieldsIn f e) ∷ (u32Bytes (e .serial) ++ (sealBytes (e .seal) ++ timesBytes (fieldsIn f e) e))

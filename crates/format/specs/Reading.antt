@@ -35,9 +35,7 @@ bodyOf bs =
 
 -- the list that bytes say, or the first row, 1 to 8, that turns them back
 unfoldable pub readOf : List ℕ → Outcome DayList
-readOf bs =
-    firstOf (row 1 (ltb (length bs) 3) (length bs) ∷ [])
-    (andThen (headerFault 2 (frameOf bs) (countOf bs)) (λ _. bodyOf bs))
+readOf bs = firstOf (row 1 (ltb (length bs) 3) (length bs) ∷ []) (andThen (headerFault 2 (frameOf bs) (countOf bs)) (λ _. bodyOf bs))
 
 -- the list that stands in an answer: the one read, or the empty one beside a refusal
 abbrev pub listOr : Outcome DayList → DayList

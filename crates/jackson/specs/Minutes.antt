@@ -57,9 +57,7 @@ pub record MinuteAnswer : Type 0 where
 -- "Each minute takes the day's state and gives the next one." A day past its end is idle and stays as it is.
 unfoldable pub minuteOf : State → MinuteAnswer
 minuteOf s =
-    cond (ltb (s .t) (s .windows .h))
-    (let k = chosen s in record { place = k; next = after s k })
-    (record { place = idle; next = s })
+    cond (ltb (s .t) (s .windows .h)) (let k = chosen s in record { place = k; next = after s k }) (record { place = idle; next = s })
 
 -- the state k minutes later
 unfoldable pub later : ℕ → State → State

@@ -27,15 +27,11 @@ failedEnds test w k = firstBelow (trials w k) (λ j. accepts (test (fixedUpTo w 
 
 -- "its r becomes the least s .. or the list is refused", by row 10, which carries the place
 unfoldable pub leastStart : Test → Windows → ℕ → Outcome ℕ
-leastStart test w k =
-    let j = failedStarts test w k in
-    firstOf (row 10 (eqb j (trials w k)) k ∷ []) (answered (w .r k + j))
+leastStart test w k = let j = failedStarts test w k in firstOf (row 10 (eqb j (trials w k)) k ∷ []) (answered (w .r k + j))
 
 -- "Then its d becomes the greatest e"; where there is none, row 10, which only a list of steps meets
 unfoldable pub greatestEnd : Test → Windows → ℕ → Outcome ℕ
-greatestEnd test w k =
-    let j = failedEnds test w k in
-    firstOf (row 10 (eqb j (trials w k)) k ∷ []) (answered (w .d k - j))
+greatestEnd test w k = let j = failedEnds test w k in firstOf (row 10 (eqb j (trials w k)) k ∷ []) (answered (w .d k - j))
 
 -- What they find, said of plans and not of the test.
 

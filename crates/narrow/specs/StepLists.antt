@@ -32,9 +32,7 @@ stepsLeave test (s ∷ ss) w = stepsLeave test ss (leftBy (step test (s .side) (
 -- whether one of its steps is refused
 unfoldable pub someRefused : Test → List Step → Windows → Bool
 someRefused test [] w = false
-someRefused test (s ∷ ss) w =
-    let o = step test (s .side) (s .place) w in
-    not (accepts o) || someRefused test ss (leftBy o w)
+someRefused test (s ∷ ss) w = let o = step test (s .side) (s .place) w in not (accepts o) || someRefused test ss (leftBy o w)
 
 -- no step would now change a window or be refused
 abbrev pub NothingLeft : Test → (ℕ → Bool) → Windows → Type 0

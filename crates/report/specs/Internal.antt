@@ -39,8 +39,7 @@ entriesText l ends starts = entryLines l (λ i. getD ends i 0) (λ i. getD start
 
 -- the end of an entry's line, from the space before r on
 abbrev pub timesText : Entry → ℕ → ℕ → List ℕ
-timesText e end start =
-    ascii " " ++ line (decimal (e .r) ∷ decimal (e .d) ∷ decimal (e .p) ∷ decimal end ∷ decimal start ∷ [])
+timesText e end start = ascii " " ++ line (decimal (e .r) ∷ decimal (e .d) ∷ decimal (e .p) ∷ decimal end ∷ decimal start ∷ [])
 
 -- what stands after a refusal's number, without the newline
 abbrev pub carriedText : ℕ → List ℕ → List ℕ

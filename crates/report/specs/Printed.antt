@@ -152,10 +152,8 @@ toldBy text =
 -- "the number, then what it carries": three values after 9 and one after any other number, each after a word
 unfoldable pub codePrinted : List ℕ → Code
 codePrinted text =
-    let value = numberIn (lineAt text 0) in
-    code (value 1) (cond (eqb (value 1) 9) (value 3 ∷ value 5 ∷ value 7 ∷ []) (value 3 ∷ []))
+    let value = numberIn (lineAt text 0) in code (value 1) (cond (eqb (value 1) 9) (value 3 ∷ value 5 ∷ value 7 ∷ []) (value 3 ∷ []))
 
 -- the refusal printed, which has no bounds and plans beside it
 abbrev pub toldRefused : List ℕ → Told
-toldRefused text =
-    record { outcome = refused (codePrinted text); end = λ _. 0; start = λ _. 0; early = λ _. []; late = λ _. [] }
+toldRefused text = record { outcome = refused (codePrinted text); end = λ _. 0; start = λ _. 0; early = λ _. []; late = λ _. [] }

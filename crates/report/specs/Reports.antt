@@ -29,16 +29,7 @@ use Rattle.report.specs.Runs.{beginsRun, runEnd}
 -- "a head line with H, n, the moves and `broken`"
 unfoldable pub headLine : ℕ → ℕ → ℕ → ℕ → List ℕ
 headLine h n moves broken =
-    line
-    (ascii "day"
-    ∷ decimal h
-    ∷ ascii "entries"
-    ∷ decimal n
-    ∷ ascii "moves"
-    ∷ decimal moves
-    ∷ ascii "broken"
-    ∷ decimal broken
-    ∷ [])
+    line (ascii "day" ∷ decimal h ∷ ascii "entries" ∷ decimal n ∷ ascii "moves" ∷ decimal moves ∷ ascii "broken" ∷ decimal broken ∷ [])
 
 -- "seal or `-`"
 abbrev pub sealText : Seal → List ℕ
@@ -54,16 +45,8 @@ kindText Whole = ascii "whole"
 unfoldable pub entryLine : ℕ → Entry → ℕ → ℕ → List ℕ
 entryLine place e end start =
     line
-    (decimal place
-    ∷ decimal (e .serial)
-    ∷ sealText (e .seal)
-    ∷ kindText (e .kind)
-    ∷ decimal (e .r)
-    ∷ decimal (e .d)
-    ∷ decimal (e .p)
-    ∷ decimal end
-    ∷ decimal start
-    ∷ [])
+    (decimal place ∷ decimal (e .serial) ∷ sealText (e .seal) ∷ kindText (e .kind)
+    ∷ decimal (e .r) ∷ decimal (e .d) ∷ decimal (e .p) ∷ decimal end ∷ decimal start ∷ [])
 
 -- the line of the entry at place i of a list, with its least end and its greatest start
 abbrev pub entryLineAt : DayList → (ℕ → ℕ) → (ℕ → ℕ) → ℕ → List ℕ

@@ -77,6 +77,21 @@ fn the_command_names_each_crate_that_is_proved() {
     assert_eq!(log, said);
 }
 
+/// Where there is no program yet, the crates that it is made of are named first, in the order of crates.txt.
+#[test]
+fn the_command_names_what_will_be_proved() {
+    let folder = beside_rt("rt-builds", "cp dock target/bin/dock; echo 'rt: base proved (1 s)'");
+    fs::rename(folder.join("target/bin/dock"), folder.join("dock")).expect("no program");
+    fs::copy(root().join("crates.txt"), folder.join("crates.txt")).expect("a list of crates");
+    let (output, _) = run_beside_rt(&folder);
+    assert!(output.status.success());
+    assert_eq!(
+        String::from_utf8_lossy(&output.stderr),
+        "dock-report: first these are proved, which takes some minutes: base list format jackson codes narrow bounds \
+         planner report dock\ndock-report: base proved (1 s)\n"
+    );
+}
+
 #[test]
 fn the_command_shows_why_the_program_is_not_built() {
     let folder =
