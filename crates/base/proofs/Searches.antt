@@ -2,7 +2,7 @@
 -- Assumes nothing.
 use mathlib.Core.Path.{_≡_, refl, sym, ap, _∙_}
 use mathlib.Core.Bool.{Bool, true, false, cond, false≢true}
-use Prim.Native.Nat.{ℕ, zero, suc, _-_, _<_, _≤_}
+use Prim.Native.Nat.{ℕ, zero, suc, _+_, _-_, _<_, _≤_}
 use native.Mathlib.Omega.{arith}
 use Rattle.base.specs.Counting.{firstBelow, lastBelow}
 use Rattle.base.proofs.Sums.{le-or-lt}
@@ -34,6 +34,37 @@ one-first n f s t a b =
     le-or-lt s t
     (λ l. le-or-lt t s (λ m. omega arith) (λ m. absurd (b .none-before s m (a .passes (omega (arith, b .within))))))
     (λ l. absurd (a .none-before t l (b .passes (omega (arith, a .within)))))
+
+-- A walk for the first: nothing below i passes.
+pub record Passed (n : ℕ) (f : ℕ → Bool) (i : ℕ) : Type 0 where
+  pub within : i ≤ n
+  pub none-before : (j : ℕ) → j < i → f j ≡ true → ⊥
+
+module _ (n : ℕ) (f : ℕ → Bool) where
+  pub passed-none : Passed n f 0
+  passed-none = record { within = omega arith; none-before = λ j h _. omega arith }
+
+  module _ (i : ℕ) (so : Passed n f i) where
+    pub passed-next : i < n → f i ≡ false → Passed n f (i + 1)
+    passed-next h e =
+        record {
+          within = omega arith;
+          none-before = λ j l p. le-or-lt i j
+              (λ a.
+              let z : j ≡ i = omega (arith, l) in
+              false≢true (sym e ∙ (rw z at p)))
+              (λ a. so .none-before j a p);
+        }
+
+    passed-first : (i < n → f i ≡ true) → firstBelow n f ≡ i
+    passed-first p =
+        one-first n f (firstBelow n f) i (first-below n f) (record { within = so .within; passes = p; none-before = so .none-before })
+
+    pub passed-found : f i ≡ true → firstBelow n f ≡ i
+    passed-found e = passed-first (λ _. e)
+
+    pub passed-all : n ≤ i → firstBelow n f ≡ n
+    passed-all h = let z : i ≡ n = omega (arith, so .within) in passed-first (λ l. absurd (omega arith)) ∙ z
 
 -- a search looks at the tests below n alone
 pub first-cong : (n : ℕ) (f g : ℕ → Bool) → ((i : ℕ) → i < n → f i ≡ g i) → firstBelow n f ≡ firstBelow n g

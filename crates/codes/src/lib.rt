@@ -45,5 +45,6 @@ pub fn numbers_of(x: Refusal) -> RefusalCode
         Refusal::PlanBufferShort(h) => with_one(11, h),
         Refusal::ListBufferShort(needed) => with_one(12, needed),
         Refusal::UnknownPlace(place) => with_one(13, place),
+        Refusal::SerialClash(at) => with_one(14, at),
     }
 }

@@ -38,7 +38,7 @@ abbrev pub stored : Outcome ℕ → List ℕ → List ℕ → List ℕ
 stored (answered n) bytes old = bytes ++ drop n old
 stored (refused k) bytes old = old
 
--- the number of bytes written to a buffer of the length given, or the first row, 2, 3, 6, 7 and 12, that turns the list back
+-- the number of bytes written to a buffer of the length given, or the first row, 2, 3, 6, 7, 14 and 12, that turns the list back
 unfoldable pub writeOf : DayList → ℕ → Outcome ℕ
 writeOf l room = andThen (checkOf l) (λ _. storing (bytesOf l) room)
 

@@ -2,19 +2,23 @@
 use crate::bytes::u16_at;
 use crate::entry::EntryAnswer;
 use crate::entry::read_entry;
+use crate::writer::list_size;
 use list::empty_list;
+use list::first_clash;
 use list::header_fault;
+use list::places_held;
 use list::types::DayList;
 use list::types::Frame;
 use list::types::ReadAnswer;
 use list::types::Refusal;
 use list::types::Verdict;
 ghost use mathlib.Core.Path.{_≡_};
-ghost use Prim.Native.Nat.{_≤_};
+ghost use Prim.Native.Nat.{_≤_, _<_};
 ghost use lib.ListN.{length};
 ghost use Rattle.list.specs.DayLists.{emptyList, mostEntries};
-ghost use Rattle.format.specs.Reading.{frameOf, countOf, bodyOf};
-ghost use Rattle.format.specs.Internal.{ReadsAs};
+ghost use Rattle.format.specs.Reading.{frameOf, countOf, bodyOf, decodeOf};
+ghost use Rattle.format.specs.Internal.{ReadsAs, firstEntries};
+ghost use Rattle.format.specs.Writing.{bytesOf};
 ghost use Rattle.format.specs.Calls.{Reads};
 
 // A refusal, with the empty list beside it.
@@ -62,9 +66,9 @@ fn read_body(bytes: &[u8], frame: Frame, n: u8) -> ReadAnswer
     }
 }
 
-// The list that bytes say, or why they are turned back.
-pub fn read(bytes: &[u8]) -> ReadAnswer
-    ensures { λ a. ⌜ Reads (now (bytes .entry)) a ⌝ }
+// Rows 1 to 8.
+fn decode(bytes: &[u8]) -> ReadAnswer
+    ensures { λ a. ⌜ ReadsAs (decodeOf (now (bytes .entry))) a ⌝ }
 {
     if bytes.len() < 3 {
         return read_refused(Refusal::BytesMissing(bytes.len()));
@@ -78,4 +82,33 @@ pub fn read(bytes: &[u8]) -> ReadAnswer
         Verdict::Accepted => read_body(bytes, frame, n),
         Verdict::Refused(x) => read_refused(x),
     }
+}
+
+// The place of the map byte of a list's entry: where the list of the entries before it would end.
+fn map_place(list: DayList, entry: usize) -> usize
+    requires { ⌜ entry < mostEntries ⌝ }
+    ensures { λ at. ⌜ at ≡ length (bytesOf (firstEntries list entry)) ⌝ }
+{
+    let entries = list.entries;
+    list_size(DayList {
+        frame: list.frame,
+        n: entry as u8,
+        entries: entries,
+    })
+}
+
+// The list that bytes say, or why they are turned back: rows 1 to 8, then 14.
+pub fn read(bytes: &[u8]) -> ReadAnswer
+    ensures { λ a. ⌜ Reads (now (bytes .entry)) a ⌝ }
+{
+    let answer = decode(bytes);
+    let verdict = answer.verdict;
+    let Verdict::Accepted = verdict else {
+        return answer;
+    };
+    let entry = first_clash(answer.list);
+    if entry < places_held(answer.list.n) {
+        return read_refused(Refusal::SerialClash(map_place(answer.list, entry)));
+    }
+    answer
 }

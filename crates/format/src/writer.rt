@@ -17,7 +17,7 @@ ghost use Rattle.format.specs.Calls.{Writes};
 ghost use Rattle.list.specs.DayLists.{mostEntries};
 
 // The bytes of a list's one form.
-fn list_size(list: DayList) -> usize
+pub(crate) fn list_size(list: DayList) -> usize
     requires { ⌜ list .n ≤ mostEntries ⌝ }
     ensures { λ k. ⌜ k ≡ length (bytesOf list) ⌝ }
 {

@@ -1,4 +1,4 @@
--- The value check, case by case: what code knows at the header, at each entry, and after the last.
+-- The value check, case by case: what code knows at the header, at each entry, after the last, and of entries that clash.
 -- Assumes nothing.
 use mathlib.Core.Path.{_≡_}
 use mathlib.Core.List.{[], _∷_}
@@ -9,7 +9,7 @@ use Rattle.base.specs.Outcomes.{Outcome, answered, andThen, code, refused}
 use Rattle.list.specs.Refusals.{verdictOf}
 use Rattle.list.specs.Entries.{entryFault}
 use Rattle.list.specs.DayLists.{entriesOf}
-use Rattle.list.specs.Checks.{headerFault, entriesFault, checkOf}
+use Rattle.list.specs.Checks.{headerFault, entriesFault, valuesFault}
 use Rattle.list.specs.declared.types.Entry.{Entry}
 use Rattle.list.specs.declared.types.Frame.{Frame}
 use Rattle.list.specs.declared.types.DayList.{DayList}
@@ -52,14 +52,14 @@ module _ (l : DayList) where
   faultFrom i = entriesFault (l .frame) i (drop i (entriesOf l))
 
   -- the header is turned back, or the entries decide
-  pub check-header : (v : Verdict) (x : Refusal) → verdictOf v ≡ headerFault 0 (l .frame) (l .n) → v ≡ Refused x
-      → verdictOf v ≡ checkOf l
-  unfolding checkOf
-  check-header v x w a = rw (← w, a)
+  pub values-header : (v : Verdict) (x : Refusal) → verdictOf v ≡ headerFault 0 (l .frame) (l .n) → v ≡ Refused x
+      → verdictOf v ≡ valuesFault l
+  unfolding valuesFault
+  values-header v x w a = rw (← w, a)
 
-  pub check-entries : (v : Verdict) → verdictOf v ≡ headerFault 0 (l .frame) (l .n) → v ≡ Accepted → checkOf l ≡ faultFrom 0
-  unfolding checkOf
-  check-entries v w a = rw (← w, a)
+  pub values-entries : (v : Verdict) → verdictOf v ≡ headerFault 0 (l .frame) (l .n) → v ≡ Accepted → valuesFault l ≡ faultFrom 0
+  unfolding valuesFault
+  values-entries v w a = rw (← w, a)
 
   module _ (enough : l .n ≤ length (l .entries)) (i : ℕ) (e₀ : Entry) (v : Verdict)
       (w : verdictOf v ≡ entryFault (l .frame) i (getD (l .entries) i e₀)) (h : i < l .n) where
@@ -67,12 +67,12 @@ module _ (l : DayList) where
     unfolding entriesFault
     turn = rw (walk-next (l .entries) (l .n) enough i e₀ h, w)
 
-    pub check-refused : (x : Refusal) → v ≡ Refused x → verdictOf v ≡ faultFrom i
-    check-refused x a = rw (turn, a)
+    pub values-refused : (x : Refusal) → v ≡ Refused x → verdictOf v ≡ faultFrom i
+    values-refused x a = rw (turn, a)
 
-    pub check-next : v ≡ Accepted → faultFrom i ≡ faultFrom (i + 1)
-    check-next a = rw (turn, a)
+    pub values-next : v ≡ Accepted → faultFrom i ≡ faultFrom (i + 1)
+    values-next a = rw (turn, a)
 
-  pub check-done : (enough : l .n ≤ length (l .entries)) (i : ℕ) → l .n ≤ i → faultFrom i ≡ answered tt
+  pub values-done : (enough : l .n ≤ length (l .entries)) (i : ℕ) → l .n ≤ i → faultFrom i ≡ answered tt
   unfolding entriesFault
-  check-done enough i h = rw (walk-done (l .entries) (l .n) enough i h)
+  values-done enough i h = rw (walk-done (l .entries) (l .n) enough i h)

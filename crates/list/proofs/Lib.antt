@@ -1,10 +1,13 @@
--- Theory, which the crates above may cite: what a well-formed list is, what a verdict tells and that number and values tell one, what the
+-- Theory, which the crates above may cite: entries that clash, what a well-formed list is, what a verdict tells and that number and values tell one, what the
 -- machine's types say of a list, lists that are filled from their first place on, and arrays that hold a field of the entries.
+pub mod ClashFacts
 pub mod Sound
+pub mod ClashLaws
 pub mod Verdicts
 pub mod InTypes
 pub mod Filling
 pub mod Columns
 -- What the code's proofs cite, case by case.
 mod CheckCases
+mod ClashCases
 mod PlaceCases

@@ -1,20 +1,23 @@
--- What the value check accepts: a header and entries that rows 2, 3, 6 and 7 leave, and exactly those.
+-- What the value check accepts: a header and entries that rows 2, 3, 6 and 7 leave, of which no two clash, and exactly those.
 -- Assumes nothing.
 use mathlib.Core.Path.{_≡_, refl}
 use mathlib.Core.Bool.{_||_}
 use mathlib.Core.List.{List, [], _∷_}
 use Prim.Native.Nat.{ℕ, _+_, _≤_}
 use native.Mathlib.Omega.{arith}
-use borrow.Author.Tests.{ltb-false, eqb-false, le-ltb, ne-eqb}
+use borrow.Author.Tests.{ltb-true, ltb-false, eqb-false, le-ltb, ne-eqb}
 use lib.Dec.{eqb, ltb}
+use lib.ListN.{length}
 use Rattle.base.specs.Outcomes.{Code, code, answered}
 use Rattle.list.specs.Entries.{entryFault}
 use Rattle.list.specs.DayLists.{entriesOf}
-use Rattle.list.specs.Checks.{headerFault, entriesFault, checkOf, WellFormed}
+use Rattle.list.specs.Clashes.{firstClash, Apart, FirstClash}
+use Rattle.list.specs.Checks.{headerFault, entriesFault, valuesFault, checkOf, WellFormed}
 use Rattle.list.specs.declared.types.Entry.{Entry}
 use Rattle.list.specs.declared.types.Frame.{Frame}
 use Rattle.list.specs.declared.types.DayList.{DayList}
 use Rattle.base.proofs.Inversion.{Says, by-row, by-step, Anything, neither}
+use Rattle.list.proofs.ClashFacts.{apart, first-clash, apart-told}
 
 -- what rows 2 and 3 leave
 pub record Header (f : Frame) (n : ℕ) : Type 0 where
@@ -87,29 +90,55 @@ module _ (f : Frame) where
   checked-passes i [] s = refl
   checked-passes i (e ∷ es) s = rw (faultless f i e (s .0)) (checked-passes (i + 1) es (s .1))
 
--- a list's header and entries are sound
+-- a list's header and each of its entries are sound
 pub record SoundList (l : DayList) : Type 0 where
   pub header : Header (l .frame) (l .n)
   pub entries : Every (Sound (l .frame)) (entriesOf l)
 
 module _ (l : DayList) where
-  -- what the value check says: of a refusal, whatever holds of rows 2, 3, 6 and 7
+  -- what rows 2, 3, 6 and 7 say: of a refusal, whatever holds of each
+  values-say : (R : Code → Type 0)
+      → R (code 2 (0 ∷ []))
+      → R (code 3 (0 ∷ []))
+      → ((at : ℕ) → R (code 6 (at ∷ [])))
+      → ((at : ℕ) → R (code 7 (at ∷ [])))
+      → Says (λ _. SoundList l) R (valuesFault l)
+  unfolding valuesFault
+  values-say R two three six seven =
+      let f = l .frame in
+      by-step (λ _. Header f (l .n)) R (λ _. SoundList l) (headerFault 0 f (l .n)) _ (header-says 0 f (l .n) R two three)
+      (λ _ h. checked-say (l .frame) R six seven (SoundList l) 0 (entriesOf l) (λ s. record { header = h; entries = s }))
+
+  pub sound-values : SoundList l → valuesFault l ≡ answered tt
+  unfolding valuesFault
+  sound-values s = rw (header-passes 0 (l .frame) (l .n) (s .header)) (checked-passes (l .frame) 0 (entriesOf l) (s .entries))
+
+  -- what the value check says: of a refusal, whatever holds of rows 2, 3, 6, 7 and 14
   pub check-says : (R : Code → Type 0)
       → R (code 2 (0 ∷ []))
       → R (code 3 (0 ∷ []))
       → ((at : ℕ) → R (code 6 (at ∷ [])))
       → ((at : ℕ) → R (code 7 (at ∷ [])))
-      → Says (λ _. SoundList l) R (checkOf l)
+      → ((valuesFault l ≡ answered tt) → FirstClash (entriesOf l) (firstClash (entriesOf l)) → R (code 14 (firstClash (entriesOf l) ∷ [])))
+      → Says (λ _. SoundList l × Apart (entriesOf l)) R (checkOf l)
   unfolding checkOf
-  check-says R two three six seven =
-      let f = l .frame in
-      by-step (λ _. Header f (l .n)) R (λ _. SoundList l) (headerFault 0 f (l .n)) _ (header-says 0 f (l .n) R two three)
-      (λ _ h. checked-say (l .frame) R six seven (SoundList l) 0 (entriesOf l) (λ s. record { header = h; entries = s }))
+  check-says R two three six seven fourteen =
+      let es = entriesOf l in
+      by-step (λ _. SoundList l) R (λ _. SoundList l × Apart es) (valuesFault l) _ (values-say R two three six seven)
+      (λ _ s. by-row (λ _. SoundList l × Apart es) R (ltb (firstClash es) (length es)) _ _
+      (λ t. fourteen (sound-values s) (first-clash es (ltb-true _ _ t)))
+      (λ t. (s, apart es (ltb-false _ _ t))))
 
-  -- a list is well-formed exactly if it is sound
+  -- a list is well-formed exactly if its header and its entries are sound and no two entries clash
+  passed : WellFormed l → SoundList l × Apart (entriesOf l)
+  passed w = rw w at (check-says Anything tt tt (λ _. tt) (λ _. tt) (λ _ _. tt))
+
   pub sound-list : WellFormed l → SoundList l
-  sound-list w = rw w at (check-says Anything tt tt (λ _. tt) (λ _. tt))
+  sound-list w = passed w .0
 
-  pub well-formed : SoundList l → WellFormed l
+  pub list-apart : WellFormed l → Apart (entriesOf l)
+  list-apart w = passed w .1
+
+  pub well-formed : SoundList l → Apart (entriesOf l) → WellFormed l
   unfolding checkOf
-  well-formed s = rw (header-passes 0 (l .frame) (l .n) (s .header)) (checked-passes (l .frame) 0 (entriesOf l) (s .entries))
+  well-formed s none = rw (sound-values s, le-ltb _ _ (apart-told (entriesOf l) none)) refl

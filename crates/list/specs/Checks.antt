@@ -1,4 +1,6 @@
 -- "A list handed over as a value is tested for 2, 3, then 6 and 7 per entry; 2 and 3 then carry 0, 6 and 7 the entry's place."
+-- And of document 02: "Such an entry, the first in list order, is refused as 14, .. after the last 7 for a value, and carries .. its entry's
+-- place."
 use Prim.Native.Nat.{ℕ, _+_}
 use mathlib.Core.Path.{_≡_}
 use mathlib.Core.Bool.{_||_}
@@ -7,6 +9,7 @@ use lib.Dec.{eqb, ltb}
 use Rattle.base.specs.Outcomes.{Outcome, answered, Row, row, firstOf, andThen}
 use Rattle.list.specs.Entries.{entryFault}
 use Rattle.list.specs.DayLists.{mostEntries, longestDay, entriesOf}
+use Rattle.list.specs.Clashes.{clashRow}
 use Rattle.list.specs.declared.types.Entry.{Entry}
 use Rattle.list.specs.declared.types.Frame.{Frame}
 use Rattle.list.specs.declared.types.DayList.{DayList}
@@ -23,9 +26,13 @@ unfoldable pub entriesFault : Frame → ℕ → List Entry → Outcome (Unit {0}
 entriesFault f i [] = answered tt
 entriesFault f i (e ∷ es) = andThen (entryFault f i e) (λ _. entriesFault f (i + 1) es)
 
--- the value check
+-- rows 2, 3, 6 and 7: the header, and each entry by itself
+unfoldable pub valuesFault : DayList → Outcome (Unit {0})
+valuesFault l = andThen (headerFault 0 (l .frame) (l .n)) (λ _. entriesFault (l .frame) 0 (entriesOf l))
+
+-- the value check: those, then row 14
 unfoldable pub checkOf : DayList → Outcome (Unit {0})
-checkOf l = andThen (headerFault 0 (l .frame) (l .n)) (λ _. entriesFault (l .frame) 0 (entriesOf l))
+checkOf l = andThen (valuesFault l) (λ _. firstOf (clashRow (λ place. place) (entriesOf l) ∷ []) (answered tt))
 
 -- a well-formed list: one that the value check accepts
 abbrev pub WellFormed : DayList → Type 0

@@ -5,7 +5,7 @@ use Rattle.base.specs.Outcomes.{Code, code, Outcome, answered, refused}
 use Rattle.list.specs.declared.types.Refusal.{Refusal}
 use Rattle.list.specs.declared.types.Refusal.the-variants.{BytesMissing, BadDayLength, TooManyEntries, BadMapByte, DefaultWritten}
 use Rattle.list.specs.declared.types.Refusal.the-variants.{NoMinutes, BadWindow, BytesLeftOver, Overloaded, NoPlace, PlanBufferShort}
-use Rattle.list.specs.declared.types.Refusal.the-variants.{ListBufferShort, UnknownPlace}
+use Rattle.list.specs.declared.types.Refusal.the-variants.{ListBufferShort, UnknownPlace, SerialClash}
 use Rattle.list.specs.declared.types.Verdict.{Verdict}
 use Rattle.list.specs.declared.types.Verdict.the-variants.{Accepted, Refused}
 use Rattle.list.specs.declared.types.DayList.{DayList}
@@ -27,6 +27,7 @@ codeOf (NoPlace place) = code 10 (place ∷ [])
 codeOf (PlanBufferShort h) = code 11 (h ∷ [])
 codeOf (ListBufferShort needed) = code 12 (needed ∷ [])
 codeOf (UnknownPlace place) = code 13 (place ∷ [])
+codeOf (SerialClash at) = code 14 (at ∷ [])
 
 -- a verdict with what stands beside Accepted
 abbrev pub outcomeOf : {A : Type 0} → Verdict → A → Outcome A

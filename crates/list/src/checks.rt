@@ -1,4 +1,6 @@
-// The tests of list values: rows 2, 3, 6 and 7; and whether a verdict is no refusal.
+// The tests of list values: rows 2, 3, 6, 7 and 14; and whether a verdict is no refusal.
+use crate::clashes::first_clash;
+use crate::places::places_held;
 use crate::types::DayList;
 use crate::types::ENTRIES;
 use crate::types::Entry;
@@ -10,7 +12,7 @@ ghost use mathlib.Core.Path.{_≡_};
 ghost use Rattle.base.specs.Outcomes.{accepts};
 ghost use Rattle.list.specs.Refusals.{verdictOf};
 ghost use Rattle.list.specs.Entries.{entryFault};
-ghost use Rattle.list.specs.Checks.{headerFault, checkOf};
+ghost use Rattle.list.specs.Checks.{headerFault, valuesFault, checkOf};
 
 // Rows 2 and 3; 3 carries the place given.
 pub fn header_fault(place: usize, frame: Frame, n: u8) -> Verdict
@@ -45,9 +47,9 @@ pub fn entry_fault(frame: Frame, place: usize, e: Entry) -> Verdict
     Verdict::Accepted
 }
 
-// The value check: 2, 3, then 6 and 7 entry by entry. Only the first n entries are looked at.
-pub fn check(list: DayList) -> Verdict
-    ensures { λ v. ⌜ verdictOf v ≡ checkOf list ⌝ }
+// Rows 2, 3, then 6 and 7 entry by entry. Only the first n entries are looked at.
+fn values_fault(list: DayList) -> Verdict
+    ensures { λ v. ⌜ verdictOf v ≡ valuesFault list ⌝ }
 {
     let n = list.n;
     let header = header_fault(0, list.frame, n);
@@ -62,6 +64,21 @@ pub fn check(list: DayList) -> Verdict
             return fault;
         };
         i += 1;
+    }
+    Verdict::Accepted
+}
+
+// The value check: 2, 3, then 6 and 7 entry by entry, then 14.
+pub fn check(list: DayList) -> Verdict
+    ensures { λ v. ⌜ verdictOf v ≡ checkOf list ⌝ }
+{
+    let fault = values_fault(list);
+    let Verdict::Accepted = fault else {
+        return fault;
+    };
+    let place = first_clash(list);
+    if place < places_held(list.n) {
+        return Verdict::Refused(Refusal::SerialClash(place));
     }
     Verdict::Accepted
 }

@@ -40,7 +40,7 @@ pub struct DayList {
     pub entries: [Entry; ENTRIES],
 }
 
-// The refusals of every call of the planner, a case for each number of "Where a list is turned back".
+// The refusals of every call of the planner, a case for each number of "Where a list is turned back" and of document 02's requests.
 // specs/Refusals.antt has each case's number and the values that it carries.
 pub enum Refusal {
     // 1: bytes are missing; the input's length.
@@ -69,6 +69,8 @@ pub enum Refusal {
     ListBufferShort(usize),
     // 13: the place asked is n or more; that place.
     UnknownPlace(usize),
+    // 14: the window shares a minute with that of an earlier entry of the same serial; the map byte's place, or the entry's for a value.
+    SerialClash(usize),
 }
 
 // What a test of a list answers.
