@@ -24,6 +24,16 @@ fn with_one(number: u64, value: usize) -> RefusalCode
     }
 }
 
+// One that carries an interval's ends and its work.
+fn with_interval(number: u64, a: u16, b: u16, work: u32) -> RefusalCode
+    ensures { λ c. ⌜ c ≡ numbersOf (code number (a ∷ b ∷ work ∷ [])) ⌝ }
+{
+    RefusalCode {
+        number: number,
+        values: [a as u64, b as u64, work as u64],
+    }
+}
+
 // The one place in code that goes through all refusals, as `codeOf` does among the definitions.
 pub fn numbers_of(x: Refusal) -> RefusalCode
     ensures { λ c. ⌜ c ≡ numbersOf (codeOf x) ⌝ }
@@ -37,10 +47,7 @@ pub fn numbers_of(x: Refusal) -> RefusalCode
         Refusal::NoMinutes(at) => with_one(6, at),
         Refusal::BadWindow(at) => with_one(7, at),
         Refusal::BytesLeftOver(at) => with_one(8, at),
-        Refusal::Overloaded(a, b, work) => RefusalCode {
-            number: 9,
-            values: [a as u64, b as u64, work as u64],
-        },
+        Refusal::Overloaded(a, b, work) => with_interval(9, a, b, work),
         Refusal::NoPlace(place) => with_one(10, place),
         Refusal::PlanBufferShort(h) => with_one(11, h),
         Refusal::ListBufferShort(needed) => with_one(12, needed),

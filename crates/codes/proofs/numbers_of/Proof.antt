@@ -2,26 +2,20 @@
 -- Assumes nothing.
 use borrow.Author.Needs.{needs}
 use mathlib.Core.Path.{_≡_, refl}
-use mathlib.Core.List.{[], _∷_}
+use mathlib.Core.List.{List}
 use Prim.Native.Nat.{ℕ}
 use Rattle.base.specs.Outcomes.{code}
 use Rattle.list.specs.Refusals.{codeOf}
 use Rattle.codes.specs.Codes.{numbersOf}
 use Rattle.list.specs.declared.types.Refusal.{Refusal}
-use Rattle.list.specs.declared.types.Refusal.the-variants.{Overloaded}
 use Rattle.codes.specs.declared.RefusalCode.{RefusalCode}
 use Rattle.codes.proofs.numbers_of.Statement.{statement}
 use Rattle.codes.proofs.numbers_of.Tie as tie
 
--- the refusal that carries three values
-three-values : {x : Refusal} {a b work : ℕ} → x ≡ Overloaded a b work
-    → record { number = 9; values = a ∷ b ∷ work ∷ [] } ≡ numbersOf (codeOf x)
-three-values q = rw q
-
--- a refusal that carries one value
-one-value : {r : RefusalCode} {x y : Refusal} {k v : ℕ} → r ≡ numbersOf (code k (v ∷ [])) → x ≡ y
-    → codeOf y ≡ code k (v ∷ []) → r ≡ numbersOf (codeOf x)
-one-value p q s = rw (p, q, s)
+-- the values that a refusal carries
+carried : {r : RefusalCode} {x y : Refusal} {k : ℕ} {vs : List ℕ} → r ≡ numbersOf (code k vs) → x ≡ y → codeOf y ≡ code k vs
+    → r ≡ numbersOf (codeOf x)
+carried p q s = rw (p, q, s)
 
 enum-known-x : tie.Need-enum-known-x
 enum-known-x c = search needs
@@ -74,14 +68,8 @@ with-one-requires-8 c κs = search needs
 enum-known-x-8 : tie.Need-enum-known-x-8
 enum-known-x-8 c = search needs
 
-cast-t17 : tie.Need-cast-t17
-cast-t17 c = search needs
-
-cast-t18 : tie.Need-cast-t18
-cast-t18 c = search needs
-
-cast-t19 : tie.Need-cast-t19
-cast-t19 c = search needs
+with-interval-requires : tie.Need-with-interval-requires
+with-interval-requires c κs = search needs
 
 enum-known-x-9 : tie.Need-enum-known-x-9
 enum-known-x-9 c = search needs
@@ -107,44 +95,53 @@ enum-known-x-12 c = search needs
 with-one-requires-12 : tie.Need-with-one-requires-12
 with-one-requires-12 c κs = search needs
 
+enum-known-x-13 : tie.Need-enum-known-x-13
+enum-known-x-13 c = search needs
+
+with-one-requires-13 : tie.Need-with-one-requires-13
+with-one-requires-13 c κs = search needs
+
 returns : tie.Need-returns
-returns c = one-value (c .with-one .ensures) (c .before .before .x .given .1) refl
+returns c = carried (c .with-one .ensures) (c .before .before .x .given .1) refl
 
 returns-2 : tie.Need-returns-2
-returns-2 c = one-value (c .with-one2 .ensures) (c .before .enum-told .given .1) refl
+returns-2 c = carried (c .with-one2 .ensures) (c .before .enum-told .given .1) refl
 
 returns-3 : tie.Need-returns-3
-returns-3 c = one-value (c .with-one3 .ensures) (c .before .before .x2 .given .1) refl
+returns-3 c = carried (c .with-one3 .ensures) (c .before .before .x2 .given .1) refl
 
 returns-4 : tie.Need-returns-4
-returns-4 c = one-value (c .with-one4 .ensures) (c .before .before .x3 .given .1) refl
+returns-4 c = carried (c .with-one4 .ensures) (c .before .before .x3 .given .1) refl
 
 returns-5 : tie.Need-returns-5
-returns-5 c = one-value (c .with-one5 .ensures) (c .before .before .x4 .given .1) refl
+returns-5 c = carried (c .with-one5 .ensures) (c .before .before .x4 .given .1) refl
 
 returns-6 : tie.Need-returns-6
-returns-6 c = one-value (c .with-one6 .ensures) (c .before .before .x5 .given .1) refl
+returns-6 c = carried (c .with-one6 .ensures) (c .before .before .x5 .given .1) refl
 
 returns-7 : tie.Need-returns-7
-returns-7 c = one-value (c .with-one7 .ensures) (c .before .before .x6 .given .1) refl
+returns-7 c = carried (c .with-one7 .ensures) (c .before .before .x6 .given .1) refl
 
 returns-8 : tie.Need-returns-8
-returns-8 c = one-value (c .with-one8 .ensures) (c .before .before .x7 .given .1) refl
+returns-8 c = carried (c .with-one8 .ensures) (c .before .before .x7 .given .1) refl
 
 returns-9 : tie.Need-returns-9
-returns-9 c = three-values (c .before .x8 .given .1)
+returns-9 c = carried (c .with-interval .ensures) (c .before .before .x8 .given .1) refl
 
 returns-10 : tie.Need-returns-10
-returns-10 c = one-value (c .with-one9 .ensures) (c .before .before .x9 .given .1) refl
+returns-10 c = carried (c .with-one9 .ensures) (c .before .before .x9 .given .1) refl
 
 returns-11 : tie.Need-returns-11
-returns-11 c = one-value (c .with-one10 .ensures) (c .before .before .x10 .given .1) refl
+returns-11 c = carried (c .with-one10 .ensures) (c .before .before .x10 .given .1) refl
 
 returns-12 : tie.Need-returns-12
-returns-12 c = one-value (c .with-one11 .ensures) (c .before .before .x11 .given .1) refl
+returns-12 c = carried (c .with-one11 .ensures) (c .before .before .x11 .given .1) refl
 
 returns-13 : tie.Need-returns-13
-returns-13 c = one-value (c .with-one12 .ensures) (c .before .before .x12 .given .1) refl
+returns-13 c = carried (c .with-one12 .ensures) (c .before .before .x12 .given .1) refl
+
+returns-14 : tie.Need-returns-14
+returns-14 c = carried (c .with-one13 .ensures) (c .before .before .x13 .given .1) refl
 
 pub numbers-of-spec : {M : Type 1} → statement M
 numbers-of-spec =
@@ -167,9 +164,7 @@ numbers-of-spec =
     enum-known-x-7
     with-one-requires-8
     enum-known-x-8
-    cast-t17
-    cast-t18
-    cast-t19
+    with-interval-requires
     enum-known-x-9
     with-one-requires-9
     enum-known-x-10
@@ -178,6 +173,8 @@ numbers-of-spec =
     with-one-requires-11
     enum-known-x-12
     with-one-requires-12
+    enum-known-x-13
+    with-one-requires-13
     returns
     returns-2
     returns-3
@@ -190,4 +187,5 @@ numbers-of-spec =
     returns-10
     returns-11
     returns-12
-    returns-13)
+    returns-13
+    returns-14)
