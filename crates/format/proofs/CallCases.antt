@@ -1,8 +1,8 @@
 -- The promises of `read` and `write`, from the cases that code knows and the round trips.
 -- Assumes nothing.
-use mathlib.Core.Path.{_≡_, sym, subst, _∙_}
+use mathlib.Core.Path.{_≡_, refl, sym, subst, _∙_}
 use mathlib.Core.List.{List, [], _∷_}
-use Prim.Native.Nat.{ℕ, _≤_, _<_}
+use Prim.Native.Nat.{ℕ, _≤_, _<_, min}
 use native.Mathlib.Nat.{zero-add}
 use native.Mathlib.Omega.{arith}
 use borrow.Author.Tests.{lt-ltb}
@@ -10,27 +10,56 @@ use lib.ListN.{length, take}
 use lib.Seq.{sets, sets-eq}
 use Rattle.base.specs.Outcomes.{code, answered, refused}
 use Rattle.list.specs.Refusals.{verdictOf, writeAnswerOf}
-use Rattle.list.specs.DayLists.{SameList}
+use Rattle.list.specs.DayLists.{SameList, entriesOf, emptyList}
+use Rattle.list.specs.Clashes.{firstClash}
 use Rattle.list.specs.Checks.{WellFormed, checkOf}
-use Rattle.format.specs.Reading.{readOf}
-use Rattle.format.specs.Internal.{ReadsAs}
+use Rattle.format.specs.Reading.{decodeOf, mapPlace, readOf}
+use Rattle.format.specs.Internal.{ReadsAs, firstEntries}
 use Rattle.format.specs.Writing.{bytesOf, writeOf, bufferAfter}
 use Rattle.list.specs.Machine.{Bytes, Typed}
 use Rattle.format.specs.Calls.{Reads, Writes}
 use Rattle.list.specs.declared.types.DayList.{DayList}
 use Rattle.list.specs.declared.types.Refusal.{Refusal}
-use Rattle.list.specs.declared.types.Refusal.the-variants.{ListBufferShort}
+use Rattle.list.specs.declared.types.Refusal.the-variants.{ListBufferShort, SerialClash}
 use Rattle.list.specs.declared.types.Verdict.{Verdict}
-use Rattle.list.specs.declared.types.Verdict.the-variants.{Refused}
+use Rattle.list.specs.declared.types.Verdict.the-variants.{Accepted, Refused}
 use Rattle.list.specs.declared.types.ReadAnswer.{ReadAnswer}
 use Rattle.list.specs.declared.types.WriteAnswer.{WriteAnswer}
 use Rattle.list.specs.declared.types.WriteAnswer.the-variants.{Written, NotWritten}
 use Rattle.list.proofs.Verdicts.{by-refused}
+use Rattle.list.proofs.Columns.{held-count}
+use Rattle.format.proofs.ReadCases.{reads-refused, read-refused, is-decoded, read-clash, read-list}
 use Rattle.format.proofs.WriteCases.{list-written}
-use Rattle.format.proofs.RoundTrip.{written-reads-back, read-well-formed, read-one-form}
+use Rattle.format.proofs.RoundTrip.{written-reads-back, decoded-typed, map-place, read-well-formed, read-one-form, read-places}
 
 pub reads : (bs : List ℕ) (a : ReadAnswer) → Bytes bs → ReadsAs (readOf bs) a → Reads bs a
-reads bs a b w = record { outcome = w .outcome; beside = w .beside; back = λ l e. (read-well-formed bs l e, read-one-form bs l e b) }
+reads bs a b w =
+    record {
+      outcome = w .outcome;
+      beside = w .beside;
+      back = λ l e. (read-well-formed bs l e, read-one-form bs l e b);
+      refusal = read-places bs;
+    }
+
+-- row 14, after rows 1 to 8
+module _ (bs : List ℕ) (b : Bytes bs) (a : ReadAnswer) (decoded : ReadsAs (decodeOf bs) a) where
+  pub reads-decoded : (x : Refusal) → a .verdict ≡ Refused x → Reads bs a
+  reads-decoded x v = reads bs a b (read-refused bs a decoded x v)
+
+  module _ (v : a .verdict ≡ Accepted) (entry count : ℕ) (is : entry ≡ firstClash (entriesOf (a .list)))
+      (held : count ≡ min (a .list .n) 64) where
+    all : length (entriesOf (a .list)) ≡ count
+    all = held-count (a .list) (decoded-typed bs (a .list) (is-decoded bs a decoded v) b .long) count held
+
+    pub reads-clash : (at : ℕ) (c : ReadAnswer) → entry < count → at ≡ length (bytesOf (firstEntries (a .list) entry))
+        → c ≡ record { verdict = Refused (SerialClash at); list = emptyList }
+        → Reads bs c
+    reads-clash at c h place refusal =
+        let here = map-place bs (a .list) (is-decoded bs a decoded v) b entry (rw all h) in
+        reads bs c b (reads-refused _ _ _ refusal (read-clash bs a decoded v entry count is all h ∙ rw (place, here) refl))
+
+    pub reads-apart : count ≤ entry → Reads bs a
+    reads-apart h = reads bs a b (read-list bs a decoded v entry count is all h)
 
 module _ (l : DayList) (old : List ℕ) (t : Typed l) where
   promised : (a : WriteAnswer) (new : List ℕ) → writeAnswerOf a ≡ writeOf l (length old)

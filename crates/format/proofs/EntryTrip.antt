@@ -139,6 +139,7 @@ module _ (f : Frame) (m : Fields) (bs : List ℕ) (r-kept : m .r && eqb (entryAt
 -- what holds of an entry that is taken from the start of the bytes, with its size
 pub record TakenEntry (f : Frame) (bs : List ℕ) (x : Entry × ℕ) : Type 0 where
   pub within : x .1 ≤ length bs
+  pub some : 1 ≤ x .1
   pub short : x .1 ≤ 15
   pub sound : Sound f (x .0)
   pub form : Bytes bs → bs ≡ entryBytes f (x .0) ++ drop (x .1) bs
@@ -160,6 +161,7 @@ module _ (f : Frame) (at : ℕ) (bs : List ℕ) (len : ℕ) (all : at + length b
       let again : fieldsIn f e ≡ m = fields-again f m bs (z .0) (z .1) in
       record {
         within = long;
+        some = omega arith;
         short = omega (arith, p-place-small m);
         sound = s;
         form = λ b.

@@ -6,20 +6,20 @@ use mathlib.Core.Bool.{Bool, true, false}
 use mathlib.Core.List.{List}
 use Prim.Native.Nat.{ℕ, zero, suc, _+_, _*_, _≤_, _<_}
 use native.Mathlib.Omega.{arith}
-use borrow.Author.Tests.{lt-ltb, le-ltb, ne-eqb, leb-true, leb-false}
-use lib.Dec.{leb}
+use borrow.Author.Tests.{ltb-false, lt-ltb, le-ltb, ne-eqb, leb-true, leb-false}
+use lib.Dec.{ltb, leb}
 use lib.ListN.{length, getD, take, drop, length-take, length-drop}
 use lib.Seq.{take-all, getD-take, getD-drop}
 use Rattle.format.specs.LittleEndian.{u16At, u32At}
 use Rattle.format.specs.Maps.{rPlace, dPlace, pPlace, sizeOf}
 use Rattle.format.specs.EntryFields.{entryAt, fieldsEntry, entryOf}
 use Rattle.list.specs.Checks.{headerFault}
-use Rattle.format.specs.Reading.{entriesFrom, frameOf, countOf, bodyOf, readOf, PlaceIn}
+use Rattle.format.specs.Reading.{entriesFrom, frameOf, countOf, bodyOf, decodeOf, readOf, PlaceIn}
 use Rattle.format.specs.Writing.{readLimit}
 use Rattle.list.specs.declared.types.Frame.{Frame}
 use Rattle.format.specs.declared.map.Fields.{Fields}
 use Rattle.format.proofs.Places.{r-place-small, d-place-small, p-place-small}
-use Rattle.base.proofs.Inversion.{Anything, same-after}
+use Rattle.base.proofs.Inversion.{Says, Anything, by-row, by-step, says-refusal, same-after}
 use Rattle.list.proofs.Sound.{Header, header-says}
 use Rattle.format.proofs.EntryTrip.{TakenEntry, entry-says}
 use Rattle.format.proofs.ListTrip.{TakenEntries, entries-say}
@@ -103,13 +103,34 @@ module _ {xs ys : List ℕ} (a : Agree readLimit xs ys) where
       let q : x .1 < length ys = omega arith in
       simp (lt-ltb _ _ p, lt-ltb _ _ q)))
 
-  read-same : readOf xs ≡ readOf ys
-  unfolding readOf
-  read-same =
+  decode-same : decodeOf xs ≡ decodeOf ys
+  unfolding decodeOf
+  decode-same =
       let p : 3 ≤ length xs = omega arith in
       let q : 3 ≤ length ys = omega arith in
       rw (frame-same, a .byte 2 (omega arith), le-ltb _ _ p, le-ltb _ _ q)
       (same-after (λ _. Header f n) Anything (headerFault 2 f n) _ _ (header-says 2 f n Anything tt tt) (λ _ h. body-same (h .room)))
+
+  -- so rows 1 to 8 leave no list
+  body-over : n ≤ 64 → Says (λ _. ⊥) Anything (bodyOf ys)
+  unfolding bodyOf
+  body-over room =
+      let all : 3 + length (drop 3 ys) ≡ length ys = omega (arith, length-drop 3 ys) in
+      let Taken = TakenEntries f n (drop 3 ys) (length ys) in
+      let o = entriesFrom f n 3 (drop 3 ys) in
+      by-step Taken Anything (λ _. ⊥) o _
+      (says-refusal Taken (PlaceIn (length ys)) Anything o (λ _ _. tt) (entries-say f n 3 (drop 3 ys) (length ys) all))
+      (λ x es. by-row (λ _. ⊥) Anything (ltb (x .1) (length ys)) _ _ (λ _. tt) (λ t. let z : length ys ≤ x .1 = ltb-false _ _ t in omega arith))
+
+  decode-over : Says (λ _. ⊥) Anything (decodeOf ys)
+  unfolding decodeOf
+  decode-over =
+      by-row (λ _. ⊥) Anything (ltb (length ys) 3) _ _ (λ _. tt)
+      (λ _. by-step (λ _. Header f n) Anything (λ _. ⊥) (headerFault 2 f n) _ (header-says 2 f n Anything tt tt) (λ _ h. body-over (h .room)))
+
+  read-same : readOf xs ≡ readOf ys
+  unfolding readOf
+  read-same = rw decode-same (same-after (λ _. ⊥) Anything (decodeOf ys) _ _ decode-over (λ l none. absurd none))
 
 -- an input is read as its first 964 bytes are
 pub first-bytes : (bs : List ℕ) → readOf (take readLimit bs) ≡ readOf bs

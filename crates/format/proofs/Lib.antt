@@ -6,6 +6,7 @@ mod CarriedPlaces
 mod FieldTrip
 mod EntryTrip
 mod ListTrip
+mod MapPlaces
 pub mod RoundTrip
 pub mod FirstBytes
 -- What the code's proofs cite, case by case. The round trips cite some of it too.

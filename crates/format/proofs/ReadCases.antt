@@ -13,9 +13,10 @@ use lib.Seq.{take-all, take-suc-set, drop-drop}
 use Rattle.base.specs.Outcomes.{Code, code, Outcome, answered, refused, row, firstOf, andThen}
 use Rattle.list.specs.Refusals.{codeOf, verdictOf}
 use Rattle.format.specs.EntryFields.{entryOf, entryAnswerOf}
-use Rattle.list.specs.DayLists.{blank, dayList, emptyList}
+use Rattle.list.specs.DayLists.{blank, dayList, emptyList, entriesOf}
+use Rattle.list.specs.Clashes.{firstClash}
 use Rattle.list.specs.Checks.{headerFault}
-use Rattle.format.specs.Reading.{entriesFrom, frameOf, countOf, bodyOf, readOf}
+use Rattle.format.specs.Reading.{entriesFrom, frameOf, countOf, bodyOf, decodeOf, mapPlace, readOf, listOr}
 use Rattle.format.specs.Internal.{ReadsAs}
 use Rattle.list.specs.declared.types.Entry.{Entry}
 use Rattle.list.specs.declared.types.Frame.{Frame}
@@ -160,17 +161,41 @@ reads-list o l q = record { outcome = sym q; beside = rw q }
 
 -- the header
 module _ (bs : List ℕ) where
-  pub read-short : length bs < 3 → readOf bs ≡ refused (code 1 (length bs ∷ []))
-  unfolding readOf
-  read-short h = simp (lt-ltb _ _ h)
+  pub decode-short : length bs < 3 → decodeOf bs ≡ refused (code 1 (length bs ∷ []))
+  unfolding decodeOf
+  decode-short h = simp (lt-ltb _ _ h)
 
   module _ (f : Frame) (v : Verdict) (p : f ≡ frameOf bs) (h : 3 ≤ length bs) (w : verdictOf v ≡ headerFault 2 f (countOf bs)) where
-    header : readOf bs ≡ andThen (verdictOf v) (λ _. bodyOf bs)
-    unfolding readOf
+    header : decodeOf bs ≡ andThen (verdictOf v) (λ _. bodyOf bs)
+    unfolding decodeOf
     header = rw w (rw p (simp (le-ltb _ _ h)))
 
-    pub read-header : (x : Refusal) → v ≡ Refused x → readOf bs ≡ refused (codeOf x)
-    read-header x a = rw (header, a)
+    pub decode-header : (x : Refusal) → v ≡ Refused x → decodeOf bs ≡ refused (codeOf x)
+    decode-header x a = rw (header, a)
 
-    pub read-body : v ≡ Accepted → readOf bs ≡ bodyOf bs
-    read-body a = rw (header, a)
+    pub decode-body : v ≡ Accepted → decodeOf bs ≡ bodyOf bs
+    decode-body a = rw (header, a)
+
+-- row 14, or the list
+module _ (bs : List ℕ) (a : ReadAnswer) (decoded : ReadsAs (decodeOf bs) a) where
+  as-decoded : readOf bs ≡ decodeOf bs → ReadsAs (readOf bs) a
+  as-decoded e = record { outcome = decoded .outcome ∙ sym e; beside = decoded .beside ∙ ap listOr (sym e) }
+
+  pub read-refused : (x : Refusal) → a .verdict ≡ Refused x → ReadsAs (readOf bs) a
+  unfolding readOf
+  read-refused x v =
+      let is : decodeOf bs ≡ refused (codeOf x) = sym (decoded .outcome) ∙ rw v refl in
+      as-decoded (rw is refl)
+
+  module _ (v : a .verdict ≡ Accepted) where
+    pub is-decoded : decodeOf bs ≡ answered (a .list)
+    is-decoded = sym (decoded .outcome) ∙ rw v refl
+
+    module _ (entry count : ℕ) (is : entry ≡ firstClash (entriesOf (a .list))) (all : length (entriesOf (a .list)) ≡ count) where
+      pub read-clash : entry < count → readOf bs ≡ refused (code 14 (mapPlace bs entry ∷ []))
+      unfolding readOf
+      read-clash h = rw (is-decoded, ← is, all, lt-ltb entry count h) refl
+
+      pub read-list : count ≤ entry → ReadsAs (readOf bs) a
+      unfolding readOf
+      read-list h = as-decoded (rw (is-decoded, ← is, all, le-ltb entry count h) refl)

@@ -2,20 +2,25 @@
 -- Also what an accepted list is, the longest form, where bytes are turned back, and that equal lists are treated alike.
 -- Assumes nothing.
 use mathlib.Core.Path.{_≡_, refl, sym, ap, _∙_}
+use mathlib.Core.Logic.{inl, inr}
 use mathlib.Core.List.{List, [], _∷_, _++_, append-nil}
-use Prim.Native.Nat.{ℕ, _+_, _-_, _≤_, _<_}
+use Prim.Native.Nat.{ℕ, zero, suc, _+_, _-_, _≤_, _<_}
 use native.Mathlib.Omega.{arith}
-use borrow.Author.Tests.{ltb-true, ltb-false}
+use borrow.Author.Tests.{ltb-true, ltb-false, le-ltb}
 use lib.Dec.{ltb}
 use lib.ListN.{length, getD, take, drop, replicate, length-append, length-take, length-drop, length-replicate, drop-of-length-le}
-use lib.Seq.{take-append-seam, take-at}
+use lib.Seq.{take-append-seam, take-at, take-take}
 use Rattle.list.specs.Machine.{Bytes, Typed}
 use Rattle.base.specs.Outcomes.{Code, Outcome, answered, refused}
+use Rattle.base.specs.Counting.{firstBelow}
 use Rattle.list.specs.Entries.{entryFault}
 use Rattle.format.specs.Forms.{entryBytes}
 use Rattle.list.specs.DayLists.{entriesOf, blank, dayList, SameList}
-use Rattle.list.specs.Checks.{WellFormed, checkOf, headerFault, entriesFault}
-use Rattle.format.specs.Reading.{entriesFrom, frameOf, countOf, bodyOf, readOf, PlaceIn}
+use Rattle.list.specs.Clashes.{firstClash, Apart}
+use Rattle.list.specs.Checks.{WellFormed, checkOf, headerFault, entriesFault, valuesFault}
+use Rattle.format.specs.Reading.{entriesFrom, frameOf, countOf, bodyOf, decodeOf, placeAfter, mapPlace, readOf}
+use Rattle.format.specs.Reading.{PlaceIn, ClashRead, ReadRefusal}
+use Rattle.format.specs.Internal.{firstEntries}
 use Rattle.format.specs.Writing.{bytesOfEntries, bytesOf, longestList, writeOf, bufferAfter}
 use Rattle.list.specs.declared.types.Seal.the-variants.{Number}
 use Rattle.list.specs.declared.types.Kind.the-variants.{Pause}
@@ -23,14 +28,16 @@ use Rattle.list.specs.declared.types.Entry.{Entry}
 use Rattle.list.specs.declared.types.Frame.{Frame}
 use Rattle.list.specs.declared.types.DayList.{DayList}
 use Rattle.list.specs.declared.types.Verdict.the-variants.{Accepted}
-use Rattle.base.proofs.Inversion.{Says, by-row, by-step, Anything}
+use Rattle.base.proofs.Inversion.{Says, by-row, by-step, says-answer, says-refusal, Anything}
 use Rattle.format.proofs.CarriedPlaces.{at-end, at-place}
-use Rattle.list.proofs.Sound.{Header, header-says, header-passes, SoundList, check-says, sound-list, well-formed}
+use Rattle.list.proofs.ClashFacts.{apart, first-clash, apart-told}
+use Rattle.list.proofs.Sound.{Header, header-says, header-passes, SoundList, check-says, sound-list, list-apart, well-formed}
 use Rattle.format.proofs.FieldTrip.{bytes-drop, u16-back, u16-stands, byte-stands}
 use Rattle.format.proofs.EntryTrip.{EntryFits}
-use Rattle.format.proofs.ReadCases.{read-body, body-done}
-use Rattle.format.proofs.WriteCases.{list-short, form-fits, list-written}
+use Rattle.format.proofs.ReadCases.{decode-body, body-done}
+use Rattle.format.proofs.WriteCases.{form-length, list-short, form-fits, list-written}
 use Rattle.format.proofs.ListTrip.{TakenEntries, entries-say, entries-read-back, every-take, every-at}
+use Rattle.format.proofs.MapPlaces.{ReadFrom, each-read, map-inside, map-form}
 
 module _ (l : DayList) (t : Typed l) (w : WellFormed l) where
   sound : SoundList l
@@ -49,13 +56,19 @@ module _ (l : DayList) (t : Typed l) (w : WellFormed l) where
       rw counted at (entries-read-back (l .frame) 3 (entriesOf l) small fits (sound .entries))
 
   -- a well-formed list is read back from its one form: the same entries, and blank places after them
-  pub bytes-read-back : readOf (bytesOf l) ≡ answered (dayList (l .frame) (entriesOf l))
+  decoded-back : decodeOf (bytesOf l) ≡ answered (dayList (l .frame) (entriesOf l))
   unfolding bytesOf
-  bytes-read-back =
+  decoded-back =
       let same : l .frame ≡ frameOf (bytesOf l) =
       ap (λ (x : ℕ). record { h = x }) (sym (u16-back (l .frame .h) (l .n ∷ bytesOfEntries (l .frame) (entriesOf l)) small)) in
-      read-body (bytesOf l) (l .frame) Accepted same (omega arith) (sym (header-passes 2 (l .frame) (l .n) (sound .header))) refl
+      decode-body (bytesOf l) (l .frame) Accepted same (omega arith) (sym (header-passes 2 (l .frame) (l .n) (sound .header))) refl
       ∙ body-done (bytesOf l) (l .frame) (l .n) same refl (entriesOf l) _ entries-back (omega arith)
+
+  pub bytes-read-back : readOf (bytesOf l) ≡ answered (dayList (l .frame) (entriesOf l))
+  unfolding readOf
+  bytes-read-back =
+      let kept : entriesOf (dayList (l .frame) (entriesOf l)) ≡ entriesOf l = take-append-seam (entriesOf l) _ in
+      rw (decoded-back, kept, le-ltb _ _ (apart-told (entriesOf l) (list-apart l w))) refl
 
   -- and that list equals the one written
   pub same-back : SameList (dayList (l .frame) (entriesOf l)) l
@@ -69,8 +82,9 @@ module _ (l : DayList) (room : ℕ) where
   write-says : Says Answer Anything (writeOf l room)
   unfolding writeOf
   write-says =
-      by-step (λ _. SoundList l) Anything Answer (checkOf l) _ (check-says l Anything tt tt (λ _. tt) (λ _. tt))
-      (λ _ s. by-row Answer Anything (ltb room (length (bytesOf l))) _ _ (λ t. tt) (λ t. (well-formed l s, refl)))
+      by-step (λ _. SoundList l × Apart (entriesOf l)) Anything Answer (checkOf l) _
+      (check-says l Anything tt tt (λ _. tt) (λ _. tt) (λ _ _. tt))
+      (λ _ s. by-row Answer Anything (ltb room (length (bytesOf l))) _ _ (λ t. tt) (λ t. (well-formed l (s .0) (s .1), refl)))
 
 -- a well-formed list survives writing and reading: from the bytes that the writer stored, an equal list is read
 pub written-reads-back : (l : DayList) (old : List ℕ) (count : ℕ) → Typed l → writeOf l (length old) ≡ answered count
@@ -89,11 +103,14 @@ pub survives : (l : DayList) (old : List ℕ) → Typed l → WellFormed l → l
 survives l old t w h =
     let e = list-written l (length old) w h in (length (bytesOf l), e, written-reads-back l old (length (bytesOf l)) t e)
 
--- what an accepted list is: sound, and the list whose one form was read
-record ReadAs (bs : List ℕ) (l : DayList) : Type 0 where
-  sound : SoundList l
-  form : Bytes bs → bytesOf l ≡ bs
-  typed : Bytes bs → Typed l
+-- what a list is that rows 1 to 8 leave: sound, the list whose one form was read, and its entries are those read
+pub record Decoded (bs : List ℕ) (l : DayList) : Type 0 where
+  pub sound : SoundList l
+  pub form : Bytes bs → bytesOf l ≡ bs
+  pub typed : Bytes bs → Typed l
+  pub long : 3 ≤ length bs
+  pub frame : l .frame ≡ frameOf bs
+  pub each : (i : ℕ) → i < length (entriesOf l) → ReadFrom (frameOf bs) bs 3 (entriesOf l) i
 
 module _ (bs : List ℕ) where
   abbrev f : Frame
@@ -107,7 +124,8 @@ module _ (bs : List ℕ) where
   Entries = TakenEntries f n (drop 3 bs) (length bs)
 
   -- the list that they make, if no byte is left over
-  module _ (long : 3 ≤ length bs) (h : Header f n) (x : List Entry × ℕ) (taken : Entries x) (done : length bs ≤ x .1) where
+  module _ (long : 3 ≤ length bs) (h : Header f n) (x : List Entry × ℕ) (taken : Entries x)
+      (read : entriesFrom f n 3 (drop 3 bs) ≡ answered x) (done : length bs ≤ x .1) where
     abbrev es : List Entry
     es = x .0
 
@@ -131,19 +149,22 @@ module _ (bs : List ℕ) where
           seal = λ i. fits i .seal;
         }
 
-    read-as : ReadAs bs (dayList f es)
-    read-as =
+    decoded : Decoded bs (dayList f es)
+    decoded =
         record {
           sound = record { header = rw (taken .count) h; entries = rw kept (taken .sound) };
           form = one-form;
           typed = in-types;
+          long = long;
+          frame = refl;
+          each = rw kept (λ i l. each-read f bs n 3 es (x .1) read i (omega (arith, l, taken .count)));
         }
 
-  -- what reading bytes says
-  read-says : Says (ReadAs bs) (PlaceIn (length bs)) (readOf bs)
-  unfolding readOf bodyOf
-  read-says =
-      let P = ReadAs bs in
+  -- what rows 1 to 8 say
+  decode-says : Says (Decoded bs) (PlaceIn (length bs)) (decodeOf bs)
+  unfolding decodeOf bodyOf
+  decode-says =
+      let P = Decoded bs in
       let R = PlaceIn (length bs) in
       by-row P R (ltb (length bs) 3) _ _ (λ t. at-end (length bs) _ refl)
       (λ t.
@@ -153,29 +174,80 @@ module _ (bs : List ℕ) where
       let rest : 3 + length (drop 3 bs) ≡ length bs = simp length-drop (omega arith) in
       by-step (λ _. Header f n) R P (headerFault 2 f n) _
       (header-says 2 f n R two three)
-      (λ _ h. by-step Entries R P (entriesFrom f n 3 (drop 3 bs)) _ (entries-say f n 3 (drop 3 bs) (length bs) rest)
+      (λ _ h.
+      let o = entriesFrom f n 3 (drop 3 bs) in
+      by-step (λ x. Entries x × (o ≡ answered x)) R P o _ (says-answer Entries R o (entries-say f n 3 (drop 3 bs) (length bs) rest))
       (λ x taken. by-row P R (ltb (x .1) (length bs)) _ _ (λ l. at-place _ 8 (x .1) (omega arith) (omega arith) (ltb-true _ _ l))
-      (λ l. read-as long h x taken (ltb-false _ _ l)))))
+      (λ l. decoded long h x (taken .0) (taken .1) (ltb-false _ _ l)))))
 
-  -- what 1 carries is the input's length, and any other refusal carries a place inside the input
-  pub read-places : (k : Code) → readOf bs ≡ refused k → PlaceIn (length bs) k
+  pub decoded-typed : (l : DayList) → decodeOf bs ≡ answered l → Bytes bs → Typed l
+  decoded-typed l e = let d : Decoded bs l = rw e at decode-says in d .typed
+
+  -- the place of a map byte, by the one forms of the entries before it
+  pub map-place : (l : DayList) → decodeOf bs ≡ answered l → Bytes bs → (i : ℕ) → i < length (entriesOf l)
+      → length (bytesOf (firstEntries l i)) ≡ mapPlace bs i
+  unfolding mapPlace
+  map-place l e b i h =
+      let d : Decoded bs l = rw e at decode-says in
+      let read = d .each i h in
+      let here : mapPlace bs i ≡ read .place = ap placeAfter (read .before) in
+      let short : take i (entriesOf l) ≡ take i (l .entries) =
+      take-take i (l .n) (l .entries) (omega (arith, h, length-take (l .n) (l .entries))) in
+      form-length (firstEntries l i)
+      ∙ rw (← short, d .frame) (map-form f bs (entriesOf l) i read (d .long) b)
+      ∙ sym here
+
+  -- row 14 carries such a place, inside the input
+  clash-read : (l : DayList) → decodeOf bs ≡ answered l → firstClash (entriesOf l) < length (entriesOf l)
+      → ClashRead bs (mapPlace bs (firstClash (entriesOf l)))
+  unfolding mapPlace
+  clash-read l e h =
+      let d : Decoded bs l = rw e at decode-says in
+      let read = d .each (firstClash (entriesOf l)) h in
+      let here : mapPlace bs (firstClash (entriesOf l)) ≡ read .place = ap placeAfter (read .before) in
+      rw here
+      (record {
+        list = l;
+        decoded = e;
+        entry = firstClash (entriesOf l);
+        first = first-clash (entriesOf l) h;
+        before = read .before;
+        size = read .size;
+        here = read .here;
+        inside = map-inside f bs (entriesOf l) _ read;
+      })
+
+  -- what reading says
+  read-says : Says (λ l. Decoded bs l × Apart (entriesOf l)) (ReadRefusal bs) (readOf bs)
+  unfolding readOf
+  read-says =
+      let P : DayList → Type 0 = λ l. Decoded bs l × Apart (entriesOf l) in
+      let R = ReadRefusal bs in
+      by-step (λ l. Decoded bs l × (decodeOf bs ≡ answered l)) R P (decodeOf bs) _
+      (says-answer (Decoded bs) R (decodeOf bs) (says-refusal (Decoded bs) (PlaceIn (length bs)) R (decodeOf bs) (λ _ p. inl p) decode-says))
+      (λ l d. by-row P R (ltb (firstClash (entriesOf l)) (length (entriesOf l))) _ _
+      (λ t. inr (mapPlace bs (firstClash (entriesOf l)), refl, clash-read l (d .1) (ltb-true _ _ t)))
+      (λ t. (d .0, apart (entriesOf l) (ltb-false _ _ t))))
+
+  -- why an input is refused: what 1 carries is its length, and any other refusal carries a place inside
+  pub read-places : (k : Code) → readOf bs ≡ refused k → ReadRefusal bs k
   read-places k e = rw e at read-says
 
   module _ (l : DayList) (e : readOf bs ≡ answered l) where
-    accepted : ReadAs bs l
+    accepted : Decoded bs l × Apart (entriesOf l)
     accepted = rw e at read-says
 
     -- an accepted list is well-formed
     pub read-well-formed : WellFormed l
-    read-well-formed = well-formed l (accepted .sound)
+    read-well-formed = well-formed l (accepted .0 .sound) (accepted .1)
 
     -- an accepted list is one that the machine's types hold
     pub read-typed : Bytes bs → Typed l
-    read-typed = accepted .typed
+    read-typed = accepted .0 .typed
 
     -- accepted bytes are the one form of the list read
     pub read-one-form : Bytes bs → bytesOf l ≡ bs
-    read-one-form = accepted .form
+    read-one-form = accepted .0 .form
 
     -- accepted bytes survive reading and writing, byte for byte, in every buffer that has room
     pub read-writes-back : Bytes bs → (old : List ℕ) → length bs ≤ length old
@@ -190,21 +262,30 @@ module _ (bs : List ℕ) where
 pub longest : (l : DayList) → WellFormed l → length (bytesOf l) ≤ longestList
 longest l w = list-short l (form-fits l w)
 
--- 64 entries that write all their fields
+-- entries that write all their fields, with serials below k
+fullEntries : ℕ → List Entry
+fullEntries zero = []
+fullEntries (suc k) = record { serial = k; seal = Number 0; r = 1; d = 2; p = 1; kind = Pause } ∷ fullEntries k
+
+-- 64 of them
 fullest : DayList
-fullest = dayList (record { h = 1440 }) (replicate 64 (record { serial = 0; seal = Number 0; r = 1; d = 2; p = 1; kind = Pause }))
+fullest = dayList (record { h = 1440 }) (fullEntries 64)
 
 -- some list's one form is as long
 pub longest-reached : (l : DayList) × WellFormed l × (length (bytesOf l) ≡ longestList)
-unfolding fullest checkOf headerFault entriesFault entryFault bytesOf bytesOfEntries entryBytes
+unfolding fullest fullEntries checkOf valuesFault headerFault entriesFault entryFault firstClash firstBelow bytesOf bytesOfEntries entryBytes
 longest-reached = (fullest, refl, refl)
 
 -- "Two list values are equal if H, n and the first n entries are": then the value check, the one form and the writer treat them alike
 module _ (a b : DayList) (same : SameList a b) where
+  same-values : valuesFault a ≡ valuesFault b
+  unfolding valuesFault
+  same-values = rw (same .entries, same .n, same .frame)
+
   -- they are checked alike
   pub same-checked : checkOf a ≡ checkOf b
   unfolding checkOf
-  same-checked = rw (same .entries, same .n, same .frame)
+  same-checked = rw (same-values, same .entries) refl
 
   -- they have one form
   pub same-bytes : bytesOf a ≡ bytesOf b

@@ -5,7 +5,7 @@ use mathlib.Core.List.{List, [], _∷_}
 use mathlib.Core.Logic.{_⊎_}
 use lib.ListN.{length, getD, take, drop}
 use lib.Dec.{ltb}
-use Rattle.base.specs.Outcomes.{Code, Outcome, answered, refused, row, firstOf, andThen}
+use Rattle.base.specs.Outcomes.{Code, code, Outcome, answered, refused, row, firstOf, andThen}
 use Rattle.format.specs.LittleEndian.{u16At}
 use Rattle.format.specs.EntryFields.{entryOf}
 use Rattle.list.specs.DayLists.{dayList, emptyList, entriesOf, blank}
@@ -58,9 +58,9 @@ abbrev pub listOr : Outcome DayList → DayList
 listOr (answered l) = l
 listOr (refused k) = emptyList
 
--- A refusal of an input of this length: one of the rows 1 to 8 and 14, of which 1 carries the length and any other a place inside the input.
+-- A refusal of an input of this length: one of the rows 1 to 8, of which 1 carries the length and any other a place inside the input.
 pub record PlaceIn (len : ℕ) (k : Code) : Type 0 where
-  pub reading : (k .number ≤ 8) ⊎ (k .number ≡ 14)
+  pub reading : k .number ≤ 8
   pub place : ℕ
   pub carried : k .carries ≡ place ∷ []
   pub missing : k .number ≡ 1 → place ≡ len
@@ -77,3 +77,7 @@ pub record ClashRead (bs : List ℕ) (at : ℕ) : Type 0 where
   pub size : ℕ
   pub here : entryOf (frameOf bs) at (drop at bs) ≡ answered (getD (entriesOf list) entry blank, size)
   pub inside : at < length bs
+
+-- why an input is refused: one of those rows, or 14
+abbrev pub ReadRefusal : List ℕ → Code → Type 0
+ReadRefusal bs k = PlaceIn (length bs) k ⊎ ((at : ℕ) × (k ≡ code 14 (at ∷ [])) × ClashRead bs at)

@@ -89,9 +89,10 @@ fn map_place(list: DayList, entry: usize) -> usize
     requires { ⌜ entry < mostEntries ⌝ }
     ensures { λ at. ⌜ at ≡ length (bytesOf (firstEntries list entry)) ⌝ }
 {
+    let frame = list.frame;
     let entries = list.entries;
     list_size(DayList {
-        frame: list.frame,
+        frame: frame,
         n: entry as u8,
         entries: entries,
     })

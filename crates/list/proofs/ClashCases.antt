@@ -26,10 +26,6 @@ module _ (l : DayList) where
   in-array : (i : ℕ) → i < length (entriesOf l) → getD (entriesOf l) i blank ≡ getD (l .entries) i blank
   in-array i h = getD-take (l .n) (l .entries) i blank (omega (arith, h, length-take (l .n) (l .entries)))
 
-  -- the arrays' places are those of the entries
-  pub counted : (count : ℕ) → length (l .entries) ≡ 64 → count ≡ min (l .n) 64 → length (entriesOf l) ≡ count
-  counted count long e = omega (arith, long, e, length-take (l .n) (l .entries))
-
   -- a place of the list is one of the array
   pub in-places : (place : ℕ) → length (l .entries) ≡ 64 → place < length (entriesOf l) → place < 64
   in-places place long h = omega (arith, long, h, length-take (l .n) (l .entries))

@@ -58,3 +58,6 @@ all-taken l long =
     (λ h.
     let z : min (l .n) 64 ≡ 64 = omega arith in
     rw z (take-all 64 (l .entries) (omega (arith, long)) ∙ sym (take-all (l .n) (l .entries) (omega (arith, long)))))
+
+pub held-count : (l : DayList) → length (l .entries) ≡ 64 → (count : ℕ) → count ≡ min (l .n) 64 → length (entriesOf l) ≡ count
+held-count l long count e = omega (arith, long, e, length-take (l .n) (l .entries))

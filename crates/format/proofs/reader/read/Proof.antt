@@ -1,88 +1,71 @@
--- `reader::read` meets its contract: the header decides, or what follows it does.
+-- `reader::read` meets its contract: rows 1 to 8 decide, or the first entry that clashes with an earlier one.
 -- Assumes nothing.
 use borrow.Author.Needs.{needs}
-use mathlib.Core.Path.{_≡_, refl, ap}
-use Prim.Native.Nat.{ℕ}
-use Rattle.format.specs.Reading.{frameOf, countOf}
-use Rattle.list.proofs.Verdicts.{by-accepted}
-use Rattle.list.proofs.Sound.{header-of}
-use Rattle.format.proofs.ReadCases.{reads-refused, read-short, read-header, read-body}
-use Rattle.format.proofs.CallCases.{reads}
+use native.Mathlib.Omega.{arith}
+use Rattle.list.specs.Machine.{Bytes}
+use Rattle.format.proofs.CallCases.{reads-decoded, reads-clash, reads-apart}
 use Rattle.format.proofs.reader.read.Statement.{statement}
 use Rattle.format.proofs.reader.read.Tie as tie
 
--- the frame that code reads is the one that the bytes say
-frame-read : (c : tie.After-u16-at) → record { h = c .u16-at .result } ≡ frameOf (c .before .before .before .args .bytes .now)
-frame-read c = ap (λ (x : ℕ). record { h = x }) (c .u16-at .ensures)
+-- the input's elements are bytes
+in-bytes : (c : tie.After-shared-slice-known) → Bytes (c .before .args .bytes .now)
+in-bytes c = λ i. c .shared-slice-known .given i .fits
 
-read-refused-requires : tie.Need-read-refused-requires
-read-refused-requires c κs = search needs
-
-returns : tie.Need-returns
-returns c =
-    let args = c .before .before .before .args in
-    reads (args .bytes .now) _ (λ i. c .before .before .shared-slice-known .given i .fits)
-    (reads-refused _ _ _ (c .read-refused .ensures) (read-short (args .bytes .now) (c .before .if1 .taken)))
-
-u16-at-requires : tie.Need-u16-at-requires
-u16-at-requires c κs = search needs
-
-shared-slice-read-n : tie.Need-shared-slice-read-n
-shared-slice-read-n c = search needs
-
-header-fault-requires : tie.Need-header-fault-requires
-header-fault-requires c κs = search needs
+decode-requires : tie.Need-decode-requires
+decode-requires c κs = search needs
 
 enum-told : tie.Need-enum-told
 enum-told c = search needs
 
-read-body-requires : tie.Need-read-body-requires
-read-body-requires c κs =
-    let bytes = c .before .before .before .before .before .before .before .args .bytes .now in
-    let frame = frame-read (c .before .before .before .before) in
-    let passed = by-accepted (c .before .before .header-fault .ensures) (c .enum-told .given .1) in
-    (c .before .before .before .before .before .if1 .left, header-of 2 _ (countOf bytes) passed .room, frame, refl)
+enum-told-2 : tie.Need-enum-told-2
+enum-told-2 c = search needs
 
-enum-known-header : tie.Need-enum-known-header
-enum-known-header c = search needs
+returns : tie.Need-returns
+returns c =
+    let known = c .before .before .before in
+    reads-decoded (known .before .args .bytes .now) (in-bytes known) _ (c .before .before .decode .ensures) _ (c .enum-told2 .given .1)
 
-read-refused-requires-2 : tie.Need-read-refused-requires-2
-read-refused-requires-2 c κs = search needs
+first-clash-requires : tie.Need-first-clash-requires
+first-clash-requires c κs = search needs
+
+places-held-requires : tie.Need-places-held-requires
+places-held-requires c κs = search needs
+
+map-place-requires : tie.Need-map-place-requires
+map-place-requires c κs = omega (arith, c .if1 .taken, c .before .places-held .ensures)
+
+read-refused-requires : tie.Need-read-refused-requires
+read-refused-requires c κs = search needs
 
 returns-2 : tie.Need-returns-2
 returns-2 c =
-    let bytes = c .before .before .before .before .before .before .before .before .args .bytes .now in
-    let shared-slice-known = c .before .before .before .before .before .before .before .shared-slice-known in
-    let if1 = c .before .before .before .before .before .before .if1 in
-    let frame = frame-read (c .before .before .before .before .before) in
-    let header-fault = c .before .before .before .header-fault in
-    reads bytes _ (λ i. shared-slice-known .given i .fits)
-    (rw (read-body bytes _ (header-fault .result) frame (if1 .left) (header-fault .ensures) (c .before .enum-told .given .1))
-    (c .read-body .ensures))
+    let known = c .before .before .before .before .before .before .before .before in
+    let decode = c .before .before .before .before .before .before .before .decode in
+    let enum-told = c .before .before .before .before .before .enum-told in
+    let first-clash = c .before .before .before .before .first-clash in
+    let places-held = c .before .before .before .places-held in
+    reads-clash (known .before .args .bytes .now) (in-bytes known) _ (decode .ensures) (enum-told .given .1) _ _ (first-clash .ensures)
+    (places-held .ensures) _ _ (c .before .before .if1 .taken) (c .before .map-place .ensures) (c .read-refused .ensures)
 
 returns-3 : tie.Need-returns-3
 returns-3 c =
-    let bytes = c .before .before .before .before .before .before .before .before .before .args .bytes .now in
-    let shared-slice-known = c .before .before .before .before .before .before .before .before .shared-slice-known in
-    let if1 = c .before .before .before .before .before .before .before .if1 in
-    let frame = frame-read (c .before .before .before .before .before .before) in
-    let header-fault = c .before .before .before .before .header-fault in
-    reads bytes _ (λ i. shared-slice-known .given i .fits)
-    (reads-refused _ _ _ (c .read-refused2 .ensures)
-    (read-header bytes _ (header-fault .result) frame (if1 .left) (header-fault .ensures) _ (c .before .before .header .given .1)))
+    let known = c .before .before .before .before .before .before in
+    let decode = c .before .before .before .before .before .decode in
+    let enum-told = c .before .before .before .enum-told in
+    reads-apart (known .before .args .bytes .now) (in-bytes known) _ (decode .ensures) (enum-told .given .1) _ _
+    (c .before .before .first-clash .ensures) (c .before .places-held .ensures) (c .if1 .left)
 
 pub read-spec : {M : Type 1} → statement M
 read-spec =
     tie.close
     (tie.spec
-    read-refused-requires
-    returns
-    u16-at-requires
-    shared-slice-read-n
-    header-fault-requires
+    decode-requires
     enum-told
-    read-body-requires
-    enum-known-header
-    read-refused-requires-2
+    enum-told-2
+    returns
+    first-clash-requires
+    places-held-requires
+    map-place-requires
+    read-refused-requires
     returns-2
     returns-3)

@@ -5,13 +5,14 @@ use mathlib.Core.Path.{_≡_}
 use lib.ListN.{length}
 use Rattle.base.proofs.Walk.{length-mapped}
 use Rattle.list.specs.DayLists.{entriesOf}
-use Rattle.list.proofs.ClashCases.{counted, check-values, check-clash, check-apart}
+use Rattle.list.proofs.Columns.{held-count}
+use Rattle.list.proofs.ClashCases.{check-values, check-clash, check-apart}
 use Rattle.list.proofs.checks.check.Statement.{statement}
 use Rattle.list.proofs.checks.check.Tie as tie
 
 -- the entries are as many as the places held
 all : (c : tie.After-places-held) → length (entriesOf (c .before .before .before .before .before .args .list)) ≡ c .places-held .result
-all c = counted (c .before .before .before .before .before .args .list) _ (search (needs, length-mapped)) (c .places-held .ensures)
+all c = held-count (c .before .before .before .before .before .args .list) (search (needs, length-mapped)) _ (c .places-held .ensures)
 
 values-fault-requires : tie.Need-values-fault-requires
 values-fault-requires c κs = search needs

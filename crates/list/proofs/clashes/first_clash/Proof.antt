@@ -9,7 +9,8 @@ use Rattle.base.proofs.Walk.{length-mapped}
 use Rattle.base.proofs.Searches.{Passed, passed-none, passed-next}
 use Rattle.list.specs.DayLists.{entriesOf}
 use Rattle.list.specs.Clashes.{clashesEarlier}
-use Rattle.list.proofs.ClashCases.{counted, clash-found, clash-none}
+use Rattle.list.proofs.Columns.{held-count}
+use Rattle.list.proofs.ClashCases.{clash-found, clash-none}
 use Rattle.list.proofs.clashes.first_clash.Statement.{statement}
 use Rattle.list.proofs.clashes.first_clash.Tie as tie
 
@@ -21,7 +22,7 @@ abbrev μ-loop : tie.MeasureT-loop
 
 -- the entries are as many as the places held
 all : (c : tie.After-places-held Inv-loop μ-loop) → length (entriesOf (c .before .args .list)) ≡ c .places-held .result
-all c = counted (c .before .args .list) _ (search (needs, length-mapped)) (c .places-held .ensures)
+all c = held-count (c .before .args .list) (search (needs, length-mapped)) _ (c .places-held .ensures)
 
 places-held-requires : tie.Need-places-held-requires Inv-loop μ-loop
 places-held-requires c κs = search needs
