@@ -30,6 +30,7 @@ use Rattle.list.specs.declared.types.DayList.{DayList}
 use Rattle.list.specs.declared.types.Verdict.the-variants.{Accepted}
 use Rattle.base.proofs.Inversion.{Says, by-row, by-step, says-answer, says-refusal, Anything}
 use Rattle.format.proofs.CarriedPlaces.{at-end, at-place}
+use Rattle.list.proofs.Alike.{same-checked}
 use Rattle.list.proofs.ClashFacts.{apart, first-clash, apart-told}
 use Rattle.list.proofs.Sound.{Header, header-says, header-passes, SoundList, check-says, sound-list, list-apart, well-formed}
 use Rattle.format.proofs.FieldTrip.{bytes-drop, u16-back, u16-stands, byte-stands}
@@ -82,9 +83,8 @@ module _ (l : DayList) (room : ℕ) where
   write-says : Says Answer Anything (writeOf l room)
   unfolding writeOf
   write-says =
-      by-step (λ _. SoundList l × Apart (entriesOf l)) Anything Answer (checkOf l) _
-      (check-says l Anything tt tt (λ _. tt) (λ _. tt) (λ _ _. tt))
-      (λ _ s. by-row Answer Anything (ltb room (length (bytesOf l))) _ _ (λ t. tt) (λ t. (well-formed l (s .0) (s .1), refl)))
+      by-step (λ _. WellFormed l) Anything Answer (checkOf l) _ (check-says l Anything tt tt (λ _. tt) (λ _. tt) (λ _ _. tt))
+      (λ _ w. by-row Answer Anything (ltb room (length (bytesOf l))) _ _ (λ t. tt) (λ t. (w, refl)))
 
 -- a well-formed list survives writing and reading: from the bytes that the writer stored, an equal list is read
 pub written-reads-back : (l : DayList) (old : List ℕ) (count : ℕ) → Typed l → writeOf l (length old) ≡ answered count
@@ -276,17 +276,8 @@ pub longest-reached : (l : DayList) × WellFormed l × (length (bytesOf l) ≡ l
 unfolding fullest fullEntries checkOf valuesFault headerFault entriesFault entryFault firstClash firstBelow bytesOf bytesOfEntries entryBytes
 longest-reached = (fullest, refl, refl)
 
--- "Two list values are equal if H, n and the first n entries are": then the value check, the one form and the writer treat them alike
+-- "Two list values are equal if H, n and the first n entries are": then the one form and the writer treat them alike
 module _ (a b : DayList) (same : SameList a b) where
-  same-values : valuesFault a ≡ valuesFault b
-  unfolding valuesFault
-  same-values = rw (same .entries, same .n, same .frame)
-
-  -- they are checked alike
-  pub same-checked : checkOf a ≡ checkOf b
-  unfolding checkOf
-  same-checked = rw (same-values, same .entries) refl
-
   -- they have one form
   pub same-bytes : bytesOf a ≡ bytesOf b
   unfolding bytesOf
@@ -294,7 +285,7 @@ module _ (a b : DayList) (same : SameList a b) where
 
   same-answer : (room : ℕ) → writeOf a room ≡ writeOf b room
   unfolding writeOf
-  same-answer room = rw (same-checked, same-bytes)
+  same-answer room = rw (same-checked same, same-bytes)
 
   same-buffer : (o : Outcome ℕ) (old : List ℕ) → bufferAfter o a old ≡ bufferAfter o b old
   same-buffer (answered n) old = rw same-bytes

@@ -1,26 +1,19 @@
--- Lists that are planned alike: those that differ in serials, seals and kinds alone, and so those equal by document 01's rule.
+-- Lists that are planned alike: those that differ in serials, seals and kinds alone, if the value check answers both alike, and so those
+-- equal by document 01's rule.
 -- Assumes nothing.
 use mathlib.Core.Path.{_≡_, refl, sym, ap, _∙_}
 use mathlib.Core.List.{List, [], _∷_, _++_, map}
-use Prim.Native.Nat.{ℕ, _+_}
+use Prim.Native.Nat.{ℕ}
 use lib.ListN.{length, getD, drop, length-map, List·getD-map}
 use Rattle.base.specs.Outcomes.{Outcome, answered, refused, firstOf, andThen}
-use Rattle.list.specs.Entries.{entryFault}
-use Rattle.list.specs.Checks.{headerFault, entriesFault, checkOf}
+use Rattle.list.specs.Checks.{checkOf}
 use Rattle.list.specs.DayLists.{entriesOf, blank, SameList}
 use Rattle.list.specs.declared.types.Entry.{Entry}
-use Rattle.list.specs.declared.types.Frame.{Frame}
 use Rattle.list.specs.declared.types.DayList.{DayList}
 use Rattle.jackson.specs.Windows.{Windows, windowsOf, plain, SameWindows}
 use Rattle.jackson.specs.Minutes.{dayStart, schedule}
 use Rattle.jackson.specs.Intervals.{overloadOf}
 use Rattle.jackson.specs.Calls.{testOf, listBeside, bufferRow, fillOf, planAfter}
-
--- the value check reads H, n, r, d and p only
-plain-checked : (f : Frame) (i : ℕ) (es : List Entry) → entriesFault f i es ≡ entriesFault f i (map plain es)
-unfolding entriesFault entryFault
-plain-checked f i [] = refl
-plain-checked f i (e ∷ es) = ap (λ (o : Outcome (Unit {0})). andThen (entryFault f i e) (λ _. o)) (plain-checked f (i + 1) es)
 
 -- lists that are equal have the same numbers
 pub same-alike : {a b : DayList} → SameList a b → SameWindows a b
@@ -48,46 +41,37 @@ module _ {a b : DayList} (s : SameWindows a b) where
           ∙ ap (λ (es : List Entry). getD es i blank) (s .entries)
           ∙ List·getD-map plain (entriesOf b) i blank
 
-  -- they are checked alike
-  pub alike-checked : checkOf a ≡ checkOf b
-  unfolding checkOf
-  alike-checked = λ j. andThen (headerFault 0 (s .frame j) (s .n j)) (λ _. faults j)
-    where
-      faults : entriesFault (a .frame) 0 (entriesOf a) ≡ entriesFault (b .frame) 0 (entriesOf b)
-      faults =
-          plain-checked (a .frame) 0 (entriesOf a)
-          ∙ (λ j. entriesFault (s .frame j) 0 (s .entries j))
-          ∙ sym (plain-checked (b .frame) 0 (entriesOf b))
-
-  -- so the calls answer the same, and leave the same in a plan buffer
+-- Where the value check answers both alike, as it does if both pass (`both-pass`) or if they differ in seals alone (`unsealed-checked`), the
+-- calls answer the same, and leave the same in a plan buffer.
+module _ {a b : DayList} (s : SameWindows a b) (checked : checkOf a ≡ checkOf b) where
   pub alike-tested : testOf a ≡ testOf b
   unfolding testOf
-  alike-tested = λ j. andThen (alike-checked j) (λ _. overloadOf (alike-windows j))
+  alike-tested = λ j. andThen (checked j) (λ _. overloadOf (alike-windows s j))
 
   pub alike-filled : (room : ℕ) → fillOf a room ≡ fillOf b room
   unfolding fillOf
   alike-filled room =
       λ j.
-      andThen (alike-checked j)
-      (λ _. firstOf (bufferRow (s .frame j .h) room ∷ []) (overloadOf (alike-windows j)))
+      andThen (checked j)
+      (λ _. firstOf (bufferRow (s .frame j .h) room ∷ []) (overloadOf (alike-windows s j)))
 
   pub alike-plan : (room : ℕ) (old : List ℕ) → planAfter (fillOf a room) (windowsOf a) old ≡ planAfter (fillOf b room) (windowsOf b) old
   alike-plan room old = rw (alike-filled room) (go (fillOf b room))
     where
       go : (o : Outcome (Unit {0})) → planAfter o (windowsOf a) old ≡ planAfter o (windowsOf b) old
-      go (answered t) = ap (λ (w : Windows). schedule w ++ drop (w .h) old) alike-windows
+      go (answered t) = ap (λ (w : Windows). schedule w ++ drop (w .h) old) (alike-windows s)
       go (refused k) = refl
 
   -- and they start the same day
   pub alike-started : dayStart (windowsOf (listBeside (checkOf a) a)) ≡ dayStart (windowsOf (listBeside (checkOf b) b))
-  alike-started = rw alike-checked (ap dayStart (go (checkOf b)))
+  alike-started = rw checked (ap dayStart (go (checkOf b)))
     where
       go : (o : Outcome (Unit {0})) → windowsOf (listBeside o a) ≡ windowsOf (listBeside o b)
-      go (answered t) = alike-windows
+      go (answered t) = alike-windows s
       go (refused k) = refl
 
   pub alike-counted : listBeside (checkOf a) a .n ≡ listBeside (checkOf b) b .n
-  alike-counted = rw alike-checked (go (checkOf b))
+  alike-counted = rw checked (go (checkOf b))
     where
       go : (o : Outcome (Unit {0})) → listBeside o a .n ≡ listBeside o b .n
       go (answered t) = s .n

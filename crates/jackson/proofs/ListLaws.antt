@@ -12,7 +12,7 @@ use Rattle.list.specs.DayLists.{entriesOf, blank}
 use Rattle.list.specs.declared.types.Entry.{Entry}
 use Rattle.list.specs.declared.types.DayList.{DayList}
 use Rattle.base.proofs.Inversion.{Says, by-row}
-use Rattle.list.proofs.Sound.{Sound, Every, SoundList, check-says, sound-list}
+use Rattle.list.proofs.Sound.{Sound, Every, check-says, sound-list}
 use Rattle.jackson.specs.Windows.{windowsOf, Formed}
 use Rattle.jackson.specs.Plans.{PlanBytes, placesIn, Plannable}
 use Rattle.jackson.specs.Intervals.{ShowsOverload, overloadOf}
@@ -88,9 +88,10 @@ module _ (l : DayList) where
   -- and what tells it of well-formed lists does of all, once the value check comes first
   checked-tells : (o : Outcome (Unit {0})) → (WellFormed l → Tells o) → Tells (andThen (checkOf l) (λ _. o))
   checked-tells o rest =
-      go (checkOf l) refl (check-says l NotNine (λ z. omega arith) (λ z. omega arith) (λ _ z. omega arith) (λ _ z. omega arith))
+      go (checkOf l) refl
+      (check-says l NotNine (λ z. omega arith) (λ z. omega arith) (λ _ z. omega arith) (λ _ z. omega arith) (λ _ _ z. omega arith))
     where
-      go : (c : Outcome (Unit {0})) → checkOf l ≡ c → Says (λ _. SoundList l) NotNine c → Tells (andThen c (λ _. o))
+      go : (c : Outcome (Unit {0})) → checkOf l ≡ c → Says (λ _. WellFormed l) NotNine c → Tells (andThen c (λ _. o))
       go (answered t) e _ = rest e
       go (refused k) e other = λ nine. absurd (other nine)
 

@@ -3,6 +3,7 @@
 pub mod ClashFacts
 pub mod Sound
 pub mod ClashLaws
+pub mod Alike
 pub mod Verdicts
 pub mod InTypes
 pub mod Filling

@@ -8,7 +8,7 @@ use native.Mathlib.Omega.{arith}
 use borrow.Author.Tests.{ltb-true, ltb-false, eqb-false, le-ltb, ne-eqb}
 use lib.Dec.{eqb, ltb}
 use lib.ListN.{length}
-use Rattle.base.specs.Outcomes.{Code, code, answered}
+use Rattle.base.specs.Outcomes.{Code, code, Outcome, answered, refused}
 use Rattle.list.specs.Entries.{entryFault}
 use Rattle.list.specs.DayLists.{entriesOf}
 use Rattle.list.specs.Clashes.{firstClash, Apart, FirstClash}
@@ -114,24 +114,29 @@ module _ (l : DayList) where
   sound-values s = rw (header-passes 0 (l .frame) (l .n) (s .header)) (checked-passes (l .frame) 0 (entriesOf l) (s .entries))
 
   -- what the value check says: of a refusal, whatever holds of rows 2, 3, 6, 7 and 14
-  pub check-says : (R : Code → Type 0)
-      → R (code 2 (0 ∷ []))
-      → R (code 3 (0 ∷ []))
-      → ((at : ℕ) → R (code 6 (at ∷ [])))
-      → ((at : ℕ) → R (code 7 (at ∷ [])))
-      → ((valuesFault l ≡ answered tt) → FirstClash (entriesOf l) (firstClash (entriesOf l)) → R (code 14 (firstClash (entriesOf l) ∷ [])))
-      → Says (λ _. SoundList l × Apart (entriesOf l)) R (checkOf l)
-  unfolding checkOf
-  check-says R two three six seven fourteen =
-      let es = entriesOf l in
-      by-step (λ _. SoundList l) R (λ _. SoundList l × Apart es) (valuesFault l) _ (values-say R two three six seven)
-      (λ _ s. by-row (λ _. SoundList l × Apart es) R (ltb (firstClash es) (length es)) _ _
-      (λ t. fourteen (sound-values s) (first-clash es (ltb-true _ _ t)))
-      (λ t. (s, apart es (ltb-false _ _ t))))
+  module _ (R : Code → Type 0) (two : R (code 2 (0 ∷ []))) (three : R (code 3 (0 ∷ []))) (six : (at : ℕ) → R (code 6 (at ∷ [])))
+      (seven : (at : ℕ) → R (code 7 (at ∷ [])))
+      (fourteen : valuesFault l ≡ answered tt → FirstClash (entriesOf l) (firstClash (entriesOf l)) → R (code 14 (firstClash (entriesOf l) ∷ [])))
+    where
+      passes-say : Says (λ _. SoundList l × Apart (entriesOf l)) R (checkOf l)
+      unfolding checkOf
+      passes-say =
+          let es = entriesOf l in
+          by-step (λ _. SoundList l) R (λ _. SoundList l × Apart es) (valuesFault l) _ (values-say R two three six seven)
+          (λ _ s. by-row (λ _. SoundList l × Apart es) R (ltb (firstClash es) (length es)) _ _
+          (λ t. fourteen (sound-values s) (first-clash es (ltb-true _ _ t)))
+          (λ t. (s, apart es (ltb-false _ _ t))))
+
+      pub check-says : Says (λ _. WellFormed l) R (checkOf l)
+      check-says = go (checkOf l) refl passes-say
+        where
+          go : (o : Outcome (Unit {0})) → checkOf l ≡ o → Says (λ _. SoundList l × Apart (entriesOf l)) R o → Says (λ _. WellFormed l) R o
+          go (answered t) e p = e
+          go (refused k) e p = p
 
   -- a list is well-formed exactly if its header and its entries are sound and no two entries clash
   passed : WellFormed l → SoundList l × Apart (entriesOf l)
-  passed w = rw w at (check-says Anything tt tt (λ _. tt) (λ _. tt) (λ _ _. tt))
+  passed w = rw w at (passes-say Anything tt tt (λ _. tt) (λ _. tt) (λ _ _. tt))
 
   pub sound-list : WellFormed l → SoundList l
   sound-list w = passed w .0

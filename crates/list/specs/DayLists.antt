@@ -2,7 +2,7 @@
 use Prim.Native.Nat.{ℕ, _-_}
 use mathlib.Core.Path.{_≡_}
 use mathlib.Core.Bool.{Bool, true, false}
-use mathlib.Core.List.{List, [], _++_}
+use mathlib.Core.List.{List, [], _++_, map}
 use lib.ListN.{length, take, replicate, getD}
 use Rattle.list.specs.declared.types.Seal.the-variants.{Missing}
 use Rattle.list.specs.declared.types.Kind.{Kind}
@@ -52,3 +52,13 @@ pub record SameList (a b : DayList) : Type 0 where
   pub frame : a .frame ≡ b .frame
   pub n : a .n ≡ b .n
   pub entries : entriesOf a ≡ entriesOf b
+
+-- an entry without its seal
+abbrev pub unsealed : Entry → Entry
+unsealed e = record { serial = e .serial; seal = Missing; r = e .r; d = e .d; p = e .p; kind = e .kind }
+
+-- two lists that differ in seals alone
+pub record SameUnsealed (a b : DayList) : Type 0 where
+  pub frame : a .frame ≡ b .frame
+  pub n : a .n ≡ b .n
+  pub entries : map unsealed (entriesOf a) ≡ map unsealed (entriesOf b)

@@ -1,5 +1,5 @@
--- Lists that are narrowed alike: those that differ in serials and seals alone, and so those equal by document 01's rule; and what travels
--- along into the list answered.
+-- Lists that are narrowed alike: those that differ in serials and seals alone, if the value check answers both alike, and so those equal by
+-- document 01's rule; and what travels along into the list answered.
 -- Assumes nothing.
 use mathlib.Core.Path.{_≡_, refl, sym, ap, _∙_}
 use mathlib.Core.List.{List, [], _∷_, map, map-map}
@@ -9,11 +9,13 @@ use lib.ListN.{length, getD, List·getD-map}
 use lib.Seq.{take-append-seam}
 use Rattle.base.specs.Outcomes.{Outcome, answered, andThen}
 use Rattle.list.specs.DayLists.{entriesOf, blank, dayList, SameList, isWhole, wholeIn}
+use Rattle.list.specs.Checks.{checkOf}
 use Rattle.list.specs.declared.types.Entry.{Entry}
 use Rattle.list.specs.declared.types.DayList.{DayList}
+use Rattle.list.proofs.Alike.{same-checked}
 use Rattle.jackson.specs.Windows.{Windows, plain, SameWindows}
 use Rattle.jackson.specs.Intervals.{overloadOf}
-use Rattle.jackson.proofs.Alike.{alike-windows, alike-checked}
+use Rattle.jackson.proofs.Alike.{alike-windows}
 use Rattle.narrow.specs.Rounds.{Narrowed, unmoved, round, narrowing}
 use Rattle.narrow.specs.Calls.{bare, SameTimes, entryWith, entriesWith, listWith, settleOf, roundOf, listed}
 
@@ -30,7 +32,7 @@ times-windows {a} {b} s =
       entries = sym (map-map plain bare (entriesOf a)) ∙ ap (map plain) (s .entries) ∙ map-map plain bare (entriesOf b);
     }
 
--- windows, moves and refusals do not depend on serials and seals, nor on what stands from n on
+-- windows, moves and refusals do not depend on serials and seals, nor on what stands from n on, if the value check answers both lists alike
 module _ {a b : DayList} (s : SameTimes a b) where
   pub times-whole : wholeIn a ≡ wholeIn b
   times-whole = λ j i. isWhole (bares i j .kind)
@@ -41,17 +43,18 @@ module _ {a b : DayList} (s : SameTimes a b) where
           ∙ ap (λ (es : List Entry). getD es i blank) (s .entries)
           ∙ List·getD-map bare (entriesOf b) i blank
 
+module _ {a b : DayList} (s : SameTimes a b) (checked : checkOf a ≡ checkOf b) where
   pub times-settled : settleOf a ≡ settleOf b
   unfolding settleOf
   times-settled =
       let w = times-windows s in
-      λ j. andThen (alike-checked w j) (λ _. narrowing overloadOf (times-whole j) (alike-windows w j))
+      λ j. andThen (checked j) (λ _. narrowing overloadOf (times-whole s j) (alike-windows w j))
 
   pub times-round : roundOf a ≡ roundOf b
   unfolding roundOf
   times-round =
       let w = times-windows s in
-      λ j. andThen (alike-checked w j) (λ _. round overloadOf (times-whole j) (unmoved (alike-windows w j)))
+      λ j. andThen (checked j) (λ _. round overloadOf (times-whole s j) (unmoved (alike-windows w j)))
 
 -- lists that are equal get equal answers
 module _ {a b : DayList} (s : SameList a b) where
@@ -63,10 +66,10 @@ module _ {a b : DayList} (s : SameList a b) where
   same-listed e = λ j. andThen (e j) (λ v. answered (same-with (v .windows) j, v .moves))
 
   pub same-settled : listed a (settleOf a) ≡ listed b (settleOf b)
-  same-settled = same-listed (times-settled (same-times s))
+  same-settled = same-listed (times-settled (same-times s) (same-checked s))
 
   pub same-round : listed a (roundOf a) ≡ listed b (roundOf b)
-  same-round = same-listed (times-round (same-times s))
+  same-round = same-listed (times-round (same-times s) (same-checked s))
 
 -- the list with other windows: at each place the serial, seal, p and kind that stood there, and the window's r and d
 module _ (w : Windows) where

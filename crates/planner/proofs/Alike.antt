@@ -1,4 +1,5 @@
--- Lists that are planned alike: those that differ in serials and seals alone, and so those equal by document 01's rule.
+-- Lists that are planned alike: those that differ in serials and seals alone, if the value check answers both alike, and so those equal by
+-- document 01's rule.
 -- Assumes nothing.
 use Prim.Native.Nat.{ℕ}
 use mathlib.Core.Path.{_≡_, refl}
@@ -8,9 +9,10 @@ use Rattle.base.specs.Outcomes.{Outcome, andThen}
 use Rattle.list.specs.Checks.{checkOf}
 use Rattle.list.specs.DayLists.{SameList, wholeIn}
 use Rattle.list.specs.declared.types.DayList.{DayList}
+use Rattle.list.proofs.Alike.{same-checked}
 use Rattle.jackson.specs.Intervals.{overloadOf}
 use Rattle.jackson.specs.Minutes.{schedule}
-use Rattle.jackson.proofs.Alike.{alike-windows, alike-checked}
+use Rattle.jackson.proofs.Alike.{alike-windows}
 use Rattle.narrow.specs.Rounds.{narrowing}
 use Rattle.narrow.specs.Calls.{SameTimes, listed}
 use Rattle.narrow.proofs.Alike.{same-times, times-windows, times-whole, same-listed}
@@ -18,19 +20,17 @@ use Rattle.planner.specs.Calls.{planChecks, shownChecks, narrowAfter, se
 use Rattle.bounds.specs.ShownPlans.{boundOf, shownPlan}
 use Rattle.bounds.specs.declared.types.Shown.{Shown}
 
--- windows, moves, refusals, bounds, broken entries and plans do not depend on serials and seals, nor on what stands from n on
-module _ {a b : DayList} (s : SameTimes a b) where
+-- windows, moves, refusals, bounds, broken entries and plans do not depend on serials and seals, nor on what stands from n on, if the value
+-- check answers both lists alike
+module _ {a b : DayList} (s : SameTimes a b) (checked : checkOf a ≡ checkOf b) where
   -- the checks before 9
-  times-checked : checkOf a ≡ checkOf b
-  times-checked = alike-checked (times-windows s)
-
   pub times-plan-checked : (room : ℕ) → planChecks a room ≡ planChecks b room
   unfolding planChecks
-  times-plan-checked room = rw (times-checked, s .frame) refl
+  times-plan-checked room = rw (checked, s .frame) refl
 
   pub times-shown-checked : (k room : ℕ) → shownChecks a k room ≡ shownChecks b k room
   unfolding shownChecks
-  times-shown-checked k room = rw (times-checked, s .frame, s .n) refl
+  times-shown-checked k room = rw (checked, s .frame, s .n) refl
 
   -- the settled windows and the moves, or the refusal
   times-after : {x y : Outcome (Unit {0})} → x ≡ y → narrowAfter x a ≡ narrowAfter y b
@@ -68,7 +68,7 @@ module _ {a b : DayList} (s : SameTimes a b) where
 -- lists that are equal get equal answers: beside those above, which hold of them by `same-times`, the list answered
 module _ {a b : DayList} (s : SameList a b) where
   pub same-planned : (room : ℕ) → listed a (planOf a room) ≡ listed b (planOf b room)
-  same-planned room = same-listed s (times-planned (same-times s) room)
+  same-planned room = same-listed s (times-planned (same-times s) (same-checked s) room)
 
   pub same-shown : (k room : ℕ) → listed a (shownOf a k room) ≡ listed b (shownOf b k room)
-  same-shown k room = same-listed s (times-shown (same-times s) k room)
+  same-shown k room = same-listed s (times-shown (same-times s) (same-checked s) k room)

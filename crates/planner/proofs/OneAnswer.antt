@@ -23,6 +23,7 @@ use Rattle.planner.specs.Calls.{PlansDay, Shows}
 use Rattle.planner.specs.declared.types.PlanAnswer.{PlanAnswer}
 use Rattle.planner.specs.declared.types.ShownAnswer.{ShownAnswer}
 use Rattle.bounds.specs.declared.types.Shown.{Shown}
+use Rattle.list.proofs.Alike.{same-checked}
 use Rattle.planner.proofs.Alike.{times-ends, times-starts, times-broken, times-plan, times-bound, times-shown-plan, same-planned}
 use Rattle.planner.proofs.Alike.{same-shown}
 
@@ -79,12 +80,13 @@ module _ {a b : DayList} (s : SameList a b) where
   one-plan old x y new other p q =
       let room = length old in
       let times = same-times s in
+      let checked = same-checked s in
       let narrowed = one-narrowed _ _ (same-planned s room) (x .narrowed) (y .narrowed) (p .answers) (q .answers) in
-      let broken : x .broken ≡ y .broken = p .broken ∙ times-broken times room ∙ sym (q .broken) in
-      let ends : x .ends ≡ y .ends = p .ends ∙ times-ends times room ∙ sym (q .ends) in
-      let starts : x .starts ≡ y .starts = p .starts ∙ times-starts times room ∙ sym (q .starts) in (
+      let broken : x .broken ≡ y .broken = p .broken ∙ times-broken times checked room ∙ sym (q .broken) in
+      let ends : x .ends ≡ y .ends = p .ends ∙ times-ends times checked room ∙ sym (q .ends) in
+      let starts : x .starts ≡ y .starts = p .starts ∙ times-starts times checked room ∙ sym (q .starts) in (
         λ i. record { narrowed = narrowed i; broken = broken i; ends = ends i; starts = starts i },
-        p .buffer ∙ times-plan times old ∙ sym (q .buffer),
+        p .buffer ∙ times-plan times checked old ∙ sym (q .buffer),
       )
 
   pub one-shown : (shown : Shown) (k : ℕ) (old : List ℕ) (x y : ShownAnswer) (new other : List ℕ)
@@ -92,8 +94,9 @@ module _ {a b : DayList} (s : SameList a b) where
   one-shown shown k old x y new other p q =
       let room = length old in
       let times = same-times s in
+      let checked = same-checked s in
       let narrowed = one-narrowed _ _ (same-shown s k room) (x .narrowed) (y .narrowed) (p .answers) (q .answers) in
-      let bound : x .bound ≡ y .bound = p .bound ∙ times-bound times shown k room ∙ sym (q .bound) in (
+      let bound : x .bound ≡ y .bound = p .bound ∙ times-bound times checked shown k room ∙ sym (q .bound) in (
         λ i. record { narrowed = narrowed i; bound = bound i },
-        p .buffer ∙ times-shown-plan times shown k old ∙ sym (q .buffer),
+        p .buffer ∙ times-shown-plan times checked shown k old ∙ sym (q .buffer),
       )
