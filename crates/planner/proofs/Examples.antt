@@ -5,8 +5,9 @@ use mathlib.Core.Path.{_≡_, refl}
 use mathlib.Core.List.{[], _∷_}
 use native.Mathlib.Omega.{arith}
 use Rattle.list.specs.Entries.{entryFault}
-use Rattle.list.specs.Checks.{headerFault, entriesFault, checkOf}
-use Rattle.format.specs.Reading.{readOf, bodyOf, entriesFrom}
+use Rattle.list.specs.Clashes.{firstClash}
+use Rattle.list.specs.Checks.{headerFault, entriesFault, valuesFault, checkOf}
+use Rattle.format.specs.Reading.{readOf, decodeOf, bodyOf, entriesFrom}
 use Rattle.base.specs.Counting.{sum, same, firstBelow, best, listOf}
 use Rattle.jackson.specs.Windows.{windowsOf}
 use Rattle.jackson.specs.Plans.{Plan, IsEnd, IsStart, placesIn}
@@ -103,7 +104,7 @@ starts-at-2 = record { below = omega arith; minute = refl; none-before = none }
 
 -- Outcomes and bytes are computed.
 pub plan-examples : PlanExamples
-unfolding readOf bodyOf entriesFrom checkOf headerFault entriesFault entryFault
+unfolding readOf decodeOf bodyOf entriesFrom firstClash checkOf valuesFault headerFault entriesFault entryFault
     sum firstBelow best listOf work leftEnd rightEnd overloadOf chosen minuteOf later schedule
     failedStarts failedEnds leastStart greatestEnd narrowSide visit visits rounds narrowing
     entriesWith listWith settleOf roundOf failedDeadlines failedReleases leastEnd greatestStart planChecks

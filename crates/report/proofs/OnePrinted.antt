@@ -49,12 +49,12 @@ module _ {l : DayList} {a b : List ℕ} (x : PrintsPlan l a) (y : PrintsPlan l b
 
 -- two texts of which the law holds
 pub one-text : (bs a b : List ℕ) → ReportLaw bs a → ReportLaw bs b → a ≡ b
-one-text bs a b (unread k e x) (unread j f y) = x .line ∙ ap refusalLine (refused-same e f) ∙ sym (y .line)
-one-text bs a b (unread k e x) (refuses l j f q y d) = absurd (answered-refused f e)
-one-text bs a b (unread k e x) (plans l f q y) = absurd (answered-refused f e)
-one-text bs a b (refuses l k e p x d) (unread j f y) = absurd (answered-refused e f)
+one-text bs a b (unread k e r x) (unread j f s y) = x .line ∙ ap refusalLine (refused-same e f) ∙ sym (y .line)
+one-text bs a b (unread k e r x) (refuses l j f q y d) = absurd (answered-refused f e)
+one-text bs a b (unread k e r x) (plans l f q y) = absurd (answered-refused f e)
+one-text bs a b (refuses l k e p x d) (unread j f s y) = absurd (answered-refused e f)
 one-text bs a b (refuses l k e p x d) (refuses m j f q y c) = x .line ∙ ap refusalLine (refused-same p q) ∙ sym (y .line)
 one-text bs a b (refuses l k e p x d) (plans m f q y) = absurd (answered-refused q p)
-one-text bs a b (plans l e p x) (unread j f y) = absurd (answered-refused e f)
+one-text bs a b (plans l e p x) (unread j f s y) = absurd (answered-refused e f)
 one-text bs a b (plans l e p x) (refuses m j f q y d) = absurd (answered-refused p q)
 one-text bs a b (plans l e p x) (plans m f q y) = answered-same p q

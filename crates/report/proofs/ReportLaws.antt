@@ -10,7 +10,7 @@ use lib.ListN.{length, getD}
 use Rattle.base.specs.Outcomes.{Code, code, Outcome, answered, refused, andThen}
 use Rattle.list.specs.DayLists.{entriesOf, blank, dayList, wholeIn}
 use Rattle.list.specs.Checks.{WellFormed}
-use Rattle.format.specs.Reading.{readOf}
+use Rattle.format.specs.Reading.{readOf, ReadRefusal}
 use Rattle.list.specs.declared.types.Entry.{Entry}
 use Rattle.list.specs.declared.types.DayList.{DayList}
 use Rattle.list.specs.declared.types.Verdict.the-variants.{Accepted}
@@ -181,10 +181,13 @@ prints-refusal k says = record { line = refl; says = says }
 
 -- of one that is given as the list is read
 unread-says : (bs : List ℕ) (k : Code) → readOf bs ≡ refused k → Says k
-unread-says bs k e =
-    let in-bytes = read-places bs k e in
-    let is : k ≡ code (k .number) (in-bytes .place ∷ []) = λ j. code (k .number) (in-bytes .carried j) in
-    subst Says (sym is) (one-said (k .number) (in-bytes .place) (λ z. omega (arith, in-bytes .reading)))
+unread-says bs k e = go (read-places bs k e)
+  where
+    go : ReadRefusal bs k → Says k
+    go (inl in-bytes) =
+        let is : k ≡ code (k .number) (in-bytes .place ∷ []) = λ j. code (k .number) (in-bytes .carried j) in
+        subst Says (sym is) (one-said (k .number) (in-bytes .place) (λ z. omega (arith, in-bytes .reading)))
+    go (inr (at, is, clash)) = subst Says (sym is) (one-said 14 at (λ z. omega arith))
 
 -- of one that is given as it is planned
 module _ (l : DayList) (formed : WellFormed l) (k : Code) (e : narrowing overloadOf (wholeIn l) (windowsOf l) ≡ refused k) where
@@ -206,7 +209,7 @@ unfolding reportOf
 report-law bs = read (readOf bs) refl
   where
     read : (o : Outcome DayList) → readOf bs ≡ o → ReportLaw bs (printed (andThen o plannedText))
-    read (refused k) e = unread k e (prints-refusal k (unread-says bs k e))
+    read (refused k) e = unread k e (read-places bs k e) (prints-refusal k (unread-says bs k e))
     read (answered l) e = narrowed (narrowing overloadOf (wholeIn l) (windowsOf l)) refl
       where
         formed : WellFormed l

@@ -5,7 +5,7 @@ use mathlib.Core.Logic.{_↔_}
 use mathlib.Core.List.{List, []}
 use lib.ListN.{length, getD}
 use Rattle.base.specs.Outcomes.{Code, answered, refused}
-use Rattle.format.specs.Reading.{readOf}
+use Rattle.format.specs.Reading.{readOf, ReadRefusal}
 use Rattle.list.specs.declared.types.DayList.{DayList}
 use Rattle.jackson.specs.Windows.{windowsOf}
 use Rattle.jackson.specs.Plans.{placesIn}
@@ -49,8 +49,8 @@ pub record PrintsRefusal (k : Code) (text : List ℕ) : Type 0 where
 
 -- what is printed for the input bs: one of three, and not two, since `readOf` and `reportOf` have one outcome
 pub data ReportLaw (bs text : List ℕ) : Type 0 where
-  -- the list is turned back as it is read: the line has the first row from 1 to 8 that holds
-  unread : (k : Code) → readOf bs ≡ refused k → PrintsRefusal k text → ReportLaw bs text
+  -- the list is turned back as it is read: the line has the first row, of 1 to 8 and then 14, that holds, and where
+  unread : (k : Code) → readOf bs ≡ refused k → ReadRefusal bs k → PrintsRefusal k text → ReportLaw bs text
   -- the list l is turned back as it is planned: demand 3 holds of the refusal printed, so that there are no settled windows inside those of
   -- l, and 9 stands there if l has no plan, 10 if it has one
   refuses : (l : DayList) (k : Code) → readOf bs ≡ answered l → reportOf bs ≡ refused k → PrintsRefusal k text
