@@ -4,6 +4,7 @@ use crate::types::DayList;
 use crate::types::Entry;
 ghost use mathlib.Core.Path.{_≡_};
 ghost use Prim.Native.Nat.{_<_, min, max};
+ghost use lib.Dec.{eqb};
 ghost use lib.ListN.{length};
 ghost use Rattle.list.specs.DayLists.{entriesOf};
 ghost use Rattle.list.specs.Clashes.{shareMinute, clash, clashesEarlier, firstClash};
@@ -28,11 +29,18 @@ fn share_minute(a: Entry, b: Entry) -> bool
     later(a.r, b.r) < earlier(a.d, b.d)
 }
 
+// Whether two entries are of one box: serials tell boxes apart, seals do not.
+fn same_serial(a: Entry, b: Entry) -> bool
+    ensures { λ t. ⌜ t ≡ eqb (a .serial) (b .serial) ⌝ }
+{
+    a.serial == b.serial
+}
+
 // Whether two entries are one box in two places.
 fn clashes(a: Entry, b: Entry) -> bool
     ensures { λ t. ⌜ t ≡ clash a b ⌝ }
 {
-    if a.serial == b.serial {
+    if same_serial(a, b) {
         share_minute(a, b)
     } else {
         false
