@@ -132,8 +132,8 @@ fn entries_that_are_not_looked_at() {
     }
 }
 
-/// Plans a list, and has every entry of it in the plan with all its minutes, each in its window, and no minute more. The
-/// answered list has all serials and seals in their order.
+/// Plans a list, and has every entry of it in the plan with all its minutes, each in its window, and no minute more.
+/// The answered list has all serials and seals in their order.
 #[track_caller]
 fn nothing_is_dropped(day: &Day) {
     for call in calls(day.entries.len()) {

@@ -120,8 +120,8 @@ fn all_said(fields: &Fields, n: usize, room: usize) -> Vec<Said> {
     calls(n).into_iter().map(|call| said(ask(call, fields, room), n)).collect()
 }
 
-/// The same serial at places whose windows share no minute: they stay two entries, and the calls say the same of them as
-/// of entries with serials that differ.
+/// The same serial at places whose windows share no minute: they stay two entries, and the calls say the same of them
+/// as of entries with serials that differ.
 #[test]
 fn entries_with_one_serial_are_different_entries() {
     for (entries, serials) in [

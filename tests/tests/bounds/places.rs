@@ -1,5 +1,5 @@
-//! The place that is asked for, and the rows in their order: the value's own with 14, then 13, 11, 9, 10. "Rows are tested
-//! in this order .. the first that holds is given".
+//! The place that is asked for, and the rows in their order: the value's own with 14, then 13, 11, 9, 10. "Rows are
+//! tested in this order .. the first that holds is given".
 
 use dock_tests::abi::Call;
 use dock_tests::check_bounds::{ask, calls, refused};

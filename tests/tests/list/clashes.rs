@@ -77,7 +77,7 @@ fn seals_do_not_count() {
     }
 }
 
-/// Three entries with every windows of 3 minutes, of one serial, of two in each way, and of three.
+/// Three entries with any windows of 3 minutes, of one serial, of two in each way, and of three.
 #[test]
 fn every_three_windows() {
     let windows = clashes::windows(3);
