@@ -87,5 +87,6 @@ fn long_block() -> FullDay {
 
 fn full(name: &'static str, about: &'static str, number: u64, list: Day) -> FullDay {
     assert_eq!((list.h, list.entries.len()), (LONGEST_DAY, MOST_ENTRIES), "{name}");
+    assert_eq!(list.first_clash(), None, "{name}: one box in two places");
     FullDay { name, about, number, list }
 }

@@ -26,7 +26,7 @@ pub struct Interval {
     pub work: u64,
 }
 
-/// The rows of document 01's table that the library's calls know, with what each carries.
+/// The rows of document 01's table that the library's calls know, and 14 of document 02, with what each carries.
 #[derive(Clone, Copy, Debug, PartialEq, Eq)]
 pub enum Refusal {
     Missing { length: usize },
@@ -42,6 +42,7 @@ pub enum Refusal {
     ShortPlan { h: u16 },
     ShortBuffer { needed: usize },
     UnknownPlace { place: u64 },
+    SerialClash { place: usize },
 }
 
 impl Refusal {
@@ -61,6 +62,7 @@ impl Refusal {
             Refusal::ShortPlan { h } => (11, usize::from(h)),
             Refusal::ShortBuffer { needed } => (12, needed),
             Refusal::UnknownPlace { place } => return (13, [place, 0, 0]),
+            Refusal::SerialClash { place } => (14, place),
         };
         (number, [carries as u64, 0, 0])
     }
@@ -77,6 +79,27 @@ impl Entry {
             return Err(Refusal::Window { place });
         }
         Ok(())
+    }
+
+    /// Whether a minute of this window lies in the other one too.
+    fn shares_a_minute(&self, other: &Entry) -> bool {
+        (self.r..self.d).any(|minute| (other.r..other.d).contains(&minute))
+    }
+}
+
+impl Day {
+    /// Document 02, "One box in two places": whether the entry at this place is one "whose given window shares a
+    /// minute with an earlier entry of the same serial".
+    pub fn clashes_at(&self, place: usize) -> bool {
+        let later = &self.entries[place];
+        self.entries[..place]
+            .iter()
+            .any(|earlier| earlier.serial == later.serial && earlier.shares_a_minute(later))
+    }
+
+    /// "Such an entry, the first in list order": its place.
+    pub fn first_clash(&self) -> Option<usize> {
+        (0..self.entries.len()).find(|&place| self.clashes_at(place))
     }
 }
 

@@ -1,7 +1,10 @@
-//! Values that differ only in what a call must not look at.
+//! Values that differ only in what a call must not look at. Serials count for 14 alone: where they change, no box is
+//! in two places before or after.
 
-use crate::flat::{Fields, WIDTH};
+use crate::day::Day;
+use crate::flat::{self, Fields, WIDTH};
 use crate::random::Random;
+use crate::samples::told_apart;
 
 /// The numbers of a place that are not its window or its minutes.
 pub const SERIAL: usize = 0;
@@ -9,7 +12,8 @@ pub const STANDS: usize = 1;
 pub const SEAL: usize = 2;
 pub const WHOLE: usize = 6;
 
-/// The value with any numbers, large and small ones, in place of these of every entry.
+/// The value with any numbers, large and small ones, in place of these of every entry. Serials are told apart; in half
+/// of the values they are few, so that one stands in several entries.
 pub fn with_any(random: &mut Random, fields: &Fields, numbers: &[usize]) -> Fields {
     let mut fields = *fields;
     for place in 0..fields[1] as usize {
@@ -17,7 +21,37 @@ pub fn with_any(random: &mut Random, fields: &Fields, numbers: &[usize]) -> Fiel
             fields[2 + WIDTH * place + number] = random.any() as u32 >> random.below(32);
         }
     }
+    if numbers.contains(&SERIAL) {
+        if random.once_in(2) {
+            (0..fields[1] as usize).for_each(|place| fields[2 + WIDTH * place + SERIAL] %= 3);
+        }
+        for (place, entry) in told_apart(list(&fields)).entries.iter().enumerate() {
+            fields[2 + WIDTH * place + SERIAL] = entry.serial;
+        }
+    }
     fields
+}
+
+/// The list that a right value stands for.
+pub fn list(fields: &Fields) -> Day {
+    let mut entries = flat::value(fields).places;
+    entries.truncate(fields[1] as usize);
+    Day { h: fields[0] as u16, entries }
+}
+
+/// The value with this serial in every entry.
+pub fn with_one_serial(fields: &Fields, serial: u32) -> Fields {
+    let mut fields = *fields;
+    for place in 0..fields[1] as usize {
+        fields[2 + WIDTH * place + SERIAL] = serial;
+    }
+    fields
+}
+
+/// Whether a serial stands in two entries.
+pub fn has_a_serial_twice(fields: &Fields) -> bool {
+    let serials: Vec<u32> = list(fields).entries.iter().map(|entry| entry.serial).collect();
+    (1..serials.len()).any(|place| serials[..place].contains(&serials[place]))
 }
 
 /// The value with other numbers in all its places from n on.

@@ -7,7 +7,7 @@
 pub mod abi; // the calls of the static library
 pub mod program; // the report program as it is built
 
-// The rules of document 01 a second time, in another style than the proved code.
+// The rules of documents 01 and 02 a second time, in another style than the proved code.
 pub mod bounds; // least ends, greatest starts, shown plans
 pub mod day; // the list, its entries and refusals
 pub mod flat; // a list as the numbers in which the library takes it
@@ -34,6 +34,7 @@ pub mod check_report; // reports and refusals' lines
 // Inputs, lists and values to try.
 pub mod cases; // inputs with their reports, from files
 pub mod chains; // days that need many rounds
+pub mod clashes; // lists in which a serial stands twice
 pub mod ignored; // values that differ in what no call looks at
 pub mod random; // lists, damaged inputs and values, fixed by their seeds
 pub mod samples; // lists that several tests share, and short forms to write others down

@@ -1,7 +1,9 @@
-//! Random lists, damaged inputs and wild values. Every sequence is fixed by its seed.
+//! Random lists, damaged inputs and wild values. Every sequence is fixed by its seed. In a list that is well-formed
+//! equal serials stand in windows that share no minute; those that are drawn or doubled may be refused with 14.
 
 use crate::day::{Day, Entry, LONGEST_DAY, MOST_ENTRIES};
 use crate::flat::{self, Fields, WIDTH};
+use crate::samples::told_apart;
 use crate::writer;
 
 /// The generator splitmix64.
@@ -66,25 +68,47 @@ pub fn each_of<S: Count, T>(
     seen
 }
 
-/// A well-formed list of at most `most` entries.
-pub fn day(random: &mut Random, most: usize) -> Day {
+/// A list of at most `most` entries with the serials as they are drawn: one may stand in windows that share a
+/// minute, and else it is well-formed.
+pub fn drawn_day(random: &mut Random, most: usize) -> Day {
     let any = random.within(1, LONGEST_DAY);
     let h = random.pick(&[1, 2, any % 20 + 1, any, LONGEST_DAY]);
     let n = random.below(most + 1);
-    Day { h, entries: (0..n).map(|_| entry(random, h)).collect() }
+    Day { h, entries: entries(random, h, n) }
 }
 
-/// A well-formed list: mostly a short one, else one of any length or a full one.
-pub fn any_day(random: &mut Random) -> Day {
+/// Such a list: mostly a short one, else one of any length or a full one.
+pub fn any_drawn_day(random: &mut Random) -> Day {
     let most = random.pick(&[3, 3, 3, MOST_ENTRIES]);
-    let mut day = day(random, most);
+    let mut day = drawn_day(random, most);
     if random.once_in(8) {
         day.entries.resize_with(MOST_ENTRIES, || entry(random, day.h));
     }
     day
 }
 
-/// A well-formed entry of a day of `h` minutes.
+/// A well-formed list of the same sort.
+pub fn any_day(random: &mut Random) -> Day {
+    told_apart(any_drawn_day(random))
+}
+
+/// The same list with serials doubled: each entry but the first has the one of an earlier entry, once in `times`.
+pub fn with_doubled_serials(random: &mut Random, mut day: Day, times: usize) -> Day {
+    for place in 1..day.entries.len() {
+        let earlier = random.below(place);
+        if random.once_in(times) {
+            day.entries[place].serial = day.entries[earlier].serial;
+        }
+    }
+    day
+}
+
+/// So many entries of a day of `h` minutes.
+pub fn entries(random: &mut Random, h: u16, n: usize) -> Vec<Entry> {
+    (0..n).map(|_| entry(random, h)).collect()
+}
+
+/// An entry of a day of `h` minutes, which keeps all rules of an entry alone.
 pub fn entry(random: &mut Random, h: u16) -> Entry {
     let d = if random.once_in(3) { h } else { random.within(1, h) };
     let r = if random.once_in(3) { 0 } else { random.within(0, d - 1) };
@@ -98,7 +122,7 @@ pub fn small_day(random: &mut Random) -> Day {
     let h = random.within(1, 8);
     let n = random.below(6);
     if random.once_in(4) {
-        return Day { h, entries: (0..n).map(|_| entry(random, h)).collect() };
+        return told_apart(Day { h, entries: entries(random, h, n) });
     }
     let idle = random.pick(&[0, 2, 9]);
     let mut day = planned_day(random, h, n, idle, &[1, 2, 4, 8]);
@@ -113,7 +137,7 @@ pub fn small_day(random: &mut Random) -> Day {
 /// multiples of one of `grids`, so that many windows end together.
 pub fn planned_day(random: &mut Random, h: u16, n: usize, idle: usize, grids: &[u16]) -> Day {
     let n = n.min(usize::from(h));
-    let mut entries: Vec<Entry> = (0..n).map(|_| entry(random, 1)).collect();
+    let mut entries = entries(random, 1, n);
     let mut minutes = vec![vec![]; n];
     let mut turn = n;
     for minute in 0..h {
@@ -135,7 +159,7 @@ pub fn planned_day(random: &mut Random, h: u16, n: usize, idle: usize, grids: &[
         entry.d = (end.div_ceil(grid) * grid).min(h);
         entry.p = minutes.len() as u16;
     }
-    Day { h, entries }
+    told_apart(Day { h, entries })
 }
 
 /// A list of `n` entries, at least 1 and at most as many as there are minutes, that has a plan in which none
@@ -158,7 +182,7 @@ pub fn unbroken_day(random: &mut Random, h: u16, n: usize, idle: bool, wider: u1
         free = end;
     }
     shuffle(random, &mut entries);
-    Day { h, entries }
+    told_apart(Day { h, entries })
 }
 
 /// A full day with an unbroken plan, of whole entries but for one in `pause`, and none if that is 0.
@@ -181,7 +205,7 @@ pub fn blocked_day(random: &mut Random) -> Day {
         day.entries.push(Entry { r, d: r + 1, p: 1, whole: false, ..entry(random, 1) });
     }
     shuffle(random, &mut day.entries);
-    day
+    told_apart(day)
 }
 
 /// A full day of entries each of which begins later and ends earlier than the last, so that nearly all of
@@ -197,7 +221,7 @@ pub fn interrupted_day(random: &mut Random) -> Day {
         (r, d) = (r + before, d - after);
     }
     shuffle(random, &mut day.entries);
-    day
+    told_apart(day)
 }
 
 /// A day of at most `most` minutes and `n` entries, of which three in four or all are whole: windows of any
@@ -207,7 +231,7 @@ pub fn mixed_day(random: &mut Random, most: u16, n: usize) -> Day {
     let n = random.below(n + 1);
     let idle = random.pick(&[0, 2, 9]);
     let mut day = match random.below(4) {
-        0 => Day { h, entries: (0..n).map(|_| entry(random, h)).collect() },
+        0 => told_apart(Day { h, entries: entries(random, h, n) }),
         1 => unbroken_day(random, h, n.clamp(1, h.into()), idle > 0, h / 2),
         _ => planned_day(random, h, n, idle, &[1, 2, 4, 8]),
     };
@@ -231,7 +255,7 @@ pub fn crossed_day(random: &mut Random) -> Day {
         day.entries.push(Entry { r: 0, d: 7, p, whole: true, ..entry(random, 1) });
     }
     shuffle(random, &mut day.entries);
-    day
+    told_apart(day)
 }
 
 /// A day of 3 minutes at least with wide entries, and short ones that interrupt them: many plans of it break
@@ -248,7 +272,7 @@ pub fn nested_day(random: &mut Random, h: u16, n: usize) -> Day {
         };
         day.entries.push(Entry { r, d, p, whole: random.once_in(2), ..entry(random, 1) });
     }
-    day
+    told_apart(day)
 }
 
 /// Puts values in any order.
@@ -268,9 +292,19 @@ pub fn work_more(random: &mut Random, day: &mut Day) {
     }
 }
 
+/// A list of any length, once in three times with its serials as they are drawn.
+fn apart_or_not(random: &mut Random) -> Day {
+    let day = any_drawn_day(random);
+    if random.once_in(3) {
+        day
+    } else {
+        told_apart(day)
+    }
+}
+
 /// The bytes of a random list with one to three damages.
 pub fn damaged(random: &mut Random) -> Vec<u8> {
-    let day = any_day(random);
+    let day = apart_or_not(random);
     damaged_form(random, &day)
 }
 
@@ -314,7 +348,7 @@ fn damage(random: &mut Random, bytes: &mut Vec<u8>) {
 /// A flat value that may break any rule: a list, often with noise behind it, with up to three numbers
 /// changed.
 pub fn wild_fields(random: &mut Random) -> Fields {
-    let day = any_day(random);
+    let day = apart_or_not(random);
     let mut fields = flat::of_day(&day);
     if random.once_in(2) {
         let n = 2 + WIDTH * day.entries.len();

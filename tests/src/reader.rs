@@ -1,4 +1,5 @@
-//! The second reader: takes the fields one after the other, as document 01 names them.
+//! The second reader: takes the fields one after the other, as document 01 names them. One box in two places is
+//! looked for last, when the whole input is known to be a list: "after 8 when reading".
 
 use crate::day::{Day, Entry, Refusal, LONGEST_DAY, MOST_ENTRIES};
 
@@ -48,10 +49,18 @@ pub fn read(input: &[u8]) -> Result<Day, Refusal> {
     if n > MOST_ENTRIES {
         return Err(Refusal::TooMany { carries: 2 });
     }
-    let entries = (0..n).map(|_| entry(&mut cursor, h)).collect::<Result<_, _>>()?;
-    match cursor.left {
-        [] => Ok(Day { h, entries }),
-        _ => Err(Refusal::LeftOver { first: cursor.place() }),
+    let (mut maps, mut entries) = (vec![], vec![]);
+    for _ in 0..n {
+        maps.push(cursor.place());
+        entries.push(entry(&mut cursor, h)?);
+    }
+    if !cursor.left.is_empty() {
+        return Err(Refusal::LeftOver { first: cursor.place() });
+    }
+    let day = Day { h, entries };
+    match day.first_clash() {
+        Some(place) => Err(Refusal::SerialClash { place: maps[place] }),
+        None => Ok(day),
     }
 }
 

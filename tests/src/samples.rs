@@ -44,6 +44,19 @@ pub fn with_serials(mut day: Day, serials: &[u32]) -> Day {
     day
 }
 
+/// The same list with serials that are told apart, so that no box is in two places: an entry that shares a minute
+/// with an earlier one of its serial gets the next lower serial of which that is not so, after 0 the greatest.
+/// Windows that share no minute keep their serials, equal ones too.
+pub fn told_apart(mut day: Day) -> Day {
+    for place in 0..day.entries.len() {
+        while day.clashes_at(place) {
+            let serial = &mut day.entries[place].serial;
+            *serial = serial.wrapping_sub(1);
+        }
+    }
+    day
+}
+
 /// A day of `h` minutes in short: `w[0,3)2 p[1,4)1` is a whole entry with the window [0, 3) and p 2, then a
 /// pause entry with [1, 4) and p 1. The serials differ.
 pub fn boxes(h: u16, entries: &str) -> Day {
@@ -84,6 +97,11 @@ pub fn entry(r: u16, d: u16, p: u16) -> Entry {
     Entry { serial: 9, seal: None, r, d, p, whole: false }
 }
 
+/// The same entries with serials that differ, 9, 10 and so on.
+pub fn numbered(entries: &[Entry]) -> Vec<Entry> {
+    (9..).zip(entries).map(|(serial, entry)| Entry { serial, ..entry.clone() }).collect()
+}
+
 /// A value with these entries, whatever they are.
 pub fn value(h: u32, n: u32, entries: &[Entry]) -> Fields {
     let mut fields = [0; SIZE];
@@ -119,6 +137,11 @@ pub struct Written {
 /// The shortest entry, of one minute at any time of the day: 7 bytes.
 pub const SHORT: Written = Written { serial: 9, seal: None, r: None, d: None, p: 1, whole: false };
 
+/// So many of the shortest entries, with serials that differ, from 9 on.
+pub fn shorts(n: usize) -> Vec<Written> {
+    (9..).take(n).map(|serial| Written { serial, ..SHORT }).collect()
+}
+
 /// The bytes of a list with entries that are written so.
 pub fn list(h: u16, entries: &[Written]) -> Vec<u8> {
     let mut bytes = h.to_le_bytes().to_vec();
@@ -153,11 +176,11 @@ pub fn longest() -> Day {
 }
 
 /// A full day in which each entry begins a minute after the last, from `first` on, and ends a minute before
-/// it, with the longest serials and seals. All but the innermost are interrupted by the next after their
+/// it, with serials and seals of the most digits. All but the innermost are interrupted by the next after their
 /// first minute.
 pub fn interrupted(first: u16, whole: bool, p: impl Fn(usize) -> u16) -> Day {
     let entry = |place: usize| Entry {
-        serial: u32::MAX,
+        serial: u32::MAX - place as u32,
         seal: Some(u32::MAX),
         r: first + place as u16,
         d: LONGEST_DAY - place as u16,
@@ -175,7 +198,7 @@ pub fn long_text() -> Day {
 /// A list with each of the 16 shapes of an entry.
 pub fn every_shape() -> Day {
     let entry = |shape: u32| Entry {
-        serial: 0x0102_0304 << (shape % 5),
+        serial: 0x0102_0304 * (shape + 1),
         seal: (shape & 1 != 0).then_some(shape * 0x1111_1111),
         r: if shape & 2 != 0 { 256 + shape as u16 } else { 0 },
         d: if shape & 4 != 0 { 515 + shape as u16 } else { 777 },
@@ -187,12 +210,11 @@ pub fn every_shape() -> Day {
 
 /// Accepted inputs, from the smallest to a longest.
 pub fn inputs() -> Vec<Vec<u8>> {
-    let crowded = vec![SHORT; MOST_ENTRIES];
     vec![
         hex("01 00 00"),
         document(),
         writer::form(&every_shape()),
-        list(1, &crowded),
+        list(1, &shorts(MOST_ENTRIES)),
         writer::form(&longest()),
     ]
 }

@@ -1,6 +1,7 @@
 //! Lists handed over as values, for every call that takes one: those that it must refuse whatever else it is
 //! lent, those at the limits that it must accept, and wild ones. "A list handed over as a value is tested for
-//! 2, 3, then 6 and 7 per entry; 2 and 3 then carry 0, 6 and 7 the entry's place."
+//! 2, 3, then 6 and 7 per entry; 2 and 3 then carry 0, 6 and 7 the entry's place." Document 02 adds 14 "after the
+//! last 7", which carries the entry's place too.
 
 use crate::day::MOST_ENTRIES;
 use crate::flat::{self, Fields, SIZE, WIDTH};
@@ -13,7 +14,9 @@ use std::panic::{self, AssertUnwindSafe};
 /// value carried. Fails with the names of the rules that are broken.
 #[track_caller]
 pub fn refused(check: impl Fn(&Fields, u32, usize)) {
-    hold(&RULES, |lists, kinds| lists(&|list, number, carries| check(&list.of(kinds), number, carries)));
+    hold(&RULES, &SERIALS, |lists, sort| {
+        lists(&|list, number, carries| check(&list.of(sort), number, carries))
+    });
 }
 
 /// Holds a call against values at the limits of the rules, which it must accept. All of them have a plan, and
@@ -29,8 +32,23 @@ pub fn accepted(check: impl Fn(&Fields)) {
         ("the first minute", day(&[[0, 1, 1]])),
         ("the last minute", day(&[[99, 100, 1]])),
         ("an entry that fills the day", day(&[[0, 100, 100]])),
+        ("one serial in windows that touch", day(&[[0, 50, 50], [50, 100, 50]]).serials(&[7, 7])),
+        ("the later one of a serial first", day(&[[50, 100, 50], [0, 50, 50]]).serials(&[0, 0])),
+        ("one serial with minutes between", day(&[[0, 49, 1], [60, 61, 1], [50, 55, 1]]).serials(&[7; 3])),
+        ("64 entries of one serial", day(&one_by_one()).serials(&[u32::MAX; MOST_ENTRIES])),
+        ("windows that share a minute, serials 1 apart", day(&[[0, 100, 9]; 3]).serials(&[0, 1, u32::MAX])),
+        (
+            "serials that differ in one byte",
+            day(&[[0, 100, 9]; 4]).serials(&[7, 0x107, 0x1_0007, 0x100_0007]),
+        ),
+        ("one serial twice, but behind the list", list(100, 1, &[[0, 100, 9]; 3]).serials(&[7; 3])),
     ];
-    hold(&limits, |list, kinds| check(&list.of(kinds)));
+    hold(&limits, &SERIALS[..1], |list, sort| check(&list.of(sort)));
+}
+
+/// 64 entries of a minute, one after the other.
+fn one_by_one() -> [Times; MOST_ENTRIES] {
+    std::array::from_fn(|place| [place as u32, place as u32 + 1, 1])
 }
 
 /// Which places are whole.
@@ -40,15 +58,24 @@ type Kinds = fn(usize) -> bool;
 const KINDS: [(&str, Kinds); 3] =
     [("pause", |_| false), ("whole", |_| true), ("whole and pause in turn", |place| place % 2 == 0)];
 
-/// Runs a check of each rule with entries of each kind, all of them even if some fail, so that the failure
-/// has the names of all broken rules.
+/// The serial of each place, where a list does not name its own.
+type Serials = fn(usize) -> u32;
+
+/// 2, 3, 6 and 7 come before 14, so that a list is refused with them whether its serials differ or not.
+const SERIALS: [(&str, Serials); 2] =
+    [("with serials that differ", |place| 9 + place as u32), ("of one serial", |_| 9)];
+
+/// Runs a check of each rule with entries of each kind and such serials, all of them even if some fail, so that
+/// the failure has the names of all broken rules.
 #[track_caller]
-fn hold<T>(rules: &[(&str, T)], check: impl Fn(&T, Kinds)) {
+fn hold<T>(rules: &[(&str, T)], serials: &[(&str, Serials)], check: impl Fn(&T, (Kinds, Serials))) {
     let mut broken = vec![];
     for (rule, lists) in rules {
         for (name, kinds) in KINDS {
-            if panic::catch_unwind(AssertUnwindSafe(|| check(lists, kinds))).is_err() {
-                broken.push(format!("{rule}, entries {name}"));
+            for &(apart, serials) in serials {
+                if panic::catch_unwind(AssertUnwindSafe(|| check(lists, (kinds, serials)))).is_err() {
+                    broken.push(format!("{rule}, entries {name} {apart}"));
+                }
             }
         }
     }
@@ -58,15 +85,16 @@ fn hold<T>(rules: &[(&str, T)], check: impl Fn(&T, Kinds)) {
 /// r, d and p of an entry, right or wrong or too large for their fields.
 type Times = [u32; 3];
 
-/// A value but for the kinds of its entries.
+/// A value but for the kinds of its entries, and for their serials where none are named.
 struct List {
     h: u32,
     n: u32,
     entries: Vec<Times>,
+    serials: Vec<u32>,
 }
 
 fn list(h: u32, n: u32, entries: &[Times]) -> List {
-    List { h, n, entries: entries.to_vec() }
+    List { h, n, entries: entries.to_vec(), serials: vec![] }
 }
 
 /// A list that says a day of 100 minutes with these entries.
@@ -75,11 +103,18 @@ fn day(entries: &[Times]) -> List {
 }
 
 impl List {
-    fn of(&self, kinds: Kinds) -> Fields {
+    /// The same list with these serials.
+    fn serials(self, serials: &[u32]) -> List {
+        assert_eq!(self.entries.len(), serials.len());
+        List { serials: serials.to_vec(), ..self }
+    }
+
+    fn of(&self, (kinds, serials): (Kinds, Serials)) -> Fields {
         let mut fields = [0; SIZE];
         (fields[0], fields[1]) = (self.h, self.n);
         for (place, &[r, d, p]) in self.entries.iter().enumerate() {
-            let numbers = [9, 0, 0, r, d, p, u32::from(kinds(place))];
+            let serial = self.serials.get(place).copied().unwrap_or_else(|| serials(place));
+            let numbers = [serial, 0, 0, r, d, p, u32::from(kinds(place))];
             fields[2 + WIDTH * place..][..WIDTH].copy_from_slice(&numbers);
         }
         fields
@@ -90,7 +125,7 @@ impl List {
 type Refused<'a> = &'a dyn Fn(List, u32, usize);
 
 /// The rules, each with the lists that break it.
-const RULES: [(&str, fn(Refused)); 12] = [
+const RULES: [(&str, fn(Refused)); 18] = [
     ("a day of 0 minutes or over 1,440 is 2", day_length),
     ("more than 64 entries are 3", too_many),
     ("3 whatever the entries", too_many_of_any_sort),
@@ -103,6 +138,12 @@ const RULES: [(&str, fn(Refused)); 12] = [
     ("an empty window is 7", empty_window),
     ("the first wrong entry is told", first_wrong_entry),
     ("a number too large for its field is refused by its own row", too_large),
+    ("windows of one serial that share a minute are 14", clash),
+    ("14 carries the place of the later entry", clash_at_each_place),
+    ("of several such entries the first is told", first_clash),
+    ("2 and 3 before 14", header_before_clash),
+    ("6 and 7 of any entry before 14", entries_before_clash),
+    ("14 before 9 and 10", clash_before_windows),
 ];
 
 fn day_length(refused: Refused) {
@@ -207,12 +248,97 @@ fn too_large(refused: Refused) {
     }
 }
 
+/// Document 02, "One box in two places": the same window, one inside the other, a minute at either end, the day's
+/// first and last minute; whichever of the two comes first, and whatever the serial is.
+fn clash(refused: Refused) {
+    let pairs = [
+        [[0, 100, 1], [0, 100, 1]],
+        [[40, 50, 10], [40, 50, 1]],
+        [[0, 100, 1], [40, 50, 1]],
+        [[40, 50, 1], [40, 60, 1]],
+        [[40, 50, 1], [30, 50, 1]],
+        [[0, 50, 1], [49, 100, 1]],
+        [[0, 1, 1], [0, 100, 1]],
+        [[99, 100, 1], [0, 100, 1]],
+        [[10, 11, 1], [10, 11, 1]],
+    ];
+    for [one, other] in pairs {
+        for serial in [0, 7, 255, 256, 65_536, u32::MAX] {
+            refused(day(&[one, other]).serials(&[serial; 2]), 14, 1);
+            refused(day(&[other, one]).serials(&[serial; 2]), 14, 1);
+        }
+    }
+}
+
+/// Full days of serials that differ, but for one entry that has an earlier one's.
+fn clash_at_each_place(refused: Refused) {
+    let entries = day(&[[0, 100, 1]; MOST_ENTRIES]).entries;
+    for place in 1..MOST_ENTRIES {
+        for earlier in [0, place / 2, place - 1] {
+            let mut serials = Vec::from_iter(0..MOST_ENTRIES as u32);
+            serials[place] = serials[earlier];
+            refused(day(&entries).serials(&serials), 14, place);
+        }
+    }
+}
+
+/// The lowest later place, not that of the lowest pair: places 0 and 3 share a minute, and 1 and 2 do.
+fn first_clash(refused: Refused) {
+    let all_day = [0, 100, 1];
+    refused(day(&[all_day; 4]).serials(&[1, 2, 2, 1]), 14, 2);
+    refused(day(&[all_day; 4]).serials(&[1, 2, 1, 2]), 14, 2);
+    refused(day(&[all_day; 5]).serials(&[1, 2, 3, 3, 1]), 14, 3);
+    refused(day(&[all_day; MOST_ENTRIES]).serials(&[5; MOST_ENTRIES]), 14, 1);
+    refused(day(&[[0, 30, 1], [30, 60, 1], [29, 30, 1]]).serials(&[7; 3]), 14, 2);
+    refused(day(&[[0, 30, 1], [30, 60, 1], [30, 31, 1]]).serials(&[7; 3]), 14, 2);
+    refused(day(&[[0, 30, 1], [60, 90, 1], [30, 60, 1], [0, 100, 1]]).serials(&[7; 4]), 14, 3);
+}
+
+fn header_before_clash(refused: Refused) {
+    for h in [0, 1441] {
+        refused(list(h, 2, &[[0, 1, 1]; 2]).serials(&[7; 2]), 2, 0);
+    }
+    for n in [65, 255] {
+        refused(list(100, n, &[[0, 100, 1]; MOST_ENTRIES]).serials(&[7; MOST_ENTRIES]), 3, 0);
+    }
+}
+
+/// Entries 0 and 1 are one box in two places, and another is wrong: one before them, the later of the two itself, or
+/// one after them.
+fn entries_before_clash(refused: Refused) {
+    for (number, wrong) in [(6, [0, 100, 0]), (7, [0, 101, 1]), (7, [50, 100, 51])] {
+        refused(day(&[[0, 100, 1], wrong]).serials(&[7; 2]), number, 1);
+        refused(day(&[wrong, [0, 100, 1], [0, 100, 1]]).serials(&[6, 7, 7]), number, 0);
+        refused(day(&[[0, 100, 1], [0, 100, 1], wrong]).serials(&[7, 7, 8]), number, 2);
+        refused(day(&[[0, 100, 1], [0, 100, 1], wrong]).serials(&[7; 3]), number, 2);
+        let mut full = [[0, 100, 1]; MOST_ENTRIES];
+        full[63] = wrong;
+        refused(day(&full).serials(&[7; MOST_ENTRIES]), number, 63);
+    }
+}
+
+/// The list is overloaded as well, by the two of one serial or by others; or whole entries have no place.
+fn clash_before_windows(refused: Refused) {
+    refused(day(&[[0, 100, 100]; 2]).serials(&[7; 2]), 14, 1);
+    refused(day(&[[0, 2, 2], [1, 2, 1], [50, 60, 1], [50, 60, 1]]).serials(&[1, 2, 3, 3]), 14, 3);
+    refused(day(&[[0, 6, 3], [2, 4, 2], [10, 12, 1], [11, 13, 1]]).serials(&[1, 2, 3, 3]), 14, 3);
+}
+
 /// A value for each refusal of the value check, with its number: a list of three entries that has a plan, but
 /// for one number.
-pub fn wrong() -> [(u64, Fields); 6] {
+pub fn wrong() -> [(u64, Fields); 8] {
     let right = flat::of_day(&boxes(12, "p[0,12)4 w[2,8)3 p[3,6)2"));
     let last = 2 + 2 * WIDTH;
-    let wrong = [(2, 0, 0), (2, 0, 1441), (3, 1, 65), (6, last + 5, 0), (7, last + 4, 4), (7, last + 4, 13)];
+    let wrong = [
+        (2, 0, 0),
+        (2, 0, 1441),
+        (3, 1, 65),
+        (6, last + 5, 0),
+        (7, last + 4, 4),
+        (7, last + 4, 13),
+        (14, last, right[2]),
+        (14, last, right[2 + WIDTH]),
+    ];
     wrong.map(|(number, at, instead)| {
         let mut fields = right;
         fields[at] = instead;

@@ -44,7 +44,7 @@ pub fn write(value: &Value, room: usize) -> Result<Vec<u8>, Refusal> {
     Ok(bytes)
 }
 
-/// The list that a value stands for: what follows its n entries is no part of it.
+/// The list that a value stands for: what follows its n entries is no part of it. 14 comes "after the last 7".
 pub fn checked(value: &Value) -> Result<Day, Refusal> {
     if value.h == 0 || value.h > LONGEST_DAY {
         return Err(Refusal::DayLength);
@@ -53,9 +53,12 @@ pub fn checked(value: &Value) -> Result<Day, Refusal> {
     if n > MOST_ENTRIES {
         return Err(Refusal::TooMany { carries: 0 });
     }
-    let entries = &value.places[..n];
-    for (place, entry) in entries.iter().enumerate() {
+    let day = Day { h: value.h, entries: value.places[..n].to_vec() };
+    for (place, entry) in day.entries.iter().enumerate() {
         entry.fault(value.h, place)?;
     }
-    Ok(Day { h: value.h, entries: entries.to_vec() })
+    match day.first_clash() {
+        Some(place) => Err(Refusal::SerialClash { place }),
+        None => Ok(day),
+    }
 }

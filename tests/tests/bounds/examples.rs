@@ -298,7 +298,7 @@ fn a_whole_entry_beside_a_block() {
     }
 }
 
-/// "The same serial may stand twice."
+/// One serial may stand twice in windows that only touch.
 #[test]
 fn one_serial_twice() {
     let day = with_serials(boxes(12, "p[0,6)4 w[6,12)5"), &[7, 7]);

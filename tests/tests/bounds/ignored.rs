@@ -1,10 +1,11 @@
-//! What the calls that plan do not look at: serials, seals, and all places from n on. Entries are known by
-//! their place. "The same serial may stand twice. The depots see to it that such windows do not overlap;
-//! nothing here relies on it."
+//! What the calls that plan do not look at: seals, and all places from n on; and serials, of a list in which no box is
+//! in two places. Entries are known by their place, and the same serial may stand twice where its given windows share
+//! no minute.
 
 use dock_tests::abi::{self, Answer, Call, Lent};
 use dock_tests::check_bounds::{ask, asked, calls, refused};
 use dock_tests::check_narrow::windows_in;
+use dock_tests::clashes;
 use dock_tests::day::{Day, MOST_ENTRIES};
 use dock_tests::flat::{self, Fields, SIZE};
 use dock_tests::ignored::{self, SEAL, SERIAL, STANDS};
@@ -42,13 +43,15 @@ fn days(random: &mut Random, mut each: impl FnMut(&mut Random, &Day)) {
     }
 }
 
-/// Changes these numbers of every entry of random days, to any value: the calls say the same as before, and
-/// the answered list has what was given, as the second planner says.
+/// Changes these numbers of every entry of random days, to any value that passes the value check: the calls say the
+/// same as before, and the answered list has what was given, as the second planner says.
 fn travels_along(seed: u64, numbers: &[usize]) {
     let mut told = Told::default();
+    let mut twice = 0;
     days(&mut Random::new(seed), |random, day| {
         let (fields, n, room) = (flat::of_day(day), day.entries.len(), usize::from(day.h));
         let other = ignored::with_any(random, &fields, numbers);
+        twice += usize::from(ignored::has_a_serial_twice(&other));
         for call in some_calls(random, n) {
             let before = said(abi::ask(call, &fields, room), n);
             told.count(before.0.number as usize);
@@ -56,10 +59,11 @@ fn travels_along(seed: u64, numbers: &[usize]) {
         }
     });
     told.more_than(20, &[0, 9, 10]);
+    assert!(twice > 40, "{twice} lists with a serial that stands twice");
 }
 
 #[test]
-fn serials_travel_along() {
+fn serials_that_do_not_clash_travel_along() {
     travels_along(151, &[SERIAL]);
 }
 
@@ -116,21 +120,72 @@ fn all_said(fields: &Fields, n: usize, room: usize) -> Vec<Said> {
     calls(n).into_iter().map(|call| said(ask(call, fields, room), n)).collect()
 }
 
-/// The same serial at places whose windows overlap: they stay two entries.
+/// The same serial at places whose windows share no minute: they stay two entries, and the calls say the same of them
+/// as of entries with serials that differ.
 #[test]
 fn entries_with_one_serial_are_different_entries() {
-    for entries in ["p[1,5)2 p[0,6)3", "w[0,4)2 p[1,2)1 p[0,4)1", "p[0,12)4 w[2,8)3 p[3,6)2"] {
+    for (entries, serials) in [
+        ("p[1,5)2 p[5,9)3 p[0,12)2", [7, 7, 8]),
+        ("w[4,8)2 p[1,5)1 p[0,4)2", [7, 8, 7]),
+        ("p[0,12)4 w[2,6)3 p[6,9)2", [8, 7, 7]),
+        ("p[8,12)4 w[0,4)3 p[4,8)2", [7, 7, 7]),
+    ] {
         let day = boxes(12, entries);
         let n = day.entries.len();
         let before = all_said(&flat::of_day(&day), n, 12);
-        for serial in [0, 1, 101, 102, u32::MAX] {
-            let same = with_serials(day.clone(), &vec![serial; n]);
-            assert!(all_said(&flat::of_day(&same), n, 12) == before, "{entries}, all with serial {serial}");
+        assert_eq!(before[0].0.number, 0, "{entries}");
+        for serial in [0, 1, 101, 102, u32::MAX - 1] {
+            let same = with_serials(day.clone(), &serials.map(|number| number - 7 + serial));
+            assert!(all_said(&flat::of_day(&same), n, 12) == before, "{entries}, one serial {serial}");
         }
         let serials = Vec::from_iter((0..n as u32).rev());
         let places = with_serials(day.clone(), &serials);
         assert!(all_said(&flat::of_day(&places), n, 12) == before, "{entries}, serials like other places");
     }
+}
+
+/// The same serial at places whose windows overlap: all calls turn the list back by the later place.
+#[test]
+fn entries_with_one_serial_that_overlap_are_turned_back() {
+    for (entries, place) in [
+        ("p[1,5)2 p[0,6)3", 1),
+        ("w[0,4)2 p[1,2)1 p[0,4)1", 1),
+        ("p[0,12)4 w[2,8)3 p[3,6)2", 1),
+        ("p[0,3)2 w[3,8)3 p[7,9)2", 2),
+    ] {
+        let day = boxes(12, entries);
+        let n = day.entries.len();
+        for serial in [0, 1, 101, 102, u32::MAX] {
+            let same = flat::of_day(&with_serials(day.clone(), &vec![serial; n]));
+            for call in calls(n).into_iter().chain([Call::Early(n as u64), Call::Late(64)]) {
+                [0, 11, 12, 13].iter().for_each(|&room| refused(call, &same, room, 14, place));
+            }
+        }
+    }
+}
+
+/// With one serial for all its entries a day is refused with 14 if two given windows share a minute; else the same is
+/// said as before.
+#[test]
+fn one_serial_for_all_entries_is_14_or_changes_nothing() {
+    let mut seen = [0; 2];
+    days(&mut Random::new(154), |random, day| {
+        let (fields, n, room) = (flat::of_day(day), day.entries.len(), usize::from(day.h));
+        let all: Vec<_> = day.entries.iter().map(|entry| (7, (entry.r, entry.d))).collect();
+        let place = clashes::told(&all);
+        let same = ignored::with_one_serial(&fields, 7);
+        for call in some_calls(random, n) {
+            match place {
+                Some(place) => refused(call, &same, room, 14, place as u64),
+                None => {
+                    let before = said(abi::ask(call, &fields, room), n);
+                    assert!(said(ask(call, &same, room), n) == before, "{call:?}, one serial in {day:?}");
+                }
+            }
+        }
+        seen[usize::from(place.is_some())] += 1;
+    });
+    assert!(seen[0] > 20 && seen[1] > 100, "the same, 14: {seen:?}");
 }
 
 /// The seal's number 0 is a number, and a missing seal stays missing.

@@ -2,6 +2,7 @@
 
 mod all_small_days;
 mod buffers;
+mod clashes;
 mod examples;
 mod full_days;
 mod ignored;

@@ -1,10 +1,11 @@
-//! The place that is asked for, and the rows in their order: the value's own, 13, 11, 9, 10. "Rows are tested
-//! in this order .. the first that holds is given".
+//! The place that is asked for, and the rows in their order: the value's own with 14, then 13, 11, 9, 10. "Rows are
+//! tested in this order .. the first that holds is given".
 
 use dock_tests::abi::Call;
 use dock_tests::check_bounds::{ask, calls, refused};
 use dock_tests::day::{Day, Entry, LONGEST_DAY, MOST_ENTRIES};
 use dock_tests::flat::{self, Fields, WIDTH};
+use dock_tests::ignored::with_one_serial;
 use dock_tests::samples::{boxes, entry, value, windows};
 
 /// Both calls that ask for a place.
@@ -87,7 +88,7 @@ fn a_place_behind_the_list_is_13() {
     }
 }
 
-/// A list that is wrong in every row, mended row by row: 2, 3, 6, 7, then 13, 11, 9, 10.
+/// A list that is wrong in every row, mended row by row: 2, 3, 6, 7, 14, then 13, 11, 9, 10.
 #[test]
 fn the_rows_in_their_order() {
     let first = Entry { whole: true, ..entry(0, 6, 3) };
@@ -108,6 +109,10 @@ fn the_rows_in_their_order() {
     fields[third + 5] = 1;
     everywhere(&fields, 7, 2);
     fields[third + 4] = 4;
+    everywhere(&fields, 14, 1);
+    fields[second] = 8;
+    everywhere(&fields, 14, 2);
+    fields[third] = 7;
     let later_rows = |fields: &Fields, number, values| {
         for room in [0, 5, 6, 7] {
             for place in [3, 255] {
@@ -140,9 +145,16 @@ fn each_row_before_the_next_one() {
     let right = flat::of_day(&boxes(6, "p[0,6)2 w[0,6)2"));
     let overloaded = flat::of_day(&boxes(6, "p[0,6)6 w[0,6)2"));
     let no_place = flat::of_day(&boxes(6, "w[0,6)3 p[2,4)2"));
+    let twice = [&right, &overloaded, &no_place].map(|fields| with_one_serial(fields, 7));
     for (place, other) in [(2, 1), (255, 0), (u64::MAX, 1)] {
         for (call, known) in shown(place).into_iter().zip(shown(other)) {
             refused(call, &wrong, 6, 6, 1);
+            refused(call, &with_one_serial(&wrong, 7), 5, 6, 1);
+            for (fields, room) in twice.iter().flat_map(|fields| [(fields, 5), (fields, 6)]) {
+                refused(call, fields, room, 14, 1);
+                refused(known, fields, room, 14, 1);
+                refused(Call::Plan, fields, room, 14, 1);
+            }
             refused(call, &right, 5, 13, place);
             refused(call, &overloaded, 6, 13, place);
             refused(call, &overloaded, 5, 13, place);

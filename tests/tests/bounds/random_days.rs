@@ -27,7 +27,7 @@ fn day(random: &mut Random, most: u16, n: usize) -> Day {
 /// with a pause entry that cannot have the first minutes of its window or the last ones.
 #[derive(Debug, Default)]
 struct Seen {
-    numbers: [usize; 14],
+    numbers: [usize; 15],
     moved: usize,
     broken: usize,
     held_up: usize,
@@ -75,6 +75,18 @@ fn one_thousand_days_of_up_to_60_minutes_against_the_second_planner() {
     let seen: Seen = each_of(1_000, 134, |random| day(random, 60, 12), ask_all);
     assert!(seen.moved > 100 && seen.broken > 100 && seen.held_up > 100, "{seen:?}");
     assert!(seen.numbers[9] > 100 && seen.numbers[10] > 20, "{seen:?}");
+}
+
+/// Days of which some serials are doubled: 14 by every call, or an answer as ever.
+#[test]
+fn days_with_doubled_serials_against_the_second_planner() {
+    let make = |random: &mut Random| {
+        let day = day(random, 20, 6);
+        random::with_doubled_serials(random, day, 4)
+    };
+    let seen: Seen = each_of(2_000, 139, make, ask_all);
+    assert!([0, 9, 14].iter().all(|&number| seen.numbers[number] > 200), "{seen:?}");
+    assert!(seen.numbers[10] > 20 && seen.moved > 100, "{seen:?}");
 }
 
 /// A call on the mirrored day: an end is H minus a start there, and an early plan the mirror of a late one.

@@ -20,17 +20,23 @@ fn keyed_by_serial(day: &Day) -> Day {
     Day { h: day.h, entries: by_serial.into_values().collect() }
 }
 
-/// "The same serial may stand twice. The depots see to it that such windows do not overlap; nothing here
-/// relies on it."
+/// "The same serial may stand twice", in windows that share no minute (document 02). Where they share one the list is
+/// turned back, and a box that was dropped in silence would not show it.
 #[test]
 fn keying_entries_by_serial() {
-    let day = with_serials(windows(9, &[(0, 9, 3), (2, 6, 2)]), &[7, 7]);
-    assert_eq!(planned(&day), plan("0 0 1 1 0 - - - -"));
+    let day = with_serials(windows(9, &[(0, 4, 3), (4, 9, 2)]), &[7, 7]);
+    assert_eq!(planned(&day), plan("0 0 0 - 1 1 - - -"));
     let right = report(&writer::form(&day));
     assert!(right.starts_with("day 9 entries 2 "), "{right}");
 
     let trapped = keyed_by_serial(&day);
-    assert_eq!(planned(&trapped), plan("- - 0 0 - - - - -"), "the first entry is gone");
+    assert_eq!(planned(&trapped), plan("- - - - 0 0 - - -"), "the first entry is gone");
+
+    let twice = with_serials(windows(9, &[(0, 9, 3), (2, 6, 2)]), &[7, 7]);
+    assert_eq!(report(&writer::form(&twice)), "refused 14 at 10\n");
+    let trapped = keyed_by_serial(&twice);
+    assert_eq!(planned(&trapped), plan("- - 0 0 - - - - -"), "one of two is planned, and nobody is told");
+
     let differ = with_serials(day, &[7, 8]);
     assert_eq!(keyed_by_serial(&differ), differ, "serials that differ would not tell");
 }

@@ -1,8 +1,9 @@
-//! What planning does not look at: serials, seals, kinds, and all places from n on. Only H, n and the windows
-//! and minutes of the first n entries make the plan and the interval.
+//! What planning does not look at: seals, kinds, and all places from n on; and serials, of a list in which no box is in
+//! two places. Only H, n and the windows and minutes of the first n entries make the plan and the interval.
 
 use dock_tests::abi::{self, Answer};
 use dock_tests::check::planned;
+use dock_tests::clashes;
 use dock_tests::day::Day;
 use dock_tests::flat::{self, Fields};
 use dock_tests::ignored::{self, SEAL, SERIAL, STANDS, WHOLE};
@@ -30,9 +31,11 @@ fn days(random: &mut Random, mut each: impl FnMut(&mut Random, &Day)) {
     }
 }
 
-/// Changes these numbers of every entry of random days, to any value: both calls must say the same as before.
+/// Changes these numbers of every entry of random days, to any value that passes the value check: both calls must
+/// say the same as before.
 fn never_looked_at(seed: u64, numbers: &[usize]) {
     let mut seen = [0; 2];
+    let mut twice = 0;
     days(&mut Random::new(seed), |random, day| {
         let fields = flat::of_day(day);
         let before = said(&fields);
@@ -40,14 +43,41 @@ fn never_looked_at(seed: u64, numbers: &[usize]) {
         for _ in 0..3 {
             let other = ignored::with_any(random, &fields, numbers);
             assert!(said(&other) == before, "{numbers:?} of {day:?}");
+            twice += usize::from(ignored::has_a_serial_twice(&other));
         }
     });
     assert!(seen[0] > 100 && seen[1] > 100, "planned, overloaded: {seen:?}");
+    assert!(twice > 100, "{twice} lists with a serial that stands twice");
 }
 
 #[test]
-fn serials_are_never_looked_at() {
+fn serials_that_do_not_clash_are_never_looked_at() {
     never_looked_at(21, &[SERIAL]);
+}
+
+/// With one serial for all its entries a day is refused with 14 if two windows share a minute, and nothing is written;
+/// else the same is said as before.
+#[test]
+fn one_serial_for_all_entries_is_14_or_changes_nothing() {
+    let mut seen = [0; 2];
+    days(&mut Random::new(26), |random, day| {
+        let fields = flat::of_day(day);
+        let before = said(&fields);
+        let all: Vec<_> = day.entries.iter().map(|entry| (7, (entry.r, entry.d))).collect();
+        let wanted = match clashes::told(&all) {
+            Some(place) => {
+                let clash = Answer { number: 14, values: [place as u64, 0, 0] };
+                (clash, clash, abi::untouched_bytes(usize::from(day.h) + 5))
+            }
+            None => before,
+        };
+        for serial in [0, random.any() as u32, u32::MAX] {
+            let found = said(&ignored::with_one_serial(&fields, serial));
+            assert!(found == wanted, "serial {serial} in all of {day:?}");
+        }
+        seen[usize::from(wanted.0.number == 14)] += 1;
+    });
+    assert!(seen[0] > 100 && seen[1] > 100, "the same, 14: {seen:?}");
 }
 
 #[test]
@@ -61,7 +91,7 @@ fn kinds_are_never_looked_at() {
 }
 
 #[test]
-fn serials_seals_and_kinds_together_are_never_looked_at() {
+fn serials_that_do_not_clash_seals_and_kinds_together_are_never_looked_at() {
     never_looked_at(24, &[SERIAL, STANDS, SEAL, WHOLE]);
 }
 

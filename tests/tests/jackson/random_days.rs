@@ -6,7 +6,9 @@ use dock_tests::brute;
 use dock_tests::check::{self, number};
 use dock_tests::day::{Day, IDLE, LONGEST_DAY, MOST_ENTRIES};
 use dock_tests::random::{self, Random};
-use dock_tests::values;
+use dock_tests::samples::told_apart;
+use dock_tests::told::Told;
+use dock_tests::{flat, values};
 
 /// How many entries a plan breaks, pause entries too.
 fn broken(day: &Day, plan: &[u8]) -> usize {
@@ -112,13 +114,36 @@ fn full_overloaded_days_against_the_second_planner() {
 fn full_days_of_any_windows_against_the_second_planner() {
     let mut random = Random::new(16);
     for _ in 0..200 {
-        let entries = (0..MOST_ENTRIES).map(|_| random::entry(&mut random, LONGEST_DAY)).collect();
-        let shown = check::overloaded(&Day { h: LONGEST_DAY, entries });
+        let entries = random::entries(&mut random, LONGEST_DAY, MOST_ENTRIES);
+        let shown = check::overloaded(&told_apart(Day { h: LONGEST_DAY, entries }));
         assert!(shown.work > u64::from(shown.b - shown.a));
     }
 }
 
-/// The rows in their order, 2, 3, 6, 7, 11, 9, on values that may break any of them.
+/// Small days and full ones of which some serials are doubled: 14 before 11 and 9, and where it is not told the days
+/// are planned or overloaded as ever.
+#[test]
+fn days_with_doubled_serials_against_the_second_planner() {
+    let mut random = Random::new(18);
+    let mut told = Told::default();
+    for turn in 0..6_000 {
+        let day = match turn % 200 {
+            0 => full_day(&mut random, 4, &[1, 60]),
+            _ => random::small_day(&mut random),
+        };
+        let day = random::with_doubled_serials(&mut random, day, 3);
+        let (fields, h) = (flat::of_day(&day), usize::from(day.h));
+        let test = number(&check::overload(&fields));
+        for (room, wanted) in [(h - 1, 11), (h, test), (h + 3, test)] {
+            let wanted = if test == 14 { 14 } else { wanted };
+            assert_eq!(number(&check::schedule(&fields, room)), wanted, "{room} bytes, {day:?}");
+        }
+        told.count(test);
+    }
+    told.more_than(500, &[0, 9, 14]);
+}
+
+/// The rows in their order, 2, 3, 6, 7, 14, 11, 9, on values that may break any of them.
 #[test]
 fn thirty_thousand_wild_values() {
     let seen = values::wild(17, 30_000, |random, fields| {
@@ -130,5 +155,5 @@ fn thirty_thousand_wild_values() {
         assert!(plan == test || plan == 11 && (test == 0 || test == 9), "{plan} and {test}");
         plan
     });
-    seen.more_than(300, &[0, 2, 3, 6, 7, 9, 11]);
+    seen.more_than(300, &[0, 2, 3, 6, 7, 9, 11, 14]);
 }

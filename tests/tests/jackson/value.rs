@@ -1,5 +1,5 @@
 //! A list handed over as a value to the planner: "2, 3, then 6 and 7 per entry; 2 and 3 then carry 0, 6 and 7
-//! the entry's place", then 11, then 9.
+//! the entry's place", then 14, then 11, then 9.
 
 use dock_tests::check::{not_planned, overload, schedule, test_refused};
 use dock_tests::flat::{self, Fields};
@@ -50,8 +50,8 @@ fn every_day_length_without_entries() {
     }
 }
 
-/// The value's rows, then 11, then 9: an overloaded list with a wrong entry and a short buffer, mended step
-/// by step.
+/// The value's rows, then 11, then 9: an overloaded list of one box in three places with a wrong entry and a short
+/// buffer, mended step by step.
 #[test]
 fn the_rows_in_their_order() {
     let mut fields = value(0, 65, &[entry(0, 100, 60), entry(0, 100, 60), entry(0, 101, 0)]);
@@ -63,6 +63,10 @@ fn the_rows_in_their_order() {
     fields[2 + 2 * flat::WIDTH + 5] = 1;
     refused(&fields, 7, 2);
     fields[2 + 2 * flat::WIDTH + 4] = 100;
+    refused(&fields, 14, 1);
+    fields[2 + flat::WIDTH] = 8;
+    refused(&fields, 14, 2);
+    fields[2 + 2 * flat::WIDTH] = 7;
     not_planned(&fields, 99, 11, 100);
     let refusal = schedule(&fields, 100).expect_err("must be overloaded");
     assert_eq!(refusal.code(), (9, [0, 100, 121]));

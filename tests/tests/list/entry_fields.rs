@@ -148,7 +148,9 @@ fn edges_of(h: u16) {
             for p in edges {
                 let entry = Written { whole: p % 2 == 0, seal: r.map(u32::from), ..minutes(r, d, p) };
                 let _ = check::read(&list(h, &[entry]));
-                let _ = check::read(&list(h, &[SHORT, entry, SHORT]));
+                let other = |serial| Written { serial, ..SHORT };
+                let _ = check::read(&list(h, &[other(8), entry, other(10)]));
+                let _ = check::read(&list(h, &[other(8), entry, other(9)]));
             }
         }
     }

@@ -2,7 +2,7 @@
 
 use dock_tests::check::{accepted, refused};
 use dock_tests::day::Day;
-use dock_tests::samples::{hex, list, SHORT};
+use dock_tests::samples::{hex, list, shorts};
 
 #[test]
 fn a_short_header_comes_before_a_wrong_day() {
@@ -38,7 +38,7 @@ fn every_number_of_entries_before_an_input_that_ends() {
 #[test]
 fn every_number_of_entries_with_as_many_entries() {
     for n in 0..=u8::MAX {
-        let bytes = list(100, &vec![SHORT; usize::from(n)]);
+        let bytes = list(100, &shorts(n.into()));
         match n {
             0..=64 => assert_eq!(accepted(&bytes).entries.len(), usize::from(n)),
             _ => refused(&bytes, 3, 2),

@@ -1,5 +1,6 @@
 //! The day's list: reading its bytes and writing its one form.
 
+mod clashes;
 mod damaged_bytes;
 mod entry_fields;
 mod examples;

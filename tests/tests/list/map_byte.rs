@@ -12,9 +12,9 @@ fn before_one() -> Vec<u8> {
     hex("05 00 01")
 }
 
-/// The header of a day of 5 minutes with two entries, and the first of them.
+/// The header of a day of 5 minutes with two entries, and the first of them, with another serial.
 fn before_two() -> Vec<u8> {
-    hex("05 00 02 | 11 01000000 0100")
+    hex("05 00 02 | 11 02000000 0100")
 }
 
 /// A right entry with this map byte: seal 4, r 1, d 4 and p 2 where they stand.

@@ -1,7 +1,9 @@
-//! Serials and seals: any value, kept as it is, inside its own entry.
+//! Serials and seals: any value, kept as it is, inside its own entry. One serial may stand twice if its windows share
+//! no minute; where they do is the matter of clashes.rs.
 
 use dock_tests::check::{accepted, refused};
-use dock_tests::samples::{list, Written, SHORT};
+use dock_tests::day::Entry;
+use dock_tests::samples::{list, shorts, Written, SHORT};
 use dock_tests::{abi, flat};
 
 const VALUES: [u32; 10] = [0, 1, 255, 256, 65_535, 65_536, 0x0102_0304, 0x7FFF_FFFF, 0x8000_0000, u32::MAX];
@@ -40,8 +42,9 @@ fn seal_0_is_not_a_missing_seal() {
 
 #[test]
 fn a_seal_stays_inside_its_entry() {
-    let sealed = Written { seal: Some(7), ..SHORT };
-    let day = accepted(&list(10, &[SHORT, sealed, SHORT, sealed]));
+    let mut entries = shorts(4);
+    (entries[1].seal, entries[3].seal) = (Some(7), Some(7));
+    let day = accepted(&list(10, &entries));
     let seals: Vec<_> = day.entries.iter().map(|entry| entry.seal).collect();
     assert_eq!(seals, [None, Some(7), None, Some(7)]);
 }
@@ -55,11 +58,29 @@ fn the_same_serial_twice_makes_two_entries() {
     assert_eq!(numbers(&bytes, 1), [9, 1, 1, 5, 10, 3, 1]);
 }
 
+/// Document 02, "One box in two places".
 #[test]
-fn the_same_entry_twice_makes_two_entries() {
-    let day = accepted(&list(10, &[SHORT, SHORT]));
+fn the_same_entry_twice_is_turned_back() {
+    refused(&list(10, &[SHORT, SHORT]), 14, 10);
+}
+
+#[test]
+fn the_same_entry_twice_but_for_its_serial_makes_two_entries() {
+    let day = accepted(&list(10, &shorts(2)));
     assert_eq!(day.entries.len(), 2);
-    assert_eq!(day.entries[0], day.entries[1]);
+    assert_eq!(day.entries[0], Entry { serial: 9, ..day.entries[1].clone() });
+}
+
+/// Ten entries of one serial, each with a minute of its own, are ten entries.
+#[test]
+fn the_same_serial_ten_times_makes_ten_entries() {
+    for serial in VALUES {
+        let minute =
+            |r: u16| Written { serial, r: (r > 0).then_some(r), d: (r < 9).then_some(r + 1), ..SHORT };
+        let day = accepted(&list(10, &[7, 0, 9, 3, 1, 8, 2, 6, 4, 5].map(minute)));
+        let found: Vec<_> = day.entries.iter().map(|entry| (entry.serial, entry.r, entry.d)).collect();
+        assert_eq!(found, [7, 0, 9, 3, 1, 8, 2, 6, 4, 5].map(|r| (serial, r, r + 1)));
+    }
 }
 
 #[test]

@@ -17,6 +17,7 @@ fn a_refused_input_leaves_the_fields_as_they_were() {
         (6, after("11 01000000 0000")),
         (7, after("11 01000000 6500")),
         (8, after("11 01000000 0100 | 00")),
+        (14, after("11 01000000 0100")),
     ];
     for (number, bytes) in inputs {
         let (answer, fields) = abi::read(&bytes);

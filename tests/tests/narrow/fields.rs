@@ -2,7 +2,7 @@
 //! all else as it was given, and zeros from place n on. "A refusal writes nothing to any lent buffer."
 
 use dock_tests::check_narrow::{settle, settled};
-use dock_tests::day::{Day, Entry};
+use dock_tests::day::Day;
 use dock_tests::flat::{self, Fields, SIZE, WIDTH};
 use dock_tests::random::{self, Random};
 use dock_tests::samples::{self, boxes};
@@ -76,10 +76,9 @@ fn whatever_the_fields_held_the_answer_is_the_same() {
 fn from_place_n_on_the_answer_has_zeros() {
     let mut random = Random::new(71);
     for n in [0, 1, 2, 10, 63, 64] {
-        let day = Day {
-            h: 1440,
-            entries: (0..n).map(|_| Entry { p: 1, ..random::entry(&mut random, 1440) }).collect(),
-        };
+        let mut entries = random::entries(&mut random, 1440, n);
+        entries.iter_mut().for_each(|entry| entry.p = 1);
+        let day = samples::told_apart(Day { h: 1440, entries });
         let used = 2 + WIDTH * n;
         let mut fields = flat::of_day(&day);
         fields[used..].fill_with(|| random.any() as u32);

@@ -1,9 +1,11 @@
 //! Random days of both kinds, fixed by their seeds: small ones against trying everything, longer ones against
 //! the second narrowing, and others against their mirror.
 
+use dock_tests::check::number;
 use dock_tests::check_narrow::{by_trying_everything, rounds, settle};
 use dock_tests::day::{Day, Refusal};
 use dock_tests::random::{self, each_of, Count, Random};
+use dock_tests::told::Told;
 use dock_tests::{abi, flat, mirror, narrow};
 
 /// How often days were settled without moves, in so many rounds with moves (5 or more counted as 5), refused
@@ -66,6 +68,28 @@ fn three_thousand_days_of_up_to_60_minutes_against_the_second_narrowing() {
     });
     assert!(seen.rounds[..4].iter().all(|&count| count > 20), "{seen:?}");
     assert!(seen.overloaded > 500 && seen.no_place > 100, "{seen:?}");
+}
+
+/// Days of which some serials are doubled: 14 before 9 and 10, and where it is not told the days are settled or
+/// refused as ever, which trying everything says too.
+#[test]
+fn days_with_doubled_serials_against_the_second_narrowing() {
+    let mut random = Random::new(106);
+    let mut told = Told::default();
+    for turn in 0..4_000 {
+        let day = match turn % 4 {
+            0 => random::crossed_day(&mut random),
+            1 => random::mixed_day(&mut random, 6, 4),
+            _ => random::mixed_day(&mut random, 30, 8),
+        };
+        let day = random::with_doubled_serials(&mut random, day, 4);
+        let answer = number(&settle(&flat::of_day(&day)));
+        told.count(answer);
+        if turn % 4 == 1 && answer != 14 {
+            assert_eq!(by_trying_everything(&day).number, answer as u64, "{day:?}");
+        }
+    }
+    told.more_than(100, &[0, 9, 10, 14]);
 }
 
 /// A visit gives r the least and d the greatest of one set of starts, so the mirror of a day is settled with

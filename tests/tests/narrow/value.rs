@@ -1,5 +1,5 @@
 //! A list handed over as a value to be narrowed: "2, 3, then 6 and 7 per entry; 2 and 3 then carry 0, 6 and 7
-//! the entry's place", then 9 for the given windows, then 10.
+//! the entry's place", then 14, then 9 for the given windows, then 10.
 
 use dock_tests::check::number;
 use dock_tests::check_narrow::{not_settled, settle};
@@ -18,7 +18,7 @@ fn values_at_the_limits_are_accepted_and_have_nothing_to_move() {
     values::accepted(|fields| assert_eq!(settle(fields).expect("settled").moves, 0));
 }
 
-/// A list that is wrong in every row, mended row by row: 2, 3, 6, 7, 9, 10.
+/// A list that is wrong in every row, mended row by row: 2, 3, 6, 7, 14, 9, 10.
 #[test]
 fn the_rows_in_their_order() {
     let first = Entry { whole: true, ..entry(0, 6, 3) };
@@ -32,6 +32,10 @@ fn the_rows_in_their_order() {
     fields[third + 5] = 1;
     not_settled(&fields, 7, 2);
     fields[third + 4] = 4;
+    not_settled(&fields, 14, 1);
+    fields[second] = 8;
+    not_settled(&fields, 14, 2);
+    fields[third] = 7;
     let refusal = settle(&fields).expect_err("must be overloaded");
     assert_eq!(refusal.code(), (9, [2, 4, 3]));
     fields[third + 3..third + 5].copy_from_slice(&[0, 1]);
@@ -55,5 +59,5 @@ fn nine_comes_before_ten() {
 #[test]
 fn ten_thousand_wild_values() {
     let seen = values::wild(61, 10_000, |_, fields| number(&settle(fields)));
-    seen.more_than(100, &[0, 2, 3, 6, 7, 9]);
+    seen.more_than(100, &[0, 2, 3, 6, 7, 9, 14]);
 }

@@ -14,7 +14,7 @@ fn run(folder: &Path, arguments: &[&str], input: Stdio) -> Output {
 #[test]
 fn the_command_prints_the_report_of_a_file_or_of_its_input() {
     let samples = root().join("samples");
-    for name in ["morning", "overloaded"] {
+    for name in ["morning", "overloaded", "one-box-twice"] {
         let Case { report, .. } = cases::of(&samples, name.to_string());
         let file = format!("{name}.list");
         let by_name = run(&samples, &[&file], Stdio::null());

@@ -30,9 +30,16 @@ fn in_pieces(pieces: &[&[u8]]) -> String {
 /// One byte, and the rest later; all but one, and that one later.
 #[test]
 fn two_pieces() {
-    for name in
-        ["document", "seals", "field-cut", "left-over", "full-day", "longest-list", "longest-list-and-1"]
-    {
+    for name in [
+        "document",
+        "seals",
+        "field-cut",
+        "left-over",
+        "clash",
+        "full-day",
+        "longest-list",
+        "longest-list-and-1",
+    ] {
         let Case { list, report, .. } = case(name);
         for at in [1, list.len() / 2, list.len() - 1] {
             assert_eq!(in_pieces(&[&list[..at], &list[at..]]), report, "{name} cut at {at}");

@@ -7,7 +7,7 @@ use dock_tests::{program, writer};
 use std::fs;
 use std::path::PathBuf;
 
-const SAMPLES: [&str; 4] = ["morning", "no-place", "overloaded", "tight"];
+const SAMPLES: [&str; 5] = ["morning", "no-place", "one-box-twice", "overloaded", "tight"];
 
 fn folder() -> PathBuf {
     cases::root().join("samples")
@@ -67,4 +67,21 @@ fn the_program_prints_each_report() {
         let Case { list, report, .. } = cases::of(&folder(), name.to_string());
         assert_eq!(program::output(&list), report, "{name}");
     }
+}
+
+/// Its report tells the map byte of place 4. Without that entry the two depots' list is planned, and so is each depot's.
+#[test]
+fn one_box_twice_is_turned_back_for_one_entry() {
+    let description = fs::read_to_string(folder().join("one-box-twice.txt")).expect("a description");
+    let day = told(&description);
+    let of = |places: &[usize]| {
+        let entries = places.iter().map(|&place| day.entries[place].clone()).collect();
+        writer::form(&Day { h: day.h, entries })
+    };
+    let head = |text: String| text.lines().next().map(String::from).expect("a line");
+    let at = of(&[0, 1, 2, 3]).len();
+    assert_eq!(program::output(&of(&[0, 1, 2, 3, 4, 5])), format!("refused 14 at {at}\n"));
+    assert_eq!(head(program::output(&of(&[0, 1, 2, 3, 5]))), "day 300 entries 5 moves 0 broken 0");
+    assert_eq!(head(program::output(&of(&[0, 1, 2]))), "day 300 entries 3 moves 0 broken 0");
+    assert_eq!(head(program::output(&of(&[3, 4, 5]))), "day 300 entries 3 moves 0 broken 0");
 }

@@ -2,6 +2,7 @@
 //! worked out by hand.
 
 use dock_tests::check_report::report;
+use dock_tests::clashes::{depot, merged};
 use dock_tests::day::Day;
 use dock_tests::samples::{boxes, with_serials};
 use dock_tests::writer;
@@ -162,12 +163,72 @@ fn broken_counts_whole_entries_once() {
 fn one_serial_twice() {
     let lines = [
         "day 6 entries 2 moves 0 broken 0",
-        "0 7 - pause 1 5 2 3 3",
-        "1 7 - pause 1 5 2 3 3",
+        "0 7 - pause 1 3 2 3 1",
+        "1 7 - pause 3 6 2 5 4",
         "1 3 0",
         "3 5 1",
     ];
-    says(&with_serials(boxes(6, "p[1,5)2 p[1,5)2"), &[7, 7]), &lines);
+    says(&with_serials(boxes(6, "p[1,3)2 p[3,6)2"), &[7, 7]), &lines);
+}
+
+/// Where the windows share a minute the list is turned back, by the place of the later entry's map: 3 bytes of the
+/// header, and 11 of an entry with r and d, 9 with one of them, 7 with none.
+#[test]
+fn one_box_in_two_places() {
+    says(&with_serials(boxes(6, "p[1,5)2 p[1,5)2"), &[7, 7]), &["refused 14 at 14"]);
+    says(&with_serials(boxes(6, "p[0,5)2 p[4,6)2"), &[7, 7]), &["refused 14 at 12"]);
+    says(&with_serials(boxes(6, "p[0,6)2 p[4,6)2"), &[0, 0]), &["refused 14 at 10"]);
+    says(&with_serials(boxes(6, "p[0,6)2 p[1,5)2 p[2,6)1"), &[7, 8, 7]), &["refused 14 at 21"]);
+    says(&with_serials(boxes(6, "p[0,6)2 p[1,5)2 p[2,6)1"), &[7, 8, 8]), &["refused 14 at 21"]);
+    says(&with_serials(boxes(6, "p[0,6)2 p[1,5)2 p[2,6)1"), &[7, 7, 7]), &["refused 14 at 10"]);
+}
+
+/// 14 comes before 9 and 10: without it these days would be refused by their windows.
+#[test]
+fn one_box_in_two_places_comes_before_the_windows() {
+    says(&boxes(10, "p[2,5)2 p[2,5)2"), &["refused 9 from 2 to 5 work 4"]);
+    says(&with_serials(boxes(10, "p[2,5)2 p[2,5)2"), &[7, 7]), &["refused 14 at 14"]);
+    says(&boxes(6, "w[0,6)3 p[2,4)2"), &["refused 10 entry 0"]);
+    says(&with_serials(boxes(6, "w[0,6)3 p[2,4)2"), &[7, 7]), &["refused 14 at 10"]);
+}
+
+/// 8 comes before 14, and so do 6 and 7 of a later entry.
+#[test]
+fn one_box_in_two_places_comes_after_the_bytes() {
+    let bytes = writer::form(&with_serials(boxes(9, "p[0,9)2 p[0,9)2 p[0,9)2"), &[7, 7, 7]));
+    assert_eq!(report(&bytes), "refused 14 at 10\n");
+    assert_eq!(report(&[&bytes[..], &[0]].concat()), "refused 8 at 24\n");
+    assert_eq!(report(&bytes[..23]), "refused 1 at 23\n");
+    for (p, text) in [(0, "refused 6 at 17\n"), (10, "refused 7 at 17\n")] {
+        let mut wrong = bytes.clone();
+        wrong[22] = p;
+        assert_eq!(report(&wrong), text);
+    }
+}
+
+/// Two depots' lists of one day in one: in other hours each box has its line, and its runs.
+#[test]
+fn two_depots_in_one_report() {
+    let (morning, noon) = (depot(0), depot(120));
+    let text = report(&writer::form(&merged(&[&morning, &noon])));
+    let lines: Vec<&str> = text.lines().collect();
+    assert_eq!(lines[0], "day 600 entries 8 moves 0 broken 0");
+    let serials: Vec<&str> = lines[1..9].iter().filter_map(|line| line.split(' ').nth(1)).collect();
+    assert_eq!(serials, ["1", "2", "3", "4", "1", "2", "3", "4"]);
+    let runs = lines[9..].iter().map(|line| {
+        let [first, end, place] =
+            line.split(' ').map(|word| word.parse().expect("a number")).collect::<Vec<_>>()[..]
+        else {
+            panic!("{line} is no run")
+        };
+        (end - first, place)
+    });
+    let mut minutes = [0; 8];
+    runs.for_each(|(length, place): (usize, usize)| minutes[place] += length);
+    assert_eq!(minutes, [25, 20, 10, 30, 25, 20, 10, 30]);
+    // 3 bytes of the header, then 9, 15, 11 and 15 of the first depot's entries
+    assert_eq!(report(&writer::form(&merged(&[&morning, &depot(60)]))), "refused 14 at 53\n");
+    assert_eq!(report(&writer::form(&merged(&[&depot(60), &morning]))), "refused 14 at 55\n");
 }
 
 /// Serials and seals at the limits of one to ten digits. A seal of 0 is a number.

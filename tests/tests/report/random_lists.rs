@@ -1,9 +1,10 @@
-//! The reports of 20,000 lists, fixed by their seeds, against the second report: every byte of the text and
+//! The reports of 24,000 lists, fixed by their seeds, against the second report: every byte of the text and
 //! of the buffer after it.
 //!
 //! | Lists | What they are |
 //! |---|---|
 //! | 8,000 | days of at most 12 minutes and 6 entries, as they are |
+//! | 4,000 | such days with serials doubled, so that often one box is in two places; half of them damaged |
 //! | 6,000 | such days with one to three damages: bytes cut, added or changed |
 //! | 3,000 | such days with one byte of the header changed |
 //! | 1,600 | lists of any length, damaged likewise |
@@ -44,6 +45,15 @@ fn eight_thousand_small_days() {
     told.at_least(&[(0, 5_000), (9, 2_000), (10, 400)]);
 }
 
+#[test]
+fn two_thousand_small_days_with_doubled_serials() {
+    let told = reports(2_000, 210, |random| {
+        let day = small(random);
+        writer::form(&random::with_doubled_serials(random, day, 4))
+    });
+    told.at_least(&[(0, 500), (9, 100), (10, 50), (14, 500)]);
+}
+
 /// All refusals occur, and a damage may also leave a right list with other numbers.
 #[test]
 fn six_thousand_damaged_lists() {
@@ -66,16 +76,31 @@ fn three_thousand_headers_changed() {
     told.at_least(&[(7, 200), (8, 250), (9, 150), (10, 15)]);
 }
 
+/// One box in two places and damages together: whatever else is wrong is told first, but for the windows.
+#[test]
+fn two_thousand_damaged_lists_with_doubled_serials() {
+    let told = reports(2_000, 211, |random| {
+        let day = small(random);
+        let day = random::with_doubled_serials(random, day, 2);
+        match random.once_in(2) {
+            true => random::damaged_form(random, &day),
+            false => random::with_header_changed(random, &day),
+        }
+    });
+    told.at_least(&[(0, 80), (1, 200), (2, 200), (3, 50), (4, 50), (5, 20)]);
+    told.at_least(&[(6, 20), (7, 300), (8, 200), (9, 10), (14, 200)]);
+}
+
 #[test]
 fn sixteen_hundred_damaged_lists_of_any_length() {
     let told = reports(1_600, 204, random::damaged);
-    told.at_least(&[(0, 80), (1, 300), (2, 80), (4, 100), (7, 300), (8, 250), (9, 100)]);
+    told.at_least(&[(0, 80), (1, 300), (2, 80), (4, 100), (7, 300), (8, 250), (9, 100), (14, 10)]);
 }
 
 /// More than the program takes: a full list, once in four times a longest one, damaged or not, with bytes
 /// added.
 fn over_the_limit(random: &mut Random) -> Vec<u8> {
-    let mut day = random::day(random, MOST_ENTRIES);
+    let mut day = random::drawn_day(random, MOST_ENTRIES);
     day.entries.resize_with(MOST_ENTRIES, || random::entry(random, day.h));
     if random.once_in(4) {
         day = samples::longest();
@@ -89,7 +114,8 @@ fn over_the_limit(random: &mut Random) -> Vec<u8> {
     input
 }
 
-/// None of them is a list, none lacks a byte, and the first 964 bytes alone have the same report.
+/// None of them is a list, none lacks a byte, and the first 964 bytes alone have the same report. Bytes left over are
+/// told before one box in two places.
 #[test]
 fn a_thousand_inputs_over_964_bytes() {
     let told = reports(1_000, 205, |random| {
@@ -98,7 +124,7 @@ fn a_thousand_inputs_over_964_bytes() {
         input
     });
     told.at_least(&[(4, 50), (5, 8), (6, 10), (7, 250), (8, 600)]);
-    told.never(&[0, 1, 9, 10]);
+    told.never(&[0, 1, 9, 10, 14]);
 }
 
 /// The same list with serials and seals of ten digits.
@@ -107,7 +133,7 @@ fn long_numbers(mut day: Day, random: &mut Random) -> Day {
         entry.serial |= 1 << 31;
         entry.seal = Some(random.any() as u32 | 1 << 31);
     }
-    day
+    samples::told_apart(day)
 }
 
 /// With minutes to spare or without, all entries whole or one in two or four pause.

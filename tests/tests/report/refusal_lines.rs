@@ -25,7 +25,7 @@ fn the_documents_examples() {
     line(10, [0, 0, 0], "refused 10 entry 0\n");
 }
 
-/// One of each row of document 01's table.
+/// One of each row of document 01's table, and 14 of document 02.
 #[test]
 fn every_row() {
     for (number, values, text) in [
@@ -42,6 +42,7 @@ fn every_row() {
         (11, [1440, 0, 0], "refused 11 at 1440\n"),
         (12, [963, 0, 0], "refused 12 at 963\n"),
         (13, [u64::MAX, 0, 0], "refused 13 at 18446744073709551615\n"),
+        (14, [948, 0, 0], "refused 14 at 948\n"),
     ] {
         line(number, values, text);
     }
@@ -63,6 +64,7 @@ fn every_number() {
     }
     line(0, [3, 5, 7], "refused 0 at 3\n");
     line(14, [3, 5, 7], "refused 14 at 3\n");
+    line(15, [3, 5, 7], "refused 15 at 3\n");
     line(256 + 9, [3, 5, 7], "refused 265 at 3\n");
     line((1 << 32) + 10, [3, 5, 7], "refused 4294967306 at 3\n");
 }
@@ -70,7 +72,7 @@ fn every_number() {
 #[test]
 fn values_of_every_length() {
     for value in numbers() {
-        for number in [1, 7, 9, 10, 13, u64::MAX] {
+        for number in [1, 7, 9, 10, 13, 14, u64::MAX] {
             line_stored(refusal(number, [value, 0, 0]), 100);
             line_stored(refusal(number, [1, value, !value]), 100);
         }
