@@ -12,7 +12,6 @@ use lib.ListN.{length, getD, take, drop, replicate, length-append, length-take, 
 use lib.Seq.{take-append-seam, take-at, take-take}
 use Rattle.list.specs.Machine.{Bytes, Typed}
 use Rattle.base.specs.Outcomes.{Code, Outcome, answered, refused}
-use Rattle.base.specs.Counting.{firstBelow}
 use Rattle.list.specs.Entries.{entryFault}
 use Rattle.format.specs.Forms.{entryBytes}
 use Rattle.list.specs.DayLists.{entriesOf, blank, dayList, SameList}
@@ -32,7 +31,7 @@ use Rattle.base.proofs.Inversion.{Says, by-row, by-step, says-answer, says-refu
 use Rattle.format.proofs.CarriedPlaces.{at-end, at-place}
 use Rattle.list.proofs.Alike.{same-checked}
 use Rattle.list.proofs.ClashFacts.{apart, first-clash, apart-told}
-use Rattle.list.proofs.Sound.{Header, header-says, header-passes, SoundList, check-says, sound-list, list-apart, well-formed}
+use Rattle.list.proofs.Sound.{Header, header-says, header-passes, SoundList, check-says, sound-list, list-apart, values-apart, well-formed}
 use Rattle.format.proofs.FieldTrip.{bytes-drop, u16-back, u16-stands, byte-stands}
 use Rattle.format.proofs.EntryTrip.{EntryFits}
 use Rattle.format.proofs.ReadCases.{decode-body, body-done}
@@ -262,19 +261,40 @@ module _ (bs : List ℕ) where
 pub longest : (l : DayList) → WellFormed l → length (bytesOf l) ≤ longestList
 longest l w = list-short l (form-fits l w)
 
--- entries that write all their fields, with serials below k
+-- k entries that write all their fields, no two of one serial
 fullEntries : ℕ → List Entry
 fullEntries zero = []
 fullEntries (suc k) = record { serial = k; seal = Number 0; r = 1; d = 2; p = 1; kind = Pause } ∷ fullEntries k
+
+full-length : (k : ℕ) → length (fullEntries k) ≡ k
+unfolding fullEntries
+full-length zero = refl
+full-length (suc k) = ap suc (full-length k)
+
+full-serial : (k i : ℕ) → i < k → getD (fullEntries k) i blank .serial ≡ k - suc i
+unfolding fullEntries
+full-serial zero i h = absurd (omega arith)
+full-serial (suc k) zero h = omega arith
+full-serial (suc k) (suc i) h = omega (arith, full-serial k i (omega arith))
+
+full-apart : (k : ℕ) → Apart (fullEntries k)
+full-apart k i j c =
+    let later : j < k = omega (arith, c .later, full-length k) in
+    let earlier : i < k = omega (arith, c .earlier, later) in
+    omega (arith, c .serial, full-serial k i earlier, full-serial k j later, c .earlier, later)
 
 -- 64 of them
 fullest : DayList
 fullest = dayList (record { h = 1440 }) (fullEntries 64)
 
+fullest-apart : Apart (entriesOf fullest)
+unfolding fullest
+fullest-apart = rw (take-append-seam (fullEntries 64) (replicate (64 - length (fullEntries 64)) blank)) (full-apart 64)
+
 -- some list's one form is as long
 pub longest-reached : (l : DayList) × WellFormed l × (length (bytesOf l) ≡ longestList)
-unfolding fullest fullEntries checkOf valuesFault headerFault entriesFault entryFault firstClash firstBelow bytesOf bytesOfEntries entryBytes
-longest-reached = (fullest, refl, refl)
+unfolding fullest fullEntries valuesFault headerFault entriesFault entryFault bytesOf bytesOfEntries entryBytes
+longest-reached = (fullest, values-apart fullest refl fullest-apart, refl)
 
 -- "Two list values are equal if H, n and the first n entries are": then the one form and the writer treat them alike
 module _ (a b : DayList) (same : SameList a b) where

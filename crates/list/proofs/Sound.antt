@@ -144,6 +144,9 @@ module _ (l : DayList) where
   pub list-apart : WellFormed l → Apart (entriesOf l)
   list-apart w = passed w .1
 
-  pub well-formed : SoundList l → Apart (entriesOf l) → WellFormed l
+  pub values-apart : valuesFault l ≡ answered tt → Apart (entriesOf l) → WellFormed l
   unfolding checkOf
-  well-formed s none = rw (sound-values s, le-ltb _ _ (apart-told (entriesOf l) none)) refl
+  values-apart values none = rw (values, le-ltb _ _ (apart-told (entriesOf l) none)) refl
+
+  pub well-formed : SoundList l → Apart (entriesOf l) → WellFormed l
+  well-formed s none = values-apart (sound-values s) none
