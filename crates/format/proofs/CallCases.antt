@@ -30,7 +30,7 @@ use Rattle.list.proofs.Verdicts.{by-refused}
 use Rattle.list.proofs.Columns.{held-count}
 use Rattle.format.proofs.ReadCases.{reads-refused, read-refused, is-decoded, read-clash, read-list}
 use Rattle.format.proofs.WriteCases.{list-written}
-use Rattle.format.proofs.RoundTrip.{written-reads-back, decoded-typed, map-place, read-well-formed, read-one-form, read-places}
+use Rattle.format.proofs.RoundTrip.{written-reads-back, decoded-typed, map-place, read-well-formed, read-one-form, read-law}
 
 pub reads : (bs : List ℕ) (a : ReadAnswer) → Bytes bs → ReadsAs (readOf bs) a → Reads bs a
 reads bs a b w =
@@ -38,7 +38,7 @@ reads bs a b w =
       outcome = w .outcome;
       beside = w .beside;
       back = λ l e. (read-well-formed bs l e, read-one-form bs l e b);
-      refusal = read-places bs;
+      law = read-law bs;
     }
 
 -- row 14, after rows 1 to 8

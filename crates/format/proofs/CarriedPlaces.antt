@@ -5,7 +5,7 @@ use mathlib.Core.List.{[], _∷_}
 use Prim.Native.Nat.{ℕ, _<_, _≤_}
 use native.Mathlib.Omega.{arith}
 use Rattle.base.specs.Outcomes.{code}
-use Rattle.format.specs.Reading.{PlaceIn}
+use Rattle.format.specs.Laws.{PlaceIn}
 
 -- the length, and a place inside
 pub at-end : (len x : ℕ) → x ≡ len → PlaceIn len (code 1 (x ∷ []))

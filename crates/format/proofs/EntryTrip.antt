@@ -16,7 +16,7 @@ use Rattle.format.specs.Maps.{legalMap, fieldsOf, mapOf, rPlace, dPlace,
 use Rattle.list.specs.Entries.{entryFault}
 use Rattle.format.specs.EntryFields.{defaultR, defaultD, sealOf, entryAt, entryOf, fieldsEntry, defaultWritten}
 use Rattle.format.specs.Forms.{sealed, fieldsIn, sealBytes, minuteBytes, entryBytes}
-use Rattle.format.specs.Reading.{PlaceIn}
+use Rattle.format.specs.Laws.{PlaceIn}
 use Rattle.list.specs.Machine.{Bytes, SealFits}
 use Rattle.list.specs.declared.types.Seal.{Seal}
 use Rattle.list.specs.declared.types.Seal.the-variants.{Missing, Number}

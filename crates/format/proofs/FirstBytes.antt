@@ -14,7 +14,8 @@ use Rattle.format.specs.LittleEndian.{u16At, u32At}
 use Rattle.format.specs.Maps.{rPlace, dPlace, pPlace, sizeOf}
 use Rattle.format.specs.EntryFields.{entryAt, fieldsEntry, entryOf}
 use Rattle.list.specs.Checks.{headerFault}
-use Rattle.format.specs.Reading.{entriesFrom, frameOf, countOf, bodyOf, decodeOf, readOf, PlaceIn}
+use Rattle.format.specs.Reading.{entriesFrom, frameOf, countOf, bodyOf, decodeOf, readOf}
+use Rattle.format.specs.Laws.{PlaceIn}
 use Rattle.format.specs.Writing.{readLimit}
 use Rattle.list.specs.declared.types.Frame.{Frame}
 use Rattle.format.specs.declared.map.Fields.{Fields}
@@ -120,13 +121,15 @@ module _ {xs ys : List ℕ} (a : Agree readLimit xs ys) where
       let o = entriesFrom f n 3 (drop 3 ys) in
       by-step Taken Anything (λ _. ⊥) o _
       (says-refusal Taken (PlaceIn (length ys)) Anything o (λ _ _. tt) (entries-say f n 3 (drop 3 ys) (length ys) all))
-      (λ x es. by-row (λ _. ⊥) Anything (ltb (x .1) (length ys)) _ _ (λ _. tt) (λ t. let z : length ys ≤ x .1 = ltb-false _ _ t in omega arith))
+      (λ x es. by-row (λ _. ⊥) Anything (ltb (x .1) (length ys)) _ _ (λ _. tt)
+      (λ t. let z : length ys ≤ x .1 = ltb-false _ _ t in omega arith))
 
   decode-over : Says (λ _. ⊥) Anything (decodeOf ys)
   unfolding decodeOf
   decode-over =
       by-row (λ _. ⊥) Anything (ltb (length ys) 3) _ _ (λ _. tt)
-      (λ _. by-step (λ _. Header f n) Anything (λ _. ⊥) (headerFault 2 f n) _ (header-says 2 f n Anything tt tt) (λ _ h. body-over (h .room)))
+      (λ _. by-step (λ _. Header f n) Anything (λ _. ⊥) (headerFault 2 f n) _ (header-says 2 f n Anything tt tt)
+      (λ _ h. body-over (h .room)))
 
   read-same : readOf xs ≡ readOf ys
   unfolding readOf

@@ -13,7 +13,8 @@ use Rattle.base.specs.Outcomes.{answered}
 use Rattle.format.specs.EntryFields.{entryOf}
 use Rattle.format.specs.Forms.{entryBytes}
 use Rattle.list.specs.DayLists.{blank}
-use Rattle.format.specs.Reading.{entriesFrom, PlaceIn}
+use Rattle.format.specs.Reading.{entriesFrom}
+use Rattle.format.specs.Laws.{PlaceIn}
 use Rattle.format.specs.Writing.{bytesOfEntries}
 use Rattle.list.specs.declared.types.Entry.{Entry}
 use Rattle.list.specs.declared.types.Frame.{Frame}

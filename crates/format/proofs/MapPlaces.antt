@@ -68,7 +68,9 @@ module _ (f : Frame) (bs : List ℕ) where
             let is : one .0 ∷ more .0 ≡ es = ap (λ (y : List Entry × ℕ). y .0) (answered-same refl t) in
             elim [
               | zero ↦ λ l. subst (λ ys. ReadFrom at ys 0) is (first-here at (one .1) (one .0) (more .0) q)
-              | suc j ↦ λ l. subst (λ ys. ReadFrom at ys (suc j)) is (first-then at (one .1) (one .0) (more .0) j q (each (one .1) more s j (omega arith)))
+              | suc j ↦ λ l.
+                  let later = each (one .1) more s j (omega arith) in
+                  subst (λ ys. ReadFrom at ys (suc j)) is (first-then at (one .1) (one .0) (more .0) j q later)
             ]
 
   -- each of k entries that are read

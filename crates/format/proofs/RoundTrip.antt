@@ -6,7 +6,7 @@ use mathlib.Core.Logic.{inl, inr}
 use mathlib.Core.List.{List, [], _∷_, _++_, append-nil}
 use Prim.Native.Nat.{ℕ, zero, suc, _+_, _-_, _≤_, _<_}
 use native.Mathlib.Omega.{arith}
-use borrow.Author.Tests.{ltb-true, ltb-false, le-ltb}
+use borrow.Author.Tests.{ltb-true, ltb-false, le-ltb, lt-ltb}
 use lib.Dec.{ltb}
 use lib.ListN.{length, getD, take, drop, replicate, length-append, length-take, length-drop, length-replicate, drop-of-length-le}
 use lib.Seq.{take-append-seam, take-at, take-take}
@@ -18,7 +18,7 @@ use Rattle.list.specs.DayLists.{entriesOf, blank, dayList, SameList}
 use Rattle.list.specs.Clashes.{firstClash, Apart}
 use Rattle.list.specs.Checks.{WellFormed, checkOf, headerFault, entriesFault, valuesFault}
 use Rattle.format.specs.Reading.{entriesFrom, frameOf, countOf, bodyOf, decodeOf, placeAfter, mapPlace, readOf}
-use Rattle.format.specs.Reading.{PlaceIn, ClashRead, ReadRefusal}
+use Rattle.format.specs.Laws.{PlaceIn, ClashRead, ReadRefusal, ReadLaw}
 use Rattle.format.specs.Internal.{firstEntries}
 use Rattle.format.specs.Writing.{bytesOfEntries, bytesOf, longestList, writeOf, bufferAfter}
 use Rattle.list.specs.declared.types.Seal.the-variants.{Number}
@@ -30,7 +30,7 @@ use Rattle.list.specs.declared.types.Verdict.the-variants.{Accepted}
 use Rattle.base.proofs.Inversion.{Says, by-row, by-step, says-answer, says-refusal, Anything}
 use Rattle.format.proofs.CarriedPlaces.{at-end, at-place}
 use Rattle.list.proofs.Alike.{same-checked}
-use Rattle.list.proofs.ClashFacts.{apart, first-clash, apart-told}
+use Rattle.list.proofs.ClashFacts.{apart, first-clash, apart-told, first-told}
 use Rattle.list.proofs.Sound.{Header, header-says, header-passes, SoundList, check-says, sound-list, list-apart, values-apart, well-formed}
 use Rattle.format.proofs.FieldTrip.{bytes-drop, u16-back, u16-stands, byte-stands}
 use Rattle.format.proofs.EntryTrip.{EntryFits}
@@ -223,7 +223,8 @@ module _ (bs : List ℕ) where
       let P : DayList → Type 0 = λ l. Decoded bs l × Apart (entriesOf l) in
       let R = ReadRefusal bs in
       by-step (λ l. Decoded bs l × (decodeOf bs ≡ answered l)) R P (decodeOf bs) _
-      (says-answer (Decoded bs) R (decodeOf bs) (says-refusal (Decoded bs) (PlaceIn (length bs)) R (decodeOf bs) (λ _ p. inl p) decode-says))
+      (says-answer (Decoded bs) R (decodeOf bs)
+      (says-refusal (Decoded bs) (PlaceIn (length bs)) R (decodeOf bs) (λ _ p. inl p) decode-says))
       (λ l d. by-row P R (ltb (firstClash (entriesOf l)) (length (entriesOf l))) _ _
       (λ t. inr (mapPlace bs (firstClash (entriesOf l)), refl, clash-read l (d .1) (ltb-true _ _ t)))
       (λ t. (d .0, apart (entriesOf l) (ltb-false _ _ t))))
@@ -231,6 +232,18 @@ module _ (bs : List ℕ) where
   -- why an input is refused: what 1 carries is its length, and any other refusal carries a place inside
   pub read-places : (k : Code) → readOf bs ≡ refused k → ReadRefusal bs k
   read-places k e = rw e at read-says
+
+  pub read-law : ReadLaw bs
+  unfolding readOf
+  read-law =
+      record {
+        refusal = read-places;
+        apart = λ l e none. rw (e, le-ltb _ _ (apart-told (entriesOf l) none)) refl;
+        clash = λ l e k f. (
+          mapPlace bs k,
+          rw (e, first-told (entriesOf l) k f, lt-ltb k (length (entriesOf l)) (f .clashes .later)) refl,
+        );
+      }
 
   module _ (l : DayList) (e : readOf bs ≡ answered l) where
     accepted : Decoded bs l × Apart (entriesOf l)

@@ -4,5 +4,6 @@ pub mod EntryFields
 pub mod Reading
 pub mod Forms
 pub mod Writing
+pub mod Laws
 pub mod Calls
 pub mod Internal

@@ -1,15 +1,13 @@
 -- Reading: from bytes to a list value.
-use Prim.Native.Nat.{ℕ, zero, suc, _+_, _<_, _≤_}
-use mathlib.Core.Path.{_≡_}
+use Prim.Native.Nat.{ℕ, zero, suc, _+_}
 use mathlib.Core.List.{List, [], _∷_}
-use mathlib.Core.Logic.{_⊎_}
-use lib.ListN.{length, getD, take, drop}
+use lib.ListN.{length, getD, drop}
 use lib.Dec.{ltb}
-use Rattle.base.specs.Outcomes.{Code, code, Outcome, answered, refused, row, firstOf, andThen}
+use Rattle.base.specs.Outcomes.{Outcome, answered, refused, row, firstOf, andThen}
 use Rattle.format.specs.LittleEndian.{u16At}
 use Rattle.format.specs.EntryFields.{entryOf}
-use Rattle.list.specs.DayLists.{dayList, emptyList, entriesOf, blank}
-use Rattle.list.specs.Clashes.{clashRow, FirstClash}
+use Rattle.list.specs.DayLists.{dayList, emptyList, entriesOf}
+use Rattle.list.specs.Clashes.{clashRow}
 use Rattle.list.specs.Checks.{headerFault}
 use Rattle.list.specs.declared.types.Entry.{Entry}
 use Rattle.list.specs.declared.types.Frame.{Frame}
@@ -48,8 +46,8 @@ placeAfter (refused k) = 0
 unfoldable pub mapPlace : List ℕ → ℕ → ℕ
 mapPlace bs place = placeAfter (entriesFrom (frameOf bs) place 3 (drop 3 bs))
 
--- Reading: rows 1 to 8, then of document 02: "Such an entry, the first in list order, is refused as 14, after 8 when reading .., and carries
--- its map's place".
+-- Reading: rows 1 to 8, then document 02's: "Such an entry, the first in list order, is refused as 14, after 8 when reading .., and
+-- carries its map's place".
 unfoldable pub readOf : List ℕ → Outcome DayList
 readOf bs = andThen (decodeOf bs) (λ l. firstOf (clashRow (mapPlace bs) (entriesOf l) ∷ []) (answered l))
 
@@ -57,27 +55,3 @@ readOf bs = andThen (decodeOf bs) (λ l. firstOf (clashRow (mapPlace bs) (entrie
 abbrev pub listOr : Outcome DayList → DayList
 listOr (answered l) = l
 listOr (refused k) = emptyList
-
--- A refusal of an input of this length: one of the rows 1 to 8, of which 1 carries the length and any other a place inside the input.
-pub record PlaceIn (len : ℕ) (k : Code) : Type 0 where
-  pub reading : k .number ≤ 8
-  pub place : ℕ
-  pub carried : k .carries ≡ place ∷ []
-  pub missing : k .number ≡ 1 → place ≡ len
-  pub inside : (k .number ≡ 1 → ⊥) → place < len
-
--- What a refusal by 14 that carries the place at says of an input: the list that rows 1 to 8 leave, and its first entry that clashes with an
--- earlier one; reading the entries before it ends at the place carried, and there, inside the input, the entry itself was read.
-pub record ClashRead (bs : List ℕ) (at : ℕ) : Type 0 where
-  pub list : DayList
-  pub decoded : decodeOf bs ≡ answered list
-  pub entry : ℕ
-  pub first : FirstClash (entriesOf list) entry
-  pub before : entriesFrom (frameOf bs) entry 3 (drop 3 bs) ≡ answered (take entry (entriesOf list), at)
-  pub size : ℕ
-  pub here : entryOf (frameOf bs) at (drop at bs) ≡ answered (getD (entriesOf list) entry blank, size)
-  pub inside : at < length bs
-
--- why an input is refused: one of those rows, or 14
-abbrev pub ReadRefusal : List ℕ → Code → Type 0
-ReadRefusal bs k = PlaceIn (length bs) k ⊎ ((at : ℕ) × (k ≡ code 14 (at ∷ [])) × ClashRead bs at)

@@ -9,11 +9,12 @@ use lib.ListN.{length, getD}
 use Rattle.base.specs.Outcomes.{Code, code, answered, refused}
 use Rattle.list.specs.DayLists.{entriesOf}
 use Rattle.list.specs.Clashes.{firstClash, FirstClash}
-use Rattle.list.specs.Checks.{valuesFault, checkOf}
+use Rattle.list.specs.Checks.{valuesFault, checkOf, WellFormed}
 use Rattle.list.specs.Laws.{ClashLaw}
 use Rattle.list.specs.declared.types.DayList.{DayList}
+use Rattle.base.proofs.Inversion.{Says}
 use Rattle.list.proofs.ClashFacts.{first-told}
-use Rattle.list.proofs.Sound.{list-apart, check-says}
+use Rattle.list.proofs.Sound.{list-apart, check-says, values-apart}
 
 module _ (l : DayList) where
   -- what holds of a refusal, if it is 14
@@ -22,12 +23,17 @@ module _ (l : DayList) where
 
   clashing : (k : ℕ) → checkOf l ≡ refused (code 14 (k ∷ [])) → (valuesFault l ≡ answered tt) × FirstClash (entriesOf l) k
   clashing k e =
-      (rw e at
-      (check-says l Told (other 2 0 (omega arith)) (other 3 0 (omega arith)) (λ at. other 6 at (omega arith)) (λ at. other 7 at (omega arith))
-      (λ values f j q. let same : firstClash (entriesOf l) ≡ j = ap (λ (y : Code). getD (y .carries) 0 0) q in (values, subst (FirstClash (entriesOf l)) same f)))) k refl
+      let told : Says (λ _. WellFormed l) Told (checkOf l) =
+      check-says l Told (other 2 (omega arith) 0) (other 3 (omega arith) 0) (other 6 (omega arith)) (other 7 (omega arith)) fourteen in
+      (rw e at told) k refl
     where
-      other : (n x : ℕ) → n < 14 → Told (code n (x ∷ []))
-      other n x h j q = let z : n ≡ 14 = ap (λ (y : Code). y .number) q in absurd (omega arith)
+      other : (n : ℕ) → n < 14 → (x : ℕ) → Told (code n (x ∷ []))
+      other n h x j q = let z : n ≡ 14 = ap (λ (y : Code). y .number) q in absurd (omega arith)
+
+      fourteen : valuesFault l ≡ answered tt → FirstClash (entriesOf l) (firstClash (entriesOf l)) → Told (code 14 (firstClash (entriesOf l) ∷ []))
+      fourteen values f j q =
+          let same : firstClash (entriesOf l) ≡ j = ap (λ (y : Code). getD (y .carries) 0 0) q in
+          (values, subst (FirstClash (entriesOf l)) same f)
 
   pub clash-law : ClashLaw l
   unfolding checkOf
@@ -38,4 +44,5 @@ module _ (l : DayList) where
         refuses = λ k values f.
             let q : firstClash (entriesOf l) ≡ k = first-told (entriesOf l) k f in
             rw (values, q, lt-ltb k (length (entriesOf l)) (f .clashes .later)) refl;
+        passes = values-apart l;
       }

@@ -113,15 +113,17 @@ module _ (l : DayList) where
   unfolding valuesFault
   sound-values s = rw (header-passes 0 (l .frame) (l .n) (s .header)) (checked-passes (l .frame) 0 (entriesOf l) (s .entries))
 
+  abbrev es : List Entry
+  es = entriesOf l
+
   -- what the value check says: of a refusal, whatever holds of rows 2, 3, 6, 7 and 14
   module _ (R : Code → Type 0) (two : R (code 2 (0 ∷ []))) (three : R (code 3 (0 ∷ []))) (six : (at : ℕ) → R (code 6 (at ∷ [])))
       (seven : (at : ℕ) → R (code 7 (at ∷ [])))
-      (fourteen : valuesFault l ≡ answered tt → FirstClash (entriesOf l) (firstClash (entriesOf l)) → R (code 14 (firstClash (entriesOf l) ∷ [])))
+      (fourteen : valuesFault l ≡ answered tt → FirstClash es (firstClash es) → R (code 14 (firstClash es ∷ [])))
     where
-      passes-say : Says (λ _. SoundList l × Apart (entriesOf l)) R (checkOf l)
+      passes-say : Says (λ _. SoundList l × Apart es) R (checkOf l)
       unfolding checkOf
       passes-say =
-          let es = entriesOf l in
           by-step (λ _. SoundList l) R (λ _. SoundList l × Apart es) (valuesFault l) _ (values-say R two three six seven)
           (λ _ s. by-row (λ _. SoundList l × Apart es) R (ltb (firstClash es) (length es)) _ _
           (λ t. fourteen (sound-values s) (first-clash es (ltb-true _ _ t)))
@@ -130,23 +132,23 @@ module _ (l : DayList) where
       pub check-says : Says (λ _. WellFormed l) R (checkOf l)
       check-says = go (checkOf l) refl passes-say
         where
-          go : (o : Outcome (Unit {0})) → checkOf l ≡ o → Says (λ _. SoundList l × Apart (entriesOf l)) R o → Says (λ _. WellFormed l) R o
+          go : (o : Outcome (Unit {0})) → checkOf l ≡ o → Says (λ _. SoundList l × Apart es) R o → Says (λ _. WellFormed l) R o
           go (answered t) e p = e
           go (refused k) e p = p
 
   -- a list is well-formed exactly if its header and its entries are sound and no two entries clash
-  passed : WellFormed l → SoundList l × Apart (entriesOf l)
+  passed : WellFormed l → SoundList l × Apart es
   passed w = rw w at (passes-say Anything tt tt (λ _. tt) (λ _. tt) (λ _ _. tt))
 
   pub sound-list : WellFormed l → SoundList l
   sound-list w = passed w .0
 
-  pub list-apart : WellFormed l → Apart (entriesOf l)
+  pub list-apart : WellFormed l → Apart es
   list-apart w = passed w .1
 
-  pub values-apart : valuesFault l ≡ answered tt → Apart (entriesOf l) → WellFormed l
+  pub values-apart : valuesFault l ≡ answered tt → Apart es → WellFormed l
   unfolding checkOf
-  values-apart values none = rw (values, le-ltb _ _ (apart-told (entriesOf l) none)) refl
+  values-apart values none = rw (values, le-ltb _ _ (apart-told es none)) refl
 
-  pub well-formed : SoundList l → Apart (entriesOf l) → WellFormed l
+  pub well-formed : SoundList l → Apart es → WellFormed l
   well-formed s none = values-apart (sound-values s) none

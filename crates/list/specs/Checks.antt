@@ -1,5 +1,5 @@
 -- "A list handed over as a value is tested for 2, 3, then 6 and 7 per entry; 2 and 3 then carry 0, 6 and 7 the entry's place."
--- And of document 02: "Such an entry, the first in list order, is refused as 14, .. after the last 7 for a value, and carries .. its entry's
+-- And document 02: "Such an entry, the first in list order, is refused as 14, .. after the last 7 for a value, and carries .. its entry's
 -- place."
 use Prim.Native.Nat.{ℕ, _+_}
 use mathlib.Core.Path.{_≡_}

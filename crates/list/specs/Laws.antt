@@ -13,5 +13,6 @@ pub record ClashLaw (l : DayList) : Type 0 where
   pub accepted : WellFormed l → Apart (entriesOf l)
   -- a list refused by 14 has, at the place carried, and no earlier entry does
   pub clashing : (k : ℕ) → checkOf l ≡ refused (code 14 (k ∷ [])) → (valuesFault l ≡ answered tt) × FirstClash (entriesOf l) k
-  -- and every list that has, and passes the rows before 14, is refused so
+  -- of the lists that pass the rows before 14, those that have are refused so, and all others pass
   pub refuses : (k : ℕ) → valuesFault l ≡ answered tt → FirstClash (entriesOf l) k → checkOf l ≡ refused (code 14 (k ∷ []))
+  pub passes : valuesFault l ≡ answered tt → Apart (entriesOf l) → WellFormed l

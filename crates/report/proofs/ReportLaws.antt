@@ -10,7 +10,8 @@ use lib.ListN.{length, getD}
 use Rattle.base.specs.Outcomes.{Code, code, Outcome, answered, refused, andThen}
 use Rattle.list.specs.DayLists.{entriesOf, blank, dayList, wholeIn}
 use Rattle.list.specs.Checks.{WellFormed}
-use Rattle.format.specs.Reading.{readOf, ReadRefusal}
+use Rattle.format.specs.Reading.{readOf}
+use Rattle.format.specs.Laws.{ReadRefusal}
 use Rattle.list.specs.declared.types.Entry.{Entry}
 use Rattle.list.specs.declared.types.DayList.{DayList}
 use Rattle.list.specs.declared.types.Verdict.the-variants.{Accepted}

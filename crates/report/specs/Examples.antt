@@ -1,4 +1,5 @@
--- Document 01's examples of reports, and two of document 02's row 14, as one statement; `report-examples` of proofs/Examples.antt proves it.
+-- Document 01's examples of reports, and two days that have a serial twice, as one statement; `report-examples` of proofs/Examples.antt
+-- proves it.
 use Prim.Native.Nat.{ℕ}
 use mathlib.Core.Path.{_≡_}
 use mathlib.Core.List.{List, [], _∷_, _++_}

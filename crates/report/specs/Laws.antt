@@ -5,7 +5,8 @@ use mathlib.Core.Logic.{_↔_}
 use mathlib.Core.List.{List, []}
 use lib.ListN.{length, getD}
 use Rattle.base.specs.Outcomes.{Code, answered, refused}
-use Rattle.format.specs.Reading.{readOf, ReadRefusal}
+use Rattle.format.specs.Reading.{readOf}
+use Rattle.format.specs.Laws.{ReadRefusal}
 use Rattle.list.specs.declared.types.DayList.{DayList}
 use Rattle.jackson.specs.Windows.{windowsOf}
 use Rattle.jackson.specs.Plans.{placesIn}

@@ -37,7 +37,8 @@ returns : tie.Need-returns Inv-loop μ-loop
 returns c =
     let held = c .before .before .before .before in
     let loop = c .before .before .before .loop in
-    clash-found (held .before .args .list) _ (loop .place) (all held) (loop .inv) (sym (c .if1 .taken) ∙ c .before .clashes-earlier .ensures)
+    let found = sym (c .if1 .taken) ∙ c .before .clashes-earlier .ensures in
+    clash-found (held .before .args .list) _ (loop .place) (all held) (loop .inv) found
 
 add-place : tie.Need-add-place Inv-loop μ-loop
 add-place c = search needs
@@ -48,7 +49,8 @@ loop-less c = search needs
 loop-again : tie.Need-loop-again Inv-loop μ-loop
 loop-again c =
     let loop = c .before .before .before .loop in
-    passed-next _ _ (loop .place) (loop .inv) (c .before .before .loop-test .taken) (sym (c .before .clashes-earlier .ensures) ∙ c .if1 .left)
+    let none = sym (c .before .clashes-earlier .ensures) ∙ c .if1 .left in
+    passed-next _ _ (loop .place) (loop .inv) (c .before .before .loop-test .taken) none
 
 returns-2 : tie.Need-returns-2 Inv-loop μ-loop
 returns-2 c =
