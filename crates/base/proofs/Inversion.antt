@@ -38,12 +38,13 @@ module _ {A : Type 0} (P : A → Type 0) (R : Code → Type 0) where
   same-after (answered a) f g p q = q a p
   same-after (refused k) f g p q = refl
 
--- an outcome, with what it says of its answer
-pub says-answer : {A : Type 0} (P : A → Type 0) (R : Code → Type 0) (o : Outcome A) → Says P R o → Says (λ a. P a × (o ≡ answered a)) R o
-says-answer P R (answered a) p = (p, refl)
-says-answer P R (refused k) p = p
+-- what is said of an outcome, with which outcome it is
+pub says-which : {A : Type 0} (P : A → Type 0) (R : Code → Type 0) (o : Outcome A) → Says P R o
+    → Says (λ a. P a × (o ≡ answered a)) (λ k. R k × (o ≡ refused k)) o
+says-which P R (answered a) p = (p, refl)
+says-which P R (refused k) p = (p, refl)
 
--- and with what follows of its refusal
+-- what follows of a refusal
 pub says-refusal : {A : Type 0} (P : A → Type 0) (R Q : Code → Type 0) (o : Outcome A) → ((k : Code) → R k → Q k) → Says P R o → Says P Q o
 says-refusal P R Q (answered a) f p = p
 says-refusal P R Q (refused k) f p = f k p

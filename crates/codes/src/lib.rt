@@ -24,12 +24,12 @@ fn with_one(number: u64, value: usize) -> RefusalCode
     }
 }
 
-// One that carries an interval's ends and its work.
-fn with_interval(number: u64, a: u16, b: u16, work: u32) -> RefusalCode
-    ensures { λ c. ⌜ c ≡ numbersOf (code number (a ∷ b ∷ work ∷ [])) ⌝ }
+// Row 9, which carries an interval's ends and its work.
+fn with_interval(a: u16, b: u16, work: u32) -> RefusalCode
+    ensures { λ c. ⌜ c ≡ numbersOf (code 9 (a ∷ b ∷ work ∷ [])) ⌝ }
 {
     RefusalCode {
-        number: number,
+        number: 9,
         values: [a as u64, b as u64, work as u64],
     }
 }
@@ -47,7 +47,7 @@ pub fn numbers_of(x: Refusal) -> RefusalCode
         Refusal::NoMinutes(at) => with_one(6, at),
         Refusal::BadWindow(at) => with_one(7, at),
         Refusal::BytesLeftOver(at) => with_one(8, at),
-        Refusal::Overloaded(a, b, work) => with_interval(9, a, b, work),
+        Refusal::Overloaded(a, b, work) => with_interval(a, b, work),
         Refusal::NoPlace(place) => with_one(10, place),
         Refusal::PlanBufferShort(h) => with_one(11, h),
         Refusal::ListBufferShort(needed) => with_one(12, needed),

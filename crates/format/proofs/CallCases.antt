@@ -13,7 +13,7 @@ use Rattle.list.specs.Refusals.{verdictOf, writeAnswerOf}
 use Rattle.list.specs.DayLists.{SameList, entriesOf, emptyList}
 use Rattle.list.specs.Clashes.{firstClash}
 use Rattle.list.specs.Checks.{WellFormed, checkOf}
-use Rattle.format.specs.Reading.{decodeOf, mapPlace, readOf}
+use Rattle.format.specs.Reading.{decodeOf, readOf}
 use Rattle.format.specs.Internal.{ReadsAs, firstEntries}
 use Rattle.format.specs.Writing.{bytesOf, writeOf, bufferAfter}
 use Rattle.list.specs.Machine.{Bytes, Typed}
@@ -28,7 +28,7 @@ use Rattle.list.specs.declared.types.WriteAnswer.{WriteAnswer}
 use Rattle.list.specs.declared.types.WriteAnswer.the-variants.{Written, NotWritten}
 use Rattle.list.proofs.Verdicts.{by-refused}
 use Rattle.list.proofs.Columns.{held-count}
-use Rattle.format.proofs.ReadCases.{reads-refused, read-refused, is-decoded, read-clash, read-list}
+use Rattle.format.proofs.ReadCases.{reads-refused, read-decoded, is-decoded, read-clash, read-list}
 use Rattle.format.proofs.WriteCases.{list-written}
 use Rattle.format.proofs.RoundTrip.{written-reads-back, decoded-typed, map-place, read-well-formed, read-one-form, read-law}
 
@@ -44,7 +44,7 @@ reads bs a b w =
 -- row 14, after rows 1 to 8
 module _ (bs : List ℕ) (b : Bytes bs) (a : ReadAnswer) (decoded : ReadsAs (decodeOf bs) a) where
   pub reads-decoded : (x : Refusal) → a .verdict ≡ Refused x → Reads bs a
-  reads-decoded x v = reads bs a b (read-refused bs a decoded x v)
+  reads-decoded x v = reads bs a b (read-decoded bs a decoded x v)
 
   module _ (v : a .verdict ≡ Accepted) (entry count : ℕ) (is : entry ≡ firstClash (entriesOf (a .list)))
       (held : count ≡ min (a .list .n) 64) where

@@ -1,12 +1,12 @@
 -- The places of map bytes: where reading the entries before one ends, and where their one forms do.
 -- Assumes nothing.
-use mathlib.Core.Path.{_≡_, refl, sym, ap, _∙_, subst}
-use mathlib.Core.List.{List, [], _∷_, _++_}
+use mathlib.Core.Path.{_≡_, refl, ap, _∙_, subst}
+use mathlib.Core.List.{List, _∷_}
 use Prim.Native.Nat.{ℕ, zero, suc, _+_, _≤_, _<_}
 use native.Mathlib.Omega.{arith}
 use lib.ListN.{length, getD, take, drop, length-append, length-drop}
 use lib.Seq.{drop-drop}
-use Rattle.base.specs.Outcomes.{Code, Outcome, answered, refused, andThen}
+use Rattle.base.specs.Outcomes.{Outcome, answered, refused, andThen}
 use Rattle.base.proofs.Inversion.{answered-same, answered-refused}
 use Rattle.list.specs.Machine.{Bytes}
 use Rattle.list.specs.DayLists.{blank}

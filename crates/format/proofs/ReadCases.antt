@@ -181,9 +181,9 @@ module _ (bs : List ℕ) (a : ReadAnswer) (decoded : ReadsAs (decodeOf bs) a) wh
   as-decoded : readOf bs ≡ decodeOf bs → ReadsAs (readOf bs) a
   as-decoded e = record { outcome = decoded .outcome ∙ sym e; beside = decoded .beside ∙ ap listOr (sym e) }
 
-  pub read-refused : (x : Refusal) → a .verdict ≡ Refused x → ReadsAs (readOf bs) a
+  pub read-decoded : (x : Refusal) → a .verdict ≡ Refused x → ReadsAs (readOf bs) a
   unfolding readOf
-  read-refused x v =
+  read-decoded x v =
       let is : decodeOf bs ≡ refused (codeOf x) = sym (decoded .outcome) ∙ rw v refl in
       as-decoded (rw is refl)
 

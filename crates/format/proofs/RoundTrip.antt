@@ -27,7 +27,7 @@ use Rattle.list.specs.declared.types.Entry.{Entry}
 use Rattle.list.specs.declared.types.Frame.{Frame}
 use Rattle.list.specs.declared.types.DayList.{DayList}
 use Rattle.list.specs.declared.types.Verdict.the-variants.{Accepted}
-use Rattle.base.proofs.Inversion.{Says, by-row, by-step, says-answer, says-refusal, Anything}
+use Rattle.base.proofs.Inversion.{Says, by-row, by-step, says-which, says-refusal, Anything}
 use Rattle.format.proofs.CarriedPlaces.{at-end, at-place}
 use Rattle.list.proofs.Alike.{same-checked}
 use Rattle.list.proofs.ClashFacts.{apart, first-clash, apart-told, first-told}
@@ -109,6 +109,7 @@ pub record Decoded (bs : List ℕ) (l : DayList) : Type 0 where
   pub typed : Bytes bs → Typed l
   pub long : 3 ≤ length bs
   pub frame : l .frame ≡ frameOf bs
+  pub all : entriesFrom (frameOf bs) (countOf bs) 3 (drop 3 bs) ≡ answered (entriesOf l, length bs)
   pub each : (i : ℕ) → i < length (entriesOf l) → ReadFrom (frameOf bs) bs 3 (entriesOf l) i
 
 module _ (bs : List ℕ) where
@@ -148,6 +149,9 @@ module _ (bs : List ℕ) where
           seal = λ i. fits i .seal;
         }
 
+    end : length bs ≡ x .1
+    end = omega (arith, done, taken .left)
+
     decoded : Decoded bs (dayList f es)
     decoded =
         record {
@@ -156,6 +160,7 @@ module _ (bs : List ℕ) where
           typed = in-types;
           long = long;
           frame = refl;
+          all = read ∙ rw (kept, end) refl;
           each = rw kept (λ i l. each-read f bs n 3 es (x .1) read i (omega (arith, l, taken .count)));
         }
 
@@ -175,7 +180,9 @@ module _ (bs : List ℕ) where
       (header-says 2 f n R two three)
       (λ _ h.
       let o = entriesFrom f n 3 (drop 3 bs) in
-      by-step (λ x. Entries x × (o ≡ answered x)) R P o _ (says-answer Entries R o (entries-say f n 3 (drop 3 bs) (length bs) rest))
+      let said = says-which Entries R o (entries-say f n 3 (drop 3 bs) (length bs) rest) in
+      by-step (λ x. Entries x × (o ≡ answered x)) R P o _
+      (says-refusal (λ x. Entries x × (o ≡ answered x)) (λ k. R k × (o ≡ refused k)) R o (λ _ p. p .0) said)
       (λ x taken. by-row P R (ltb (x .1) (length bs)) _ _ (λ l. at-place _ 8 (x .1) (omega arith) (omega arith) (ltb-true _ _ l))
       (λ l. decoded long h x (taken .0) (taken .1) (ltb-false _ _ l)))))
 
@@ -208,6 +215,7 @@ module _ (bs : List ℕ) where
       (record {
         list = l;
         decoded = e;
+        all = d .all;
         entry = firstClash (entriesOf l);
         first = first-clash (entriesOf l) h;
         before = read .before;
@@ -222,9 +230,10 @@ module _ (bs : List ℕ) where
   read-says =
       let P : DayList → Type 0 = λ l. Decoded bs l × Apart (entriesOf l) in
       let R = ReadRefusal bs in
-      by-step (λ l. Decoded bs l × (decodeOf bs ≡ answered l)) R P (decodeOf bs) _
-      (says-answer (Decoded bs) R (decodeOf bs)
-      (says-refusal (Decoded bs) (PlaceIn (length bs)) R (decodeOf bs) (λ _ p. inl p) decode-says))
+      let o = decodeOf bs in
+      let D : DayList → Type 0 = λ l. Decoded bs l × (o ≡ answered l) in
+      by-step D R P o _
+      (says-refusal D (λ k. PlaceIn (length bs) k × (o ≡ refused k)) R o (λ _ p. inl p) (says-which (Decoded bs) (PlaceIn (length bs)) o decode-says))
       (λ l d. by-row P R (ltb (firstClash (entriesOf l)) (length (entriesOf l))) _ _
       (λ t. inr (mapPlace bs (firstClash (entriesOf l)), refl, clash-read l (d .1) (ltb-true _ _ t)))
       (λ t. (d .0, apart (entriesOf l) (ltb-false _ _ t))))
@@ -238,10 +247,11 @@ module _ (bs : List ℕ) where
   read-law =
       record {
         refusal = read-places;
+        before = λ k e. rw e refl;
         apart = λ l e none. rw (e, le-ltb _ _ (apart-told (entriesOf l) none)) refl;
         clash = λ l e k f. (
           mapPlace bs k,
-          rw (e, first-told (entriesOf l) k f, lt-ltb k (length (entriesOf l)) (f .clashes .later)) refl,
+          rw (e, first-told (entriesOf l) k f, lt-ltb k (length (entriesOf l)) (f .clashes .in-list)) refl,
         );
       }
 
@@ -292,7 +302,7 @@ full-serial (suc k) (suc i) h = omega (arith, full-serial k i (omega arith))
 
 full-apart : (k : ℕ) → Apart (fullEntries k)
 full-apart k i j c =
-    let later : j < k = omega (arith, c .later, full-length k) in
+    let later : j < k = omega (arith, c .in-list, full-length k) in
     let earlier : i < k = omega (arith, c .earlier, later) in
     omega (arith, c .serial, full-serial k i earlier, full-serial k j later, c .earlier, later)
 

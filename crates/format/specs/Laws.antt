@@ -9,7 +9,7 @@ use Rattle.list.specs.DayLists.{entriesOf, blank}
 use Rattle.list.specs.Clashes.{Apart, FirstClash}
 use Rattle.list.specs.declared.types.DayList.{DayList}
 use Rattle.format.specs.EntryFields.{entryOf}
-use Rattle.format.specs.Reading.{entriesFrom, frameOf, decodeOf, readOf}
+use Rattle.format.specs.Reading.{entriesFrom, frameOf, countOf, decodeOf, readOf}
 
 -- A refusal of an input of this length: one of the rows 1 to 8, of which 1 carries the length and any other a place inside the input.
 pub record PlaceIn (len : ℕ) (k : Code) : Type 0 where
@@ -19,11 +19,12 @@ pub record PlaceIn (len : ℕ) (k : Code) : Type 0 where
   pub missing : k .number ≡ 1 → place ≡ len
   pub inside : (k .number ≡ 1 → ⊥) → place < len
 
--- A refusal by 14 that carries the place at: rows 1 to 8 leave a list, of which this is the first entry that clashes with an earlier one;
--- reading the entries before it ends at that place, and there, inside the input, the entry itself was read, map byte first.
+-- A refusal by 14 that carries the place at: rows 1 to 8 leave a list, whose entries take all of the input; this is its first entry that
+-- clashes with an earlier one; reading the entries before it ends at that place, and there, inside the input, it was read, map byte first.
 pub record ClashRead (bs : List ℕ) (at : ℕ) : Type 0 where
   pub list : DayList
   pub decoded : decodeOf bs ≡ answered list
+  pub all : entriesFrom (frameOf bs) (countOf bs) 3 (drop 3 bs) ≡ answered (entriesOf list, length bs)
   pub entry : ℕ
   pub first : FirstClash (entriesOf list) entry
   pub before : entriesFrom (frameOf bs) entry 3 (drop 3 bs) ≡ answered (take entry (entriesOf list), at)
@@ -33,10 +34,12 @@ pub record ClashRead (bs : List ℕ) (at : ℕ) : Type 0 where
 
 -- why an input is refused: one of those rows, or 14
 abbrev pub ReadRefusal : List ℕ → Code → Type 0
-ReadRefusal bs k = PlaceIn (length bs) k ⊎ ((at : ℕ) × (k ≡ code 14 (at ∷ [])) × ClashRead bs at)
+ReadRefusal bs k = (PlaceIn (length bs) k × (decodeOf bs ≡ refused k)) ⊎ ((at : ℕ) × (k ≡ code 14 (at ∷ [])) × ClashRead bs at)
 
 pub record ReadLaw (bs : List ℕ) : Type 0 where
   pub refusal : (k : Code) → readOf bs ≡ refused k → ReadRefusal bs k
+  -- rows 1 to 8 come first
+  pub before : (k : Code) → decodeOf bs ≡ refused k → readOf bs ≡ refused k
   -- of the lists that rows 1 to 8 leave, those in which no two entries clash are read, and all others are refused by 14
   pub apart : (l : DayList) → decodeOf bs ≡ answered l → Apart (entriesOf l) → readOf bs ≡ answered l
   pub clash : (l : DayList) → decodeOf bs ≡ answered l → (k : ℕ) → FirstClash (entriesOf l) k

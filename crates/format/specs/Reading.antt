@@ -44,7 +44,7 @@ placeAfter (refused k) = 0
 
 -- the place of an entry's map byte: the place after the entries before it
 unfoldable pub mapPlace : List ℕ → ℕ → ℕ
-mapPlace bs place = placeAfter (entriesFrom (frameOf bs) place 3 (drop 3 bs))
+mapPlace bs entry = placeAfter (entriesFrom (frameOf bs) entry 3 (drop 3 bs))
 
 -- Reading: rows 1 to 8, then document 02's: "Such an entry, the first in list order, is refused as 14, after 8 when reading .., and
 -- carries its map's place".

@@ -1,10 +1,12 @@
-// An entry's one form: which fields it has, and writing it.
+// One forms: which fields an entry's has, writing it, and how many bytes a list's has.
 use crate::bytes::put_u16;
 use crate::bytes::put_u32;
 use crate::entry::default_d;
 use crate::entry::default_r;
 use crate::map::Fields;
 use crate::map::map_of;
+use crate::map::size_of;
+use list::types::DayList;
 use list::types::Entry;
 use list::types::Frame;
 use list::types::Seal;
@@ -12,6 +14,8 @@ ghost use mathlib.Core.Path.{_≡_};
 ghost use Prim.Native.Nat.{_+_, _≤_};
 ghost use lib.ListN.{length};
 ghost use Rattle.format.specs.Forms.{sealed, fieldsIn, sealBytes, minuteBytes, timesBytes, entryBytes};
+ghost use Rattle.format.specs.Writing.{bytesOf};
+ghost use Rattle.list.specs.DayLists.{mostEntries};
 ghost use Rattle.base.specs.Storing.{Wrote};
 
 fn has_number(seal: Seal) -> bool
@@ -77,4 +81,19 @@ pub(crate) fn put_entry(out: &mut [u8], at: usize, frame: Frame, e: Entry) -> us
     let a = put_u32(out, at + 1, e.serial);
     let b = put_seal(out, a, seal);
     put_times(out, b, m, e)
+}
+
+// The bytes of a list's one form.
+pub(crate) fn list_size(list: DayList) -> usize
+    requires { ⌜ list .n ≤ mostEntries ⌝ }
+    ensures { λ k. ⌜ k ≡ length (bytesOf list) ⌝ }
+{
+    let n = list.n as usize;
+    let mut size: usize = 3;
+    let mut i: usize = 0;
+    while i < n {
+        size += size_of(fields_in(list.frame, list.entries[i]));
+        i += 1;
+    }
+    size
 }

@@ -2,7 +2,7 @@
 use crate::bytes::u16_at;
 use crate::entry::EntryAnswer;
 use crate::entry::read_entry;
-use crate::writer::list_size;
+use crate::form::list_size;
 use list::empty_list;
 use list::first_clash;
 use list::header_fault;
@@ -84,7 +84,8 @@ fn decode(bytes: &[u8]) -> ReadAnswer
     }
 }
 
-// The place of the map byte of a list's entry: where the list of the entries before it would end.
+// The place of the map byte of an entry that was read: where the list of the entries before it would end. The reading loop keeps no places,
+// and the bytes that it takes are the entries' one forms.
 fn map_place(list: DayList, entry: usize) -> usize
     requires { ⌜ entry < mostEntries ⌝ }
     ensures { λ at. ⌜ at ≡ length (bytesOf (firstEntries list entry)) ⌝ }

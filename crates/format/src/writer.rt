@@ -1,8 +1,7 @@
 // Writing a list's one form.
 use crate::bytes::put_u16;
-use crate::form::fields_in;
+use crate::form::list_size;
 use crate::form::put_entry;
-use crate::map::size_of;
 use list::check;
 use list::types::DayList;
 use list::types::Refusal;
@@ -15,21 +14,6 @@ ghost use lib.Seq.{sets};
 ghost use Rattle.format.specs.Writing.{bytesOf};
 ghost use Rattle.format.specs.Calls.{Writes};
 ghost use Rattle.list.specs.DayLists.{mostEntries};
-
-// The bytes of a list's one form.
-pub(crate) fn list_size(list: DayList) -> usize
-    requires { ⌜ list .n ≤ mostEntries ⌝ }
-    ensures { λ k. ⌜ k ≡ length (bytesOf list) ⌝ }
-{
-    let n = list.n as usize;
-    let mut size: usize = 3;
-    let mut i: usize = 0;
-    while i < n {
-        size += size_of(fields_in(list.frame, list.entries[i]));
-        i += 1;
-    }
-    size
-}
 
 // A list's one form, at the start of the buffer.
 fn put_list(list: DayList, out: &mut [u8])

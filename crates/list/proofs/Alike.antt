@@ -60,5 +60,8 @@ module _ {a b : DayList} (s : SameUnsealed a b) where
   unfolding checkOf
   unsealed-checked = rw (values-alike, clash-alike, count-alike) refl
 
+pub same-unsealed : {a b : DayList} → SameList a b → SameUnsealed a b
+same-unsealed s = record { frame = s .frame; n = s .n; entries = ap (map unsealed) (s .entries) }
+
 pub same-checked : {a b : DayList} → SameList a b → checkOf a ≡ checkOf b
-same-checked s = unsealed-checked (record { frame = s .frame; n = s .n; entries = ap (map unsealed) (s .entries) })
+same-checked s = unsealed-checked (same-unsealed s)

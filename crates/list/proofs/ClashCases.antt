@@ -1,16 +1,15 @@
 -- Looking for an entry that clashes with an earlier one, case by case.
 -- Assumes nothing.
-use mathlib.Core.Path.{_≡_, refl, sym, _∙_}
+use mathlib.Core.Path.{_≡_, refl, sym}
 use mathlib.Core.Bool.{Bool, true, false}
 use mathlib.Core.List.{[], _∷_}
-use Prim.Native.Nat.{ℕ, _+_, _<_, _≤_, min}
+use Prim.Native.Nat.{ℕ, _<_, _≤_}
 use native.Mathlib.Omega.{arith}
 use borrow.Author.Tests.{lt-ltb, le-ltb}
 use lib.ListN.{length, getD, length-take}
 use lib.Seq.{getD-take}
 use Rattle.base.specs.Outcomes.{code, refused, answered}
-use Rattle.base.specs.Counting.{firstBelow}
-use Rattle.base.proofs.Searches.{Passed, passed-none, passed-next, passed-found, passed-all}
+use Rattle.base.proofs.Searches.{Passed, passed-found, passed-all}
 use Rattle.list.specs.Refusals.{verdictOf}
 use Rattle.list.specs.DayLists.{blank, entriesOf}
 use Rattle.list.specs.Clashes.{clash, clashesEarlier, firstClash}
@@ -36,10 +35,10 @@ module _ (l : DayList) where
     earlierTest i = clash (getD (entriesOf l) i blank) (getD (entriesOf l) place blank)
 
     -- what code tests
-    pub earlier-told : place < length (entriesOf l) → (i : ℕ) → i < place → (e : Entry) → e ≡ getD (l .entries) place blank → (t : Bool)
+    pub test-told : place < length (entriesOf l) → (i : ℕ) → i < place → (e : Entry) → e ≡ getD (l .entries) place blank → (t : Bool)
         → t ≡ clash (getD (l .entries) i blank) e
         → earlierTest i ≡ t
-    earlier-told in-list i h e is t says = rw (in-array i (omega (arith, h, in-list)), in-array place in-list, ← is) (sym says)
+    test-told in-list i h e is t says = rw (in-array i (omega (arith, h, in-list)), in-array place in-list, ← is) (sym says)
 
     pub earlier-found : (i : ℕ) → Passed place earlierTest i → i < place → earlierTest i ≡ true → true ≡ clashesEarlier (entriesOf l) place
     earlier-found i so h e = rw (passed-found place earlierTest i so e) (sym (lt-ltb i place h))

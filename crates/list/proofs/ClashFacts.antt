@@ -1,18 +1,18 @@
 -- Entries that clash: what the search of row 14 tells, as facts.
 -- Assumes nothing.
-use mathlib.Core.Path.{_≡_, refl, sym, _∙_}
+use mathlib.Core.Path.{_≡_, refl}
 use mathlib.Core.Bool.{Bool, true, false, _&&_, false≢true}
 use mathlib.Core.List.{List}
 use Prim.Native.Nat.{ℕ, _<_, _≤_, min, max}
 use native.Mathlib.Omega.{arith}
 use borrow.Author.Tests.{ltb-true, lt-ltb, eqb-true, eq-eqb}
-use lib.Dec.{eqb, ltb}
+use lib.Dec.{eqb}
 use lib.ListN.{length, getD}
 use Rattle.base.specs.Counting.{firstBelow}
 use Rattle.base.proofs.Sums.{le-or-lt}
 use Rattle.base.proofs.Searches.{First, first-below, one-first}
 use Rattle.list.specs.DayLists.{blank}
-use Rattle.list.specs.Clashes.{shareMinute, clash, clashesEarlier, firstClash, InWindow, Clash, Apart, FirstClash}
+use Rattle.list.specs.Clashes.{clash, clashesEarlier, firstClash, Clash, Apart, FirstClash}
 use Rattle.list.specs.declared.types.Entry.{Entry}
 
 -- two tests that both pass
@@ -31,7 +31,7 @@ module _ (es : List Entry) where
         let shared = ltb-true (max (at i .r) (at k .r)) (min (at i .d) (at k .d)) (z .1) in
         record {
           earlier = before;
-          later = place;
+          in-list = place;
           serial = eqb-true _ _ (z .0);
           minute = max (at i .r) (at k .r);
           in-earlier = (omega arith, omega (arith, shared));
@@ -73,7 +73,7 @@ module _ (es : List Entry) where
   none-before k h i j before c = clash-search .none-before j (omega arith) (earlier-told j i c)
 
   pub apart : length es ≤ firstClash es → Apart es
-  apart h i k c = none-before (length es) h i k (c .later) c
+  apart h i k c = none-before (length es) h i k (c .in-list) c
 
   pub first-clash : firstClash es < length es → FirstClash es (firstClash es)
   first-clash h =
@@ -90,7 +90,7 @@ module _ (es : List Entry) where
   first-told k f =
       one-first (length es) (clashesEarlier es) (firstClash es) k clash-search
       (record {
-        within = omega (arith, f .clashes .later);
+        within = omega (arith, f .clashes .in-list);
         passes = λ _. earlier-told k (f .partner) (f .clashes);
-        none-before = λ j before t. let z = earlier-facts j (omega (arith, f .clashes .later)) t in f .first (z .0) j before (z .1);
+        none-before = λ j before t. let z = earlier-facts j (omega (arith, f .clashes .in-list)) t in f .first (z .0) j before (z .1);
       })

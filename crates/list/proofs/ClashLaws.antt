@@ -39,10 +39,11 @@ module _ (l : DayList) where
   unfolding checkOf
   clash-law =
       record {
+        before = λ k e. rw e refl;
         accepted = list-apart l;
         clashing = clashing;
         refuses = λ k values f.
             let q : firstClash (entriesOf l) ≡ k = first-told (entriesOf l) k f in
-            rw (values, q, lt-ltb k (length (entriesOf l)) (f .clashes .later)) refl;
+            rw (values, q, lt-ltb k (length (entriesOf l)) (f .clashes .in-list)) refl;
         passes = values-apart l;
       }

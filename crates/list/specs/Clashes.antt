@@ -38,7 +38,7 @@ InWindow e t = (e .r ≤ t) × (t < e .d)
 -- the entries at places i and k, one after the other in list order, have one serial, and a minute lies in both windows
 pub record Clash (es : List Entry) (i k : ℕ) : Type 0 where
   pub earlier : i < k
-  pub later : k < length es
+  pub in-list : k < length es
   pub serial : getD es i blank .serial ≡ getD es k blank .serial
   pub minute : ℕ
   pub in-earlier : InWindow (getD es i blank) minute

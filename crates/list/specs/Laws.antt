@@ -1,14 +1,17 @@
--- What row 14 of the value check says, in facts: `clash-law` of proofs/ClashLaws.antt, for every list.
+-- What row 14 of the value check says, in facts: `clash-law` of proofs/ClashLaws.antt, for every list. With the rows before it, the law
+-- leaves one answer.
 use Prim.Native.Nat.{ℕ}
 use mathlib.Core.Path.{_≡_}
 use mathlib.Core.List.{[], _∷_}
-use Rattle.base.specs.Outcomes.{code, answered, refused}
+use Rattle.base.specs.Outcomes.{Code, code, answered, refused}
 use Rattle.list.specs.DayLists.{entriesOf}
 use Rattle.list.specs.Clashes.{Apart, FirstClash}
 use Rattle.list.specs.Checks.{valuesFault, checkOf, WellFormed}
 use Rattle.list.specs.declared.types.DayList.{DayList}
 
 pub record ClashLaw (l : DayList) : Type 0 where
+  -- rows 2, 3, 6 and 7 come first
+  pub before : (k : Code) → valuesFault l ≡ refused k → checkOf l ≡ refused k
   -- a well-formed list has no two entries of one serial that share a minute
   pub accepted : WellFormed l → Apart (entriesOf l)
   -- a list refused by 14 has, at the place carried, and no earlier entry does

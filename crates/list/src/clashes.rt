@@ -10,13 +10,13 @@ ghost use Rattle.list.specs.DayLists.{entriesOf};
 ghost use Rattle.list.specs.Clashes.{shareMinute, clash, clashesEarlier, firstClash};
 
 // The later of two minutes, and the earlier.
-fn later(a: u16, b: u16) -> u16
+fn later_minute(a: u16, b: u16) -> u16
     ensures { λ t. ⌜ t ≡ max a b ⌝ }
 {
     if a < b { b } else { a }
 }
 
-fn earlier(a: u16, b: u16) -> u16
+fn earlier_minute(a: u16, b: u16) -> u16
     ensures { λ t. ⌜ t ≡ min a b ⌝ }
 {
     if a < b { a } else { b }
@@ -26,7 +26,7 @@ fn earlier(a: u16, b: u16) -> u16
 fn share_minute(a: Entry, b: Entry) -> bool
     ensures { λ t. ⌜ t ≡ shareMinute a b ⌝ }
 {
-    later(a.r, b.r) < earlier(a.d, b.d)
+    later_minute(a.r, b.r) < earlier_minute(a.d, b.d)
 }
 
 // Whether two entries are of one box: serials tell boxes apart, seals do not.

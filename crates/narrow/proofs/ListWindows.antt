@@ -99,13 +99,13 @@ module _ (l : DayList) (w : Windows) (keeps : Keeps (windowsOf l) w) where
       -- windows only shrink, so that entries that clash did so before
       clash-given : (i k : ℕ) → Clash (entriesOf (listWith l w)) i k → Clash (entriesOf l) i k
       clash-given i k c =
-          let later : k < length (entriesOf l) = omega (arith, c .later, listed-count l w) in
+          let later : k < length (entriesOf l) = omega (arith, c .in-list, listed-count l w) in
           let before : i < length (entriesOf l) = omega (arith, later, c .earlier) in
           let x = listed-entry l w i before in
           let y = listed-entry l w k later in
           record {
             earlier = c .earlier;
-            later = later;
+            in-list = later;
             serial = sym (ap (λ (e : Entry). e .serial) x) ∙ c .serial ∙ ap (λ (e : Entry). e .serial) y;
             minute = c .minute;
             in-earlier = shrunk i before (c .minute) (rw x at (c .in-earlier));

@@ -185,7 +185,7 @@ unread-says : (bs : List ℕ) (k : Code) → readOf bs ≡ refused k → Says k
 unread-says bs k e = go (read-places bs k e)
   where
     go : ReadRefusal bs k → Says k
-    go (inl in-bytes) =
+    go (inl (in-bytes, _)) =
         let is : k ≡ code (k .number) (in-bytes .place ∷ []) = λ j. code (k .number) (in-bytes .carried j) in
         subst Says (sym is) (one-said (k .number) (in-bytes .place) (λ z. omega (arith, in-bytes .reading)))
     go (inr (at, is, clash)) = subst Says (sym is) (one-said 14 at (λ z. omega arith))

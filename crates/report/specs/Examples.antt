@@ -1,4 +1,4 @@
--- Document 01's examples of reports, and two days that have a serial twice, as one statement; `report-examples` of proofs/Examples.antt
+-- Document 01's examples of reports, and days that have a serial twice, as one statement; `report-examples` of proofs/Examples.antt
 -- proves it.
 use Prim.Native.Nat.{ℕ}
 use mathlib.Core.Path.{_≡_}
@@ -48,6 +48,19 @@ clashBytes =
     (0x0A ∷ 0x00 ∷ 0x02 ∷ [])
     ++ ((0x11 ∷ 0xF5 ∷ 0x01 ∷ 0x00 ∷ 0x00 ∷ 0x02 ∷ 0x00 ∷ []) ++ (0x11 ∷ 0xF5 ∷ 0x01 ∷ 0x00 ∷ 0x00 ∷ 0x03 ∷ 0x00 ∷ []))
 
+-- the same with a byte after it
+abbrev pub leftOverBytes : List ℕ
+leftOverBytes = clashBytes ++ (0x00 ∷ [])
+
+-- H 10, serials 501, 502, 501 and 502, each [0,10) p 1: two entries clash, each with the one two places before it
+abbrev pub twoClashesBytes : List ℕ
+twoClashesBytes =
+    (0x0A ∷ 0x00 ∷ 0x04 ∷ [])
+    ++ ((0x11 ∷ 0xF5 ∷ 0x01 ∷ 0x00 ∷ 0x00 ∷ 0x01 ∷ 0x00 ∷ [])
+    ++ ((0x11 ∷ 0xF6 ∷ 0x01 ∷ 0x00 ∷ 0x00 ∷ 0x01 ∷ 0x00 ∷ [])
+    ++ ((0x11 ∷ 0xF5 ∷ 0x01 ∷ 0x00 ∷ 0x00 ∷ 0x01 ∷ 0x00 ∷ [])
+    ++ (0x11 ∷ 0xF6 ∷ 0x01 ∷ 0x00 ∷ 0x00 ∷ 0x01 ∷ 0x00 ∷ []))))
+
 -- H 10, serial 501 twice, in windows that only touch: [0,4) p 2 and [4,10) p 3
 abbrev pub touchingBytes : List ℕ
 touchingBytes =
@@ -72,4 +85,6 @@ pub record ReportExamples : Type 0 where
   pub overloaded : Example overloadedBytes (refused (code 9 (2 ∷ 5 ∷ 4 ∷ []))) (ascii "refused 9 from 2 to 5 work 4\n")
   pub no-place : Example noPlaceBytes (refused (code 10 (0 ∷ []))) (ascii "refused 10 entry 0\n")
   pub clash : Example clashBytes (refused (code 14 (10 ∷ []))) (ascii "refused 14 at 10\n")
+  pub left-over : Example leftOverBytes (refused (code 8 (17 ∷ []))) (ascii "refused 8 at 17\n")
+  pub two-clashes : Example twoClashesBytes (refused (code 14 (17 ∷ []))) (ascii "refused 14 at 17\n")
   pub touching : Example touchingBytes (answered touchingLines) touchingLines

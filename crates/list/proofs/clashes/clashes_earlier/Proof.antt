@@ -6,7 +6,7 @@ use mathlib.Core.Path.{_≡_, refl, _∙_}
 use Prim.Native.Nat.{_-_, _<_}
 use Rattle.base.proofs.Walk.{length-mapped}
 use Rattle.base.proofs.Searches.{Passed, passed-none, passed-next}
-use Rattle.list.proofs.ClashCases.{in-places, earlierTest, earlier-told, earlier-found, earlier-none}
+use Rattle.list.proofs.ClashCases.{in-places, earlierTest, test-told, earlier-found, earlier-none}
 use Rattle.list.proofs.clashes.clashes_earlier.Statement.{statement}
 use Rattle.list.proofs.clashes.clashes_earlier.Tie as tie
 
@@ -26,7 +26,7 @@ tested : (c : tie.After-clashes Inv-loop μ-loop)
     earlierTest (start .args .t1) (start .args .place) (c .before .before .before .loop .i) ≡ c .clashes .result
 tested c =
     let start = c .before .before .before .before .before in
-    earlier-told (start .args .t1) (start .args .place) (start .pre) _ (c .before .before .loop-test .taken) _ refl _ (c .clashes .ensures)
+    test-told (start .args .t1) (start .args .place) (start .pre) _ (c .before .before .loop-test .taken) _ refl _ (c .clashes .ensures)
 
 mul-e : tie.Need-mul-e Inv-loop μ-loop
 mul-e c = search (needs, below c)

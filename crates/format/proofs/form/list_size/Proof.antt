@@ -1,4 +1,4 @@
--- `writer::list_size` meets its contract. The loop's invariant is `SizedSoFar`: what was counted and what is left make the one form's
+-- `form::list_size` meets its contract. The loop's invariant is `SizedSoFar`: what was counted and what is left make the one form's
 -- length. The measure is what is left of n.
 -- Assumes nothing.
 use borrow.Author.Needs.{needs}
@@ -8,8 +8,8 @@ use native.Mathlib.Omega.{arith}
 use lib.ListN.{length}
 use Rattle.base.proofs.Walk.{length-mapped}
 use Rattle.format.proofs.WriteCases.{SizedSoFar, list-short, sized-start, sized-next, sized-done}
-use Rattle.format.proofs.writer.list_size.Statement.{statement}
-use Rattle.format.proofs.writer.list_size.Tie as tie
+use Rattle.format.proofs.form.list_size.Statement.{statement}
+use Rattle.format.proofs.form.list_size.Tie as tie
 
 abbrev Inv-loop : tie.InvT-loop
 Inv-loop list n size₀ i₀ size i = SizedSoFar list size i
