@@ -232,8 +232,8 @@ module _ (bs : List ℕ) where
       let R = ReadRefusal bs in
       let o = decodeOf bs in
       let D : DayList → Type 0 = λ l. Decoded bs l × (o ≡ answered l) in
-      by-step D R P o _
-      (says-refusal D (λ k. PlaceIn (length bs) k × (o ≡ refused k)) R o (λ _ p. inl p) (says-which (Decoded bs) (PlaceIn (length bs)) o decode-says))
+      let said = says-which (Decoded bs) (PlaceIn (length bs)) o decode-says in
+      by-step D R P o _ (says-refusal D (λ k. PlaceIn (length bs) k × (o ≡ refused k)) R o (λ _ p. inl p) said)
       (λ l d. by-row P R (ltb (firstClash (entriesOf l)) (length (entriesOf l))) _ _
       (λ t. inr (mapPlace bs (firstClash (entriesOf l)), refl, clash-read l (d .1) (ltb-true _ _ t)))
       (λ t. (d .0, apart (entriesOf l) (ltb-false _ _ t))))

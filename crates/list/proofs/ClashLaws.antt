@@ -1,7 +1,7 @@
 -- Row 14 of the value check, in facts.
 -- Assumes nothing.
 use mathlib.Core.Path.{_≡_, refl, ap, subst}
-use mathlib.Core.List.{[], _∷_}
+use mathlib.Core.List.{List, [], _∷_}
 use Prim.Native.Nat.{ℕ, _<_}
 use native.Mathlib.Omega.{arith}
 use borrow.Author.Tests.{lt-ltb}
@@ -11,17 +11,21 @@ use Rattle.list.specs.DayLists.{entriesOf}
 use Rattle.list.specs.Clashes.{firstClash, FirstClash}
 use Rattle.list.specs.Checks.{valuesFault, checkOf, WellFormed}
 use Rattle.list.specs.Laws.{ClashLaw}
+use Rattle.list.specs.declared.types.Entry.{Entry}
 use Rattle.list.specs.declared.types.DayList.{DayList}
 use Rattle.base.proofs.Inversion.{Says}
 use Rattle.list.proofs.ClashFacts.{first-told}
 use Rattle.list.proofs.Sound.{list-apart, check-says, values-apart}
 
 module _ (l : DayList) where
+  abbrev es : List Entry
+  es = entriesOf l
+
   -- what holds of a refusal, if it is 14
   abbrev Told : Code → Type 0
-  Told x = (k : ℕ) → x ≡ code 14 (k ∷ []) → (valuesFault l ≡ answered tt) × FirstClash (entriesOf l) k
+  Told x = (k : ℕ) → x ≡ code 14 (k ∷ []) → (valuesFault l ≡ answered tt) × FirstClash es k
 
-  clashing : (k : ℕ) → checkOf l ≡ refused (code 14 (k ∷ [])) → (valuesFault l ≡ answered tt) × FirstClash (entriesOf l) k
+  clashing : (k : ℕ) → checkOf l ≡ refused (code 14 (k ∷ [])) → (valuesFault l ≡ answered tt) × FirstClash es k
   clashing k e =
       let told : Says (λ _. WellFormed l) Told (checkOf l) =
       check-says l Told (other 2 (omega arith) 0) (other 3 (omega arith) 0) (other 6 (omega arith)) (other 7 (omega arith)) fourteen in
@@ -30,10 +34,10 @@ module _ (l : DayList) where
       other : (n : ℕ) → n < 14 → (x : ℕ) → Told (code n (x ∷ []))
       other n h x j q = let z : n ≡ 14 = ap (λ (y : Code). y .number) q in absurd (omega arith)
 
-      fourteen : valuesFault l ≡ answered tt → FirstClash (entriesOf l) (firstClash (entriesOf l)) → Told (code 14 (firstClash (entriesOf l) ∷ []))
+      fourteen : valuesFault l ≡ answered tt → FirstClash es (firstClash es) → Told (code 14 (firstClash es ∷ []))
       fourteen values f j q =
-          let same : firstClash (entriesOf l) ≡ j = ap (λ (y : Code). getD (y .carries) 0 0) q in
-          (values, subst (FirstClash (entriesOf l)) same f)
+          let same : firstClash es ≡ j = ap (λ (y : Code). getD (y .carries) 0 0) q in
+          (values, subst (FirstClash es) same f)
 
   pub clash-law : ClashLaw l
   unfolding checkOf
@@ -43,7 +47,7 @@ module _ (l : DayList) where
         accepted = list-apart l;
         clashing = clashing;
         refuses = λ k values f.
-            let q : firstClash (entriesOf l) ≡ k = first-told (entriesOf l) k f in
-            rw (values, q, lt-ltb k (length (entriesOf l)) (f .clashes .in-list)) refl;
+            let q : firstClash es ≡ k = first-told es k f in
+            rw (values, q, lt-ltb k (length es) (f .clashes .in-list)) refl;
         passes = values-apart l;
       }

@@ -1,5 +1,6 @@
--- Theory, which the crates above may cite: entries that clash, what a well-formed list is, lists that are checked alike, what a verdict tells and that number and values tell one, what the
--- machine's types say of a list, lists that are filled from their first place on, and arrays that hold a field of the entries.
+-- Theory, which the crates above may cite: entries that clash, what a well-formed list is, lists that are checked alike, what a verdict
+-- tells and that number and values tell one, what the machine's types say of a list, lists that are filled from their first place on, and
+-- arrays that hold a field of the entries.
 pub mod ClashFacts
 pub mod Sound
 pub mod ClashLaws

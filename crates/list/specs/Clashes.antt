@@ -35,7 +35,7 @@ clashRow carried es = row 14 (ltb (firstClash es) (length es)) (carried (firstCl
 abbrev pub InWindow : Entry → ℕ → Type 0
 InWindow e t = (e .r ≤ t) × (t < e .d)
 
--- the entries at places i and k, one after the other in list order, have one serial, and a minute lies in both windows
+-- the entries at places i and k, i before k in list order, have one serial, and a minute lies in both windows
 pub record Clash (es : List Entry) (i k : ℕ) : Type 0 where
   pub earlier : i < k
   pub in-list : k < length es
