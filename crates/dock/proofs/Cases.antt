@@ -14,7 +14,7 @@ use Rattle.list.specs.declared.types.Refusal.{Refusal}
 use Rattle.list.specs.declared.types.WriteAnswer.{WriteAnswer}
 use Rattle.list.specs.declared.types.WriteAnswer.the-variants.{Written, NotWritten}
 use Rattle.base.proofs.Inversion.{answered-refused, answered-same, refused-same}
-use Rattle.format.proofs.RoundTrip.{longest, longest-reached}
+use Rattle.format.proofs.LongestList.{longest, longest-reached}
 use Rattle.codes.specs.Codes.{numbersOf}
 use Rattle.codes.specs.declared.RefusalCode.{RefusalCode}
 use Rattle.report.specs.Reports.{refusalLine, reportOf, printed, printedOf}

@@ -30,7 +30,8 @@ use Rattle.list.proofs.Verdicts.{by-refused}
 use Rattle.list.proofs.Columns.{held-count}
 use Rattle.format.proofs.ReadCases.{reads-refused, read-decoded, is-decoded, read-clash, read-list}
 use Rattle.format.proofs.WriteCases.{list-written}
-use Rattle.format.proofs.RoundTrip.{written-reads-back, decoded-typed, map-place, read-well-formed, read-one-form, read-law}
+use Rattle.format.proofs.ReadLaws.{decoded-typed, map-place, read-well-formed, read-one-form, read-law}
+use Rattle.format.proofs.RoundTrip.{written-reads-back}
 
 pub reads : (bs : List ℕ) (a : ReadAnswer) → Bytes bs → ReadsAs (readOf bs) a → Reads bs a
 reads bs a b w =

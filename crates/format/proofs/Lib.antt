@@ -1,5 +1,5 @@
--- The round trips, with what they rest on: map bytes, the places of fields and those that refusals carry; and that the first 964 bytes
--- decide how an input is read. The crates above may cite RoundTrip and FirstBytes.
+-- What reading says of an input, and the round trips, with what they rest on: map bytes, the places of fields, of map bytes and those that
+-- refusals carry; the longest one form; and that the first 964 bytes decide how an input is read. The crates above may cite what is public.
 mod MapBytes
 mod Places
 mod CarriedPlaces
@@ -7,7 +7,9 @@ mod FieldTrip
 mod EntryTrip
 mod ListTrip
 mod MapPlaces
+pub mod ReadLaws
 pub mod RoundTrip
+pub mod LongestList
 pub mod FirstBytes
 -- What the code's proofs cite, case by case. The round trips cite some of it too.
 mod EntryCases

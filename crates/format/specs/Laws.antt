@@ -1,4 +1,4 @@
--- What reading says of an input, in facts: `read-law` of proofs/RoundTrip.antt, for every input.
+-- What reading says of an input, in facts: `read-law` of proofs/ReadLaws.antt, for every input.
 use Prim.Native.Nat.{ℕ, _<_, _≤_}
 use mathlib.Core.Path.{_≡_}
 use mathlib.Core.Logic.{_⊎_}

@@ -22,7 +22,7 @@ use Rattle.list.specs.declared.types.ReadAnswer.{ReadAnswer}
 use Rattle.list.specs.declared.types.WriteAnswer.{WriteAnswer}
 use Rattle.list.specs.declared.types.WriteAnswer.the-variants.{Written}
 use Rattle.list.proofs.Sound.{sound-list}
-use Rattle.format.proofs.RoundTrip.{read-well-formed}
+use Rattle.format.proofs.ReadLaws.{read-well-formed}
 use Rattle.jackson.specs.Windows.{Windows, windowsOf}
 use Rattle.jackson.specs.Intervals.{overloadOf}
 use Rattle.jackson.specs.Plans.{placesIn}

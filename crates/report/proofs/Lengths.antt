@@ -16,7 +16,7 @@ use Rattle.format.specs.Reading.{readOf}
 use Rattle.list.specs.declared.types.DayList.{DayList}
 use Rattle.base.proofs.Inversion.{Says, Anything}
 use Rattle.list.proofs.Sound.{sound-list}
-use Rattle.format.proofs.RoundTrip.{read-well-formed, read-typed}
+use Rattle.format.proofs.ReadLaws.{read-well-formed, read-typed}
 use Rattle.jackson.specs.Windows.{Windows, windowsOf, Formed}
 use Rattle.jackson.specs.Plans.{idle, placesIn, PlanBytes}
 use Rattle.jackson.specs.Intervals.{overloadOf}

@@ -16,7 +16,7 @@ use Rattle.list.specs.declared.types.Entry.{Entry}
 use Rattle.list.specs.declared.types.DayList.{DayList}
 use Rattle.list.specs.declared.types.Verdict.the-variants.{Accepted}
 use Rattle.base.proofs.Inversion.{answered-same, answered-refused}
-use Rattle.format.proofs.RoundTrip.{read-places, read-well-formed}
+use Rattle.format.proofs.ReadLaws.{read-places, read-well-formed}
 use Rattle.jackson.specs.Windows.{Windows, windowsOf, Formed}
 use Rattle.jackson.specs.Intervals.{overloadOf}
 use Rattle.jackson.specs.Plans.{idle, placesIn}
