@@ -1,5 +1,5 @@
 // The planner's calls for programs in other languages: byte slices and numbers only.
-// Promises: each call answers 0 or a refusal's number of document 01, with its values, and leaves in its buffers what
+// Promises: each call answers 0 or a refusal's number, with its values, and leaves in its buffers what
 // specs/Calls.antt says, whatever the bytes and numbers are. What it cannot check are the pointers themselves: a caller lends
 // `bytes`, `out` and `plan` with their lengths, `fields` and `narrowed` with 450 numbers each, `bounds` with 128 and `values` with 3, and
 // no two of them overlap. Uses all crates but dock.

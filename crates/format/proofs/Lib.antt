@@ -11,6 +11,7 @@ pub mod ReadLaws
 pub mod RoundTrip
 pub mod LongestList
 pub mod FirstBytes
+pub mod Examples
 -- What the code's proofs cite, case by case. The round trips cite some of it too.
 mod EntryCases
 mod ReadCases

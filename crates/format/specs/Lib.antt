@@ -6,4 +6,5 @@ pub mod Forms
 pub mod Writing
 pub mod Laws
 pub mod Calls
+pub mod Examples
 pub mod Internal

@@ -1,5 +1,4 @@
--- What row 14 of the value check says, in facts: `clash-law` of proofs/ClashLaws.antt, for every list. With the rows before it, the law
--- leaves one answer.
+-- What row 14 of the value check says, in facts: `clash-law` of proofs/ClashLaws.antt, for every list.
 use Prim.Native.Nat.{ℕ}
 use mathlib.Core.Path.{_≡_}
 use mathlib.Core.List.{[], _∷_}

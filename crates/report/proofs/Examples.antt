@@ -32,7 +32,4 @@ report-examples =
       overloaded = record { report = refl; prints = refl };
       no-place = record { report = refl; prints = refl };
       clash = record { report = refl; prints = refl };
-      left-over = record { report = refl; prints = refl };
-      two-clashes = record { report = refl; prints = refl };
-      touching = record { report = refl; prints = refl };
     }

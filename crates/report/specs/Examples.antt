@@ -1,9 +1,10 @@
--- Document 01's examples of reports, and days that have a serial twice, as one statement; `report-examples` of proofs/Examples.antt
+-- Document 01's examples of reports, and one of document 02's row 14, as one statement; `report-examples` of proofs/Examples.antt
 -- proves it.
 use Prim.Native.Nat.{ℕ}
 use mathlib.Core.Path.{_≡_}
 use mathlib.Core.List.{List, [], _∷_, _++_}
 use Rattle.base.specs.Outcomes.{code, Outcome, answered, refused}
+use Rattle.format.specs.Examples.{clashBytes}
 use Rattle.report.specs.Text.{ascii}
 use Rattle.report.specs.Reports.{reportOf, printedOf}
 
@@ -42,37 +43,6 @@ noPlaceBytes =
     ++ ((0x31 ∷ 0x0C ∷ 0x00 ∷ 0x00 ∷ 0x00 ∷ 0x03 ∷ 0x00 ∷ [])
     ++ (0x1D ∷ 0x0D ∷ 0x00 ∷ 0x00 ∷ 0x00 ∷ 0x02 ∷ 0x00 ∷ 0x04 ∷ 0x00 ∷ 0x02 ∷ 0x00 ∷ []))
 
--- H 10, serial 501 twice: [0,10) p 2 and [0,10) p 3
-abbrev pub clashBytes : List ℕ
-clashBytes =
-    (0x0A ∷ 0x00 ∷ 0x02 ∷ [])
-    ++ ((0x11 ∷ 0xF5 ∷ 0x01 ∷ 0x00 ∷ 0x00 ∷ 0x02 ∷ 0x00 ∷ []) ++ (0x11 ∷ 0xF5 ∷ 0x01 ∷ 0x00 ∷ 0x00 ∷ 0x03 ∷ 0x00 ∷ []))
-
--- the same with a byte after it
-abbrev pub leftOverBytes : List ℕ
-leftOverBytes = clashBytes ++ (0x00 ∷ [])
-
--- H 10, serials 501, 502, 501 and 502, each [0,10) p 1: two entries clash, each with the one two places before it
-abbrev pub twoClashesBytes : List ℕ
-twoClashesBytes =
-    (0x0A ∷ 0x00 ∷ 0x04 ∷ [])
-    ++ ((0x11 ∷ 0xF5 ∷ 0x01 ∷ 0x00 ∷ 0x00 ∷ 0x01 ∷ 0x00 ∷ [])
-    ++ ((0x11 ∷ 0xF6 ∷ 0x01 ∷ 0x00 ∷ 0x00 ∷ 0x01 ∷ 0x00 ∷ [])
-    ++ ((0x11 ∷ 0xF5 ∷ 0x01 ∷ 0x00 ∷ 0x00 ∷ 0x01 ∷ 0x00 ∷ [])
-    ++ (0x11 ∷ 0xF6 ∷ 0x01 ∷ 0x00 ∷ 0x00 ∷ 0x01 ∷ 0x00 ∷ []))))
-
--- H 10, serial 501 twice, in windows that only touch: [0,4) p 2 and [4,10) p 3
-abbrev pub touchingBytes : List ℕ
-touchingBytes =
-    (0x0A ∷ 0x00 ∷ 0x02 ∷ [])
-    ++ ((0x19 ∷ 0xF5 ∷ 0x01 ∷ 0x00 ∷ 0x00 ∷ 0x04 ∷ 0x00 ∷ 0x02 ∷ 0x00 ∷ [])
-    ++ (0x15 ∷ 0xF5 ∷ 0x01 ∷ 0x00 ∷ 0x00 ∷ 0x04 ∷ 0x00 ∷ 0x03 ∷ 0x00 ∷ []))
-
-abbrev pub touchingLines : List ℕ
-touchingLines =
-    ascii "day 10 entries 2 moves 0 broken 0\n"
-    ++ (ascii "0 501 - pause 0 4 2 2 2\n" ++ (ascii "1 501 - pause 4 10 3 7 7\n" ++ (ascii "0 2 0\n" ++ ascii "4 7 1\n")))
-
 -- an input's text or refusal, and what is printed for it
 pub record Example (input : List ℕ) (o : Outcome (List ℕ)) (text : List ℕ) : Type 0 where
   pub report : reportOf input ≡ o
@@ -85,6 +55,3 @@ pub record ReportExamples : Type 0 where
   pub overloaded : Example overloadedBytes (refused (code 9 (2 ∷ 5 ∷ 4 ∷ []))) (ascii "refused 9 from 2 to 5 work 4\n")
   pub no-place : Example noPlaceBytes (refused (code 10 (0 ∷ []))) (ascii "refused 10 entry 0\n")
   pub clash : Example clashBytes (refused (code 14 (10 ∷ []))) (ascii "refused 14 at 10\n")
-  pub left-over : Example leftOverBytes (refused (code 8 (17 ∷ []))) (ascii "refused 8 at 17\n")
-  pub two-clashes : Example twoClashesBytes (refused (code 14 (17 ∷ []))) (ascii "refused 14 at 17\n")
-  pub touching : Example touchingBytes (answered touchingLines) touchingLines

@@ -1,0 +1,14 @@
+-- The examples of lists that have a serial twice hold: the definitions compute.
+-- Assumes nothing.
+use mathlib.Core.Path.{refl}
+use Rattle.base.specs.Counting.{firstBelow}
+use Rattle.list.specs.Entries.{entryFault}
+use Rattle.list.specs.Clashes.{firstClash}
+use Rattle.list.specs.Checks.{headerFault}
+use Rattle.format.specs.EntryFields.{entryAt, fieldsEntry, entryOf}
+use Rattle.format.specs.Reading.{entriesFrom, bodyOf, decodeOf, mapPlace, readOf}
+use Rattle.format.specs.Examples.{ReadExamples}
+
+pub read-examples : ReadExamples
+unfolding firstBelow entryFault firstClash headerFault entryAt fieldsEntry entryOf entriesFrom bodyOf decodeOf mapPlace readOf
+read-examples = record { clash = refl; left-over = refl; two-clashes = refl; only-touch = refl }

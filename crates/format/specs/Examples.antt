@@ -1,0 +1,45 @@
+-- Days that have a serial twice, as one statement; `read-examples` of proofs/Examples.antt proves it.
+use Prim.Native.Nat.{ℕ}
+use mathlib.Core.Path.{_≡_}
+use mathlib.Core.List.{List, [], _∷_, _++_}
+use Rattle.base.specs.Outcomes.{code, answered, refused}
+use Rattle.list.specs.DayLists.{dayList}
+use Rattle.list.specs.declared.types.Seal.the-variants.{Missing}
+use Rattle.list.specs.declared.types.Kind.the-variants.{Pause}
+use Rattle.list.specs.declared.types.Entry.{Entry}
+use Rattle.format.specs.Reading.{readOf}
+
+-- the shortest entry: serial 501, the whole day, p 1
+abbrev pub entry501 : List ℕ
+entry501 = 0x11 ∷ 0xF5 ∷ 0x01 ∷ 0x00 ∷ 0x00 ∷ 0x01 ∷ 0x00 ∷ []
+
+-- the same with serial 502
+abbrev pub entry502 : List ℕ
+entry502 = 0x11 ∷ 0xF6 ∷ 0x01 ∷ 0x00 ∷ 0x00 ∷ 0x01 ∷ 0x00 ∷ []
+
+-- H 10, serial 501 twice
+abbrev pub clashBytes : List ℕ
+clashBytes = (0x0A ∷ 0x00 ∷ 0x02 ∷ []) ++ (entry501 ++ entry501)
+
+-- serials 501, 502, 501 and 502: two entries clash, each with the one two places before it
+abbrev pub twoClashesBytes : List ℕ
+twoClashesBytes = (0x0A ∷ 0x00 ∷ 0x04 ∷ []) ++ (entry501 ++ (entry502 ++ (entry501 ++ entry502)))
+
+-- serial 501 twice, in windows that only touch: [0,4) and [4,10)
+abbrev pub touchingBytes : List ℕ
+touchingBytes =
+    (0x0A ∷ 0x00 ∷ 0x02 ∷ [])
+    ++ ((0x19 ∷ 0xF5 ∷ 0x01 ∷ 0x00 ∷ 0x00 ∷ 0x04 ∷ 0x00 ∷ 0x01 ∷ 0x00 ∷ [])
+    ++ (0x15 ∷ 0xF5 ∷ 0x01 ∷ 0x00 ∷ 0x00 ∷ 0x04 ∷ 0x00 ∷ 0x01 ∷ 0x00 ∷ []))
+
+abbrev pub touching : ℕ → ℕ → Entry
+touching r d = record { serial = 501; seal = Missing; r = r; d = d; p = 1; kind = Pause }
+
+pub record ReadExamples : Type 0 where
+  pub clash : readOf clashBytes ≡ refused (code 14 (10 ∷ []))
+  -- "after 8 when reading"
+  pub left-over : readOf (clashBytes ++ (0x00 ∷ [])) ≡ refused (code 8 (17 ∷ []))
+  -- "the first in list order"
+  pub two-clashes : readOf twoClashesBytes ≡ refused (code 14 (17 ∷ []))
+  -- "Windows that only touch are fine."
+  pub only-touch : readOf touchingBytes ≡ answered (dayList (record { h = 10 }) (touching 0 4 ∷ touching 4 10 ∷ []))
