@@ -32,14 +32,14 @@ use Rattle.format.proofs.ListTrip.{TakenEntries, entries-say, every-at}
 use Rattle.format.proofs.MapPlaces.{ReadFrom, each-read, map-inside, map-form}
 
 -- what a list is that rows 1 to 8 leave: sound, the list whose one form was read, and its entries are those read
-pub record Decoded (bs : List ℕ) (l : DayList) : Type 0 where
-  pub sound : SoundList l
-  pub form : Bytes bs → bytesOf l ≡ bs
-  pub typed : Bytes bs → Typed l
-  pub long : 3 ≤ length bs
-  pub frame : l .frame ≡ frameOf bs
-  pub all : entriesFrom (frameOf bs) (countOf bs) 3 (drop 3 bs) ≡ answered (entriesOf l, length bs)
-  pub each : (i : ℕ) → i < length (entriesOf l) → ReadFrom (frameOf bs) bs 3 (entriesOf l) i
+record Decoded (bs : List ℕ) (l : DayList) : Type 0 where
+  sound : SoundList l
+  form : Bytes bs → bytesOf l ≡ bs
+  typed : Bytes bs → Typed l
+  long : 3 ≤ length bs
+  frame : l .frame ≡ frameOf bs
+  all : entriesFrom (frameOf bs) (countOf bs) 3 (drop 3 bs) ≡ answered (entriesOf l, length bs)
+  each : (i : ℕ) → i < length (entriesOf l) → ReadFrom (frameOf bs) bs 3 (entriesOf l) i
 
 module _ (bs : List ℕ) where
   abbrev f : Frame
