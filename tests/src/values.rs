@@ -46,6 +46,27 @@ pub fn accepted(check: impl Fn(&Fields)) {
     hold(&limits, &SERIALS[..1], |list, sort| check(&list.of(sort)));
 }
 
+/// Mends a list of three entries of one serial that is wrong in every row of the value check, row by row: H and n
+/// are wrong, p of the third entry is 0 and its d too late. `told` gets each list with the number and the place of the
+/// row that is then the first to hold. In the end the day has `h` minutes, and the third entry's d is `d`.
+#[track_caller]
+pub fn mended(mut fields: Fields, h: u32, d: u32, told: impl Fn(&Fields, u32, usize)) -> Fields {
+    let (second, third) = (2 + WIDTH, 2 + 2 * WIDTH);
+    let (another, yet_another) = (fields[second] ^ 1, fields[second] ^ 2);
+    for (field, right, number, carries) in [
+        (0, h, 2, 0),
+        (1, 3, 3, 0),
+        (third + 5, 1, 6, 2),
+        (third + 4, d, 7, 2),
+        (second, another, 14, 1),
+        (third, yet_another, 14, 2),
+    ] {
+        told(&fields, number, carries);
+        fields[field] = right;
+    }
+    fields
+}
+
 /// 64 entries of a minute, one after the other.
 fn one_by_one() -> [Times; MOST_ENTRIES] {
     std::array::from_fn(|place| [place as u32, place as u32 + 1, 1])

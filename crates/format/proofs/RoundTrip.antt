@@ -11,7 +11,7 @@ use lib.ListN.{length, take, drop, length-take}
 use lib.Seq.{take-append-seam, take-at}
 use Rattle.list.specs.Machine.{Bytes, Typed}
 use Rattle.base.specs.Outcomes.{Outcome, answered, refused}
-use Rattle.list.specs.DayLists.{entriesOf, blank, dayList, SameList}
+use Rattle.list.specs.DayLists.{entriesOf, dayList, SameList}
 use Rattle.list.specs.Checks.{WellFormed, checkOf}
 use Rattle.format.specs.Reading.{entriesFrom, frameOf, decodeOf, readOf}
 use Rattle.format.specs.Writing.{bytesOfEntries, bytesOf, writeOf, bufferAfter}
@@ -20,7 +20,7 @@ use Rattle.list.specs.declared.types.Verdict.the-variants.{Accepted}
 use Rattle.base.proofs.Inversion.{Says, by-row, by-step, Anything}
 use Rattle.list.proofs.Alike.{same-checked}
 use Rattle.list.proofs.ClashFacts.{apart-told}
-use Rattle.list.proofs.Sound.{header-passes, SoundList, check-says, sound-list, list-apart, well-formed}
+use Rattle.list.proofs.Sound.{header-passes, SoundList, check-says, sound-list, list-apart}
 use Rattle.format.proofs.FieldTrip.{u16-back}
 use Rattle.format.proofs.EntryTrip.{EntryFits}
 use Rattle.format.proofs.ReadCases.{decode-body, body-done}

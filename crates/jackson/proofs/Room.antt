@@ -11,7 +11,7 @@ use Rattle.base.specs.Outcomes.{code, answered, refused}
 use Rattle.base.specs.Counting.{firstBelow}
 use Rattle.base.proofs.Inversion.{answered-refused}
 use Rattle.base.proofs.Sums.{le-or-lt, same-cases}
-use Rattle.base.proofs.Searches.{First, first-below, one-first}
+use Rattle.base.proofs.Searches.{First, first-below, passed-all}
 use Rattle.jackson.specs.Windows.{Windows, roomIn, roomFault, Roomy, Formed, Inside, withWindows}
 
 -- an entry with room
@@ -53,38 +53,30 @@ lacksRoom w i = not (roomIn (w .h) (w .r i) (w .d i) (w .p i))
 
 module _ (w : Windows) where
   -- no place, up to the end, lacks room
-  pub all-room : First (w .n) (lacksRoom w) (w .n) → roomFault w ≡ answered tt
+  pub all-room : firstBelow (w .n) (lacksRoom w) ≡ w .n → roomFault w ≡ answered tt
   unfolding roomFault
-  all-room none =
-      let z : firstBelow (w .n) (lacksRoom w) ≡ w .n = one-first (w .n) (lacksRoom w) _ _ (first-below _ _) none in
-      rw (z, le-ltb (w .n) (w .n) (omega arith))
+  all-room none = rw (none, le-ltb (w .n) (w .n) (omega arith))
 
   -- the first that does is carried, by 6 if it needs no minute
-  module _ (i : ℕ) (h : i < w .n) (first : First (w .n) (lacksRoom w) i) where
-    first-is : firstBelow (w .n) (lacksRoom w) ≡ i
-    first-is = one-first (w .n) (lacksRoom w) _ _ (first-below _ _) first
-
+  module _ (i : ℕ) (h : i < w .n) (first : firstBelow (w .n) (lacksRoom w) ≡ i) where
     pub lacks-minutes : w .p i ≡ 0 → roomFault w ≡ refused (code 6 (i ∷ []))
     unfolding roomFault
-    lacks-minutes e = rw (first-is, lt-ltb i (w .n) h, eq-eqb (w .p i) 0 e) refl
+    lacks-minutes e = rw (first, lt-ltb i (w .n) h, eq-eqb (w .p i) 0 e) refl
 
     pub lacks-room : (w .p i ≡ 0 → ⊥) → roomFault w ≡ refused (code 7 (i ∷ []))
     unfolding roomFault
-    lacks-room e = rw (first-is, lt-ltb i (w .n) h, ne-eqb (w .p i) 0 e) refl
+    lacks-room e = rw (first, lt-ltb i (w .n) h, ne-eqb (w .p i) 0 e) refl
 
   -- so windows pass exactly if they have room
   pub formed-passes : Formed w → roomFault w ≡ answered tt
   formed-passes formed =
-      all-room
-      (record {
-        within = omega arith;
-        passes = λ h. absurd (omega arith);
-        none-before =
-            λ i h e.
-            let has : roomIn (w .h) (w .r i) (w .d i) (w .p i) ≡ true =
-            room-passes _ _ _ _ (record { minutes = formed .minutes i h; in-day = formed .in-day i h; room = formed .room i h }) in
-            false≢true (rw has at e);
-      })
+      all-room (passed-all (w .n) (lacksRoom w) (w .n) (record { within = omega arith; none-before = each }) (omega arith))
+    where
+      each : (i : ℕ) → i < w .n → lacksRoom w i ≡ true → ⊥
+      each i h e =
+          let has : roomIn (w .h) (w .r i) (w .d i) (w .p i) ≡ true =
+          room-passes _ _ _ _ (record { minutes = formed .minutes i h; in-day = formed .in-day i h; room = formed .room i h }) in
+          false≢true (rw has at e)
 
   pub passes-formed : w .n ≤ 255 → roomFault w ≡ answered tt → Formed w
   passes-formed few e =
@@ -103,8 +95,8 @@ module _ (w : Windows) where
           le-or-lt (w .n) (firstBelow (w .n) (lacksRoom w)) (λ l. l)
           (λ l. absurd
           (same-cases (w .p (firstBelow (w .n) (lacksRoom w))) 0
-          (λ z _. answered-refused e (lacks-minutes _ l first z))
-          (λ z _. answered-refused e (lacks-room _ l first z))))
+          (λ z _. answered-refused e (lacks-minutes _ l refl z))
+          (λ z _. answered-refused e (lacks-room _ l refl z))))
 
       each : (i : ℕ) → i < w .n → Room (w .h) (w .r i) (w .d i) (w .p i)
       each i h = go (roomIn (w .h) (w .r i) (w .d i) (w .p i)) refl

@@ -1,13 +1,13 @@
 -- Testing windows for room, place by place, as code does.
 -- Assumes nothing.
 use mathlib.Core.Path.{_≡_, sym, _∙_}
-use mathlib.Core.Bool.{Bool, true, false, false≢true}
+use mathlib.Core.Bool.{Bool, true, false}
 use mathlib.Core.List.{[], _∷_}
 use Prim.Native.Nat.{ℕ, _+_, _<_, _≤_}
 use native.Mathlib.Omega.{arith}
 use Rattle.base.specs.Outcomes.{code, answered, refused}
-use Rattle.base.proofs.Sums.{below-suc}
-use Rattle.base.proofs.Searches.{First}
+use Rattle.base.specs.Counting.{firstBelow}
+use Rattle.base.proofs.Searches.{Passed, passed-none, passed-next, passed-found, passed-all}
 use Rattle.jackson.specs.Windows.{Windows, roomIn, roomFault}
 use Rattle.jackson.proofs.Room.{room-no-minutes, lacksRoom, all-room, lacks-minutes, lacks-room}
 
@@ -15,27 +15,19 @@ use Rattle.jackson.proofs.Room.{room-no-minutes, lacksRoom, all-room, l
 pub record Roomed (w : Windows) (n i : ℕ) : Type 0 where
   pub count : n ≡ w .n
   pub held : n ≤ 64
-  pub passed : i ≤ n
-  pub none : (j : ℕ) → j < i → lacksRoom w j ≡ true → ⊥
+  pub passed : Passed (w .n) (lacksRoom w) i
 
 module _ (w : Windows) (n : ℕ) where
   pub room-start : n ≡ w .n → n ≤ 64 → Roomed w n 0
-  room-start e h = record { count = e; held = h; passed = omega arith; none = λ j l. absurd (omega arith) }
+  room-start e h = record { count = e; held = h; passed = passed-none (w .n) (lacksRoom w) }
 
   module _ (i : ℕ) (so : Roomed w n i) where
     pub room-done : n ≤ i → answered tt ≡ roomFault w
-    room-done h =
-        sym
-        (all-room w
-        (record {
-          within = omega arith;
-          passes = λ l. absurd (omega arith);
-          none-before = λ j l. so .none j (omega (arith, so .count, so .passed));
-        }))
+    room-done h = sym (all-room w (passed-all (w .n) (lacksRoom w) i (so .passed) (omega (arith, so .count))))
 
     module _ (h : i < n) where
-      lacking : roomIn (w .h) (w .r i) (w .d i) (w .p i) ≡ false → First (w .n) (lacksRoom w) i
-      lacking e = record { within = omega (arith, so .count); passes = λ _. rw e; none-before = so .none }
+      lacking : roomIn (w .h) (w .r i) (w .d i) (w .p i) ≡ false → firstBelow (w .n) (lacksRoom w) ≡ i
+      lacking e = passed-found (w .n) (lacksRoom w) i (so .passed) (rw e)
 
       place : i < w .n
       place = omega (arith, so .count)
@@ -49,10 +41,7 @@ module _ (w : Windows) (n : ℕ) where
             record {
               count = so .count;
               held = so .held;
-              passed = omega (arith, h);
-              none =
-                  λ j l.
-                  below-suc i (λ k. lacksRoom w k ≡ true → ⊥) (so .none) (λ q. false≢true (rw (sym is ∙ e) at q)) j (omega arith);
+              passed = passed-next (w .n) (lacksRoom w) i (so .passed) place (rw (sym is ∙ e));
             }
 
         pub room-stops : (w .p i ≡ 0 → ⊥) → b ≡ false → refused (code 7 (i ∷ [])) ≡ roomFault w

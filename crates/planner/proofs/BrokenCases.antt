@@ -6,15 +6,14 @@ use mathlib.Core.List.{List}
 use Prim.Native.Nat.{ℕ, zero, suc, _+_, _-_, _<_, _≤_}
 use native.Mathlib.Numerals.{add-one}
 use native.Mathlib.Omega.{arith}
-use borrow.Author.Tests.{eq-eqb, ne-eqb, eqb-true, not-true, not-false}
+use borrow.Author.Tests.{eq-eqb, ne-eqb, not-true, not-false}
 use lib.Dec.{eqb}
 use lib.ListN.{length, getD, take}
 use lib.Seq.{getD-take}
 use Rattle.base.specs.Counting.{lastBelow, sum}
 use Rattle.jackson.specs.Windows.{Windows}
 use Rattle.jackson.specs.Plans.{idle, placesIn, startOf, endOf, minutesOf}
-use Rattle.base.proofs.Sums.{le-or-lt}
-use Rattle.base.proofs.Searches.{first-below, one-first}
+use Rattle.base.proofs.Searches.{first-below, Passed, passed-none, passed-next, passed-found, passed-all}
 use Rattle.jackson.proofs.PlanFacts.{minutes-within, place-read}
 use Rattle.planner.specs.BrokenEntries.{isBroken, brokenIn}
 use Rattle.planner.specs.Internal.{HoldsPlan, oneBroken}
@@ -31,43 +30,26 @@ place-at h bytes t below room = place-read bytes t (omega arith) ∙ sym (getD-t
 -- no minute before t is place k's
 pub record Sought (h : ℕ) (bytes : List ℕ) (k t : ℕ) : Type 0 where
   pub room : h ≤ length bytes
-  pub within : t ≤ h
-  pub none-before : (i : ℕ) → i < t → placesIn (take h bytes) i ≡ k → ⊥
+  pub passed : Passed h (λ i. eqb (placesIn (take h bytes) i) k) t
 
 module _ (h : ℕ) (bytes : List ℕ) (k : ℕ) where
   pub sought-none : h ≤ length bytes → Sought h bytes k 0
-  sought-none room = record { room = room; within = omega arith; none-before = λ i l _. absurd (omega arith) }
+  sought-none room = record { room = room; passed = passed-none h _ }
 
   module _ (t : ℕ) (so : Sought h bytes k t) where
-    start-if : (t < h → placesIn (take h bytes) t ≡ k) → t ≡ startOf h (placesIn (take h bytes)) k
-    start-if here =
-        one-first h _ t _
-        (record {
-          within = so .within;
-          passes = λ l. eq-eqb _ _ (here l);
-          none-before = λ i l q. so .none-before i l (eqb-true _ _ q);
-        })
-        (first-below h _)
-
     pub sought-all : h ≤ t → t ≡ startOf h (placesIn (take h bytes)) k
-    sought-all end = start-if (λ l. absurd (omega arith))
+    sought-all end = omega (arith, passed-all h _ t (so .passed) end, end, so .passed .within)
 
     module _ (below : t < h) where
       here : getD bytes t 0 ≡ placesIn (take h bytes) t
       here = place-at h bytes t below (so .room)
 
       pub sought-found : getD bytes t 0 ≡ k → t ≡ startOf h (placesIn (take h bytes)) k
-      sought-found e = start-if (λ _. sym here ∙ e)
+      sought-found e = sym (passed-found h _ t (so .passed) (eq-eqb _ _ (sym here ∙ e)))
 
       pub sought-next : (getD bytes t 0 ≡ k → ⊥) → Sought h bytes k (t + 1)
       sought-next other =
-          record {
-            room = so .room;
-            within = omega (arith, below);
-            none-before = λ i l e. le-or-lt t i
-                (λ a. let z : i ≡ t = omega arith in other (here ∙ rw z at e))
-                (λ a. so .none-before i a e);
-          }
+          record { room = so .room; passed = passed-next h _ t (so .passed) below (ne-eqb _ _ (λ e. other (here ∙ e))) }
 
 -- no minute from t on is place k's
 pub record SoughtBack (h : ℕ) (bytes : List ℕ) (k t : ℕ) : Type 0 where

@@ -7,6 +7,7 @@ use dock_tests::day::{Day, Entry, LONGEST_DAY, MOST_ENTRIES};
 use dock_tests::flat::{self, Fields, WIDTH};
 use dock_tests::ignored::with_one_serial;
 use dock_tests::samples::{boxes, entry, value, windows};
+use dock_tests::values;
 
 /// Both calls that ask for a place.
 fn shown(place: u64) -> [Call; 2] {
@@ -92,27 +93,15 @@ fn a_place_behind_the_list_is_13() {
 #[test]
 fn the_rows_in_their_order() {
     let first = Entry { whole: true, ..entry(0, 6, 3) };
-    let mut fields = value(0, 65, &[first, entry(2, 4, 2), entry(2, 7, 0)]);
-    let (second, third) = (2 + WIDTH, 2 + 2 * WIDTH);
-    let everywhere = |fields: &Fields, number, carries| {
+    let wrong = value(0, 65, &[first, entry(2, 4, 2), entry(2, 7, 0)]);
+    let mut fields = values::mended(wrong, 6, 4, |fields, number, carries| {
         for call in [Call::Plan].into_iter().chain([0, 2, 3, 255].into_iter().flat_map(shown)) {
             for room in [0, 5, 6, 7, 2000] {
-                refused(call, fields, room, number, carries);
+                refused(call, fields, room, number.into(), carries as u64);
             }
         }
-    };
-    everywhere(&fields, 2, 0);
-    fields[0] = 6;
-    everywhere(&fields, 3, 0);
-    fields[1] = 3;
-    everywhere(&fields, 6, 2);
-    fields[third + 5] = 1;
-    everywhere(&fields, 7, 2);
-    fields[third + 4] = 4;
-    everywhere(&fields, 14, 1);
-    fields[second] = 8;
-    everywhere(&fields, 14, 2);
-    fields[third] = 7;
+    });
+    let (second, third) = (2 + WIDTH, 2 + 2 * WIDTH);
     let later_rows = |fields: &Fields, number, values| {
         for room in [0, 5, 6, 7] {
             for place in [3, 255] {

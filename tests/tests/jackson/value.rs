@@ -54,19 +54,8 @@ fn every_day_length_without_entries() {
 /// buffer, mended step by step.
 #[test]
 fn the_rows_in_their_order() {
-    let mut fields = value(0, 65, &[entry(0, 100, 60), entry(0, 100, 60), entry(0, 101, 0)]);
-    refused(&fields, 2, 0);
-    fields[0] = 100;
-    refused(&fields, 3, 0);
-    fields[1] = 3;
-    refused(&fields, 6, 2);
-    fields[2 + 2 * flat::WIDTH + 5] = 1;
-    refused(&fields, 7, 2);
-    fields[2 + 2 * flat::WIDTH + 4] = 100;
-    refused(&fields, 14, 1);
-    fields[2 + flat::WIDTH] = 8;
-    refused(&fields, 14, 2);
-    fields[2 + 2 * flat::WIDTH] = 7;
+    let wrong = value(0, 65, &[entry(0, 100, 60), entry(0, 100, 60), entry(0, 101, 0)]);
+    let mut fields = values::mended(wrong, 100, 100, refused);
     not_planned(&fields, 99, 11, 100);
     let refusal = schedule(&fields, 100).expect_err("must be overloaded");
     assert_eq!(refusal.code(), (9, [0, 100, 121]));

@@ -5,11 +5,11 @@
 use dock_tests::check::{self, accepted, not_written, refused, written};
 use dock_tests::clashes;
 use dock_tests::day::{Day, Entry, LONGEST_DAY, LONGEST_LIST, MOST_ENTRIES};
-use dock_tests::flat::{self, Fields, SIZE, WIDTH};
+use dock_tests::flat::{self, SIZE};
 use dock_tests::ignored::with_rest;
 use dock_tests::random::{self, Random};
 use dock_tests::samples::{self, entry, hex, list, shorts, value, Written, SHORT};
-use dock_tests::{abi, writer};
+use dock_tests::{abi, values, writer};
 
 /// More room than any list needs.
 const ROOM: usize = 1000;
@@ -368,26 +368,12 @@ fn the_rows_of_reading_in_their_order() {
 /// The same of a value: 2, 3, then 6 and 7 of all entries, 14, and then 12.
 #[test]
 fn the_rows_of_writing_in_their_order() {
-    let mut fields = value(0, 65, &[entry(0, 100, 1), entry(0, 100, 1), entry(0, 101, 0)]);
-    let third = 2 + 2 * WIDTH;
-    let rooms = [0, 3, 24, ROOM];
-    let told = |fields: &Fields, number, carries| {
-        rooms.iter().for_each(|&room| not_written(fields, room, number, carries));
-    };
-    told(&fields, 2, 0);
-    fields[0] = 100;
-    told(&fields, 3, 0);
-    fields[1] = 3;
-    told(&fields, 6, 2);
-    fields[third + 5] = 1;
-    told(&fields, 7, 2);
-    fields[third + 4] = 100;
-    told(&fields, 14, 1);
-    fields[2] = 8;
-    told(&fields, 14, 2);
-    fields[third] = 7;
-    not_written(&fields, 23, 12, 24);
-    assert_eq!(written(&fields, 24).len(), 24);
+    let wrong = value(0, 65, &[entry(0, 100, 1), entry(0, 100, 1), entry(0, 101, 0)]);
+    let right = values::mended(wrong, 100, 100, |fields, number, carries| {
+        [0, 3, 24, ROOM].iter().for_each(|&room| not_written(fields, room, number, carries));
+    });
+    not_written(&right, 23, 12, 24);
+    assert_eq!(written(&right, 24).len(), 24);
 }
 
 /// Only the first n entries count: a box may stand again behind the list, and the list is written as it is.

@@ -22,20 +22,9 @@ fn values_at_the_limits_are_accepted_and_have_nothing_to_move() {
 #[test]
 fn the_rows_in_their_order() {
     let first = Entry { whole: true, ..entry(0, 6, 3) };
-    let mut fields = value(0, 65, &[first, entry(2, 4, 2), entry(2, 7, 0)]);
+    let mut fields =
+        values::mended(value(0, 65, &[first, entry(2, 4, 2), entry(2, 7, 0)]), 6, 4, not_settled);
     let (second, third) = (2 + flat::WIDTH, 2 + 2 * flat::WIDTH);
-    not_settled(&fields, 2, 0);
-    fields[0] = 6;
-    not_settled(&fields, 3, 0);
-    fields[1] = 3;
-    not_settled(&fields, 6, 2);
-    fields[third + 5] = 1;
-    not_settled(&fields, 7, 2);
-    fields[third + 4] = 4;
-    not_settled(&fields, 14, 1);
-    fields[second] = 8;
-    not_settled(&fields, 14, 2);
-    fields[third] = 7;
     let refusal = settle(&fields).expect_err("must be overloaded");
     assert_eq!(refusal.code(), (9, [2, 4, 3]));
     fields[third + 3..third + 5].copy_from_slice(&[0, 1]);
