@@ -1,7 +1,7 @@
 -- What an outcome says of the steps that led to it: one fact for the answer and one for the refusal go from step to step.
 -- Assumes nothing.
 use mathlib.Core.Path.{_≡_, refl}
-use mathlib.Core.Bool.{Bool, true, false, cond, _||_, true≢false}
+use mathlib.Core.Bool.{Bool, true, false, cond, _&&_, _||_, true≢false, false≢true}
 use Prim.Native.Nat.{ℕ}
 use native.Mathlib.Omega.{arith}
 use Rattle.base.specs.Outcomes.{Code, Outcome, answered, refused, andThen}
@@ -53,7 +53,11 @@ says-refusal P R Q (refused k) f p = f k p
 abbrev pub Anything : Code → Type 0
 Anything k = Unit {0}
 
--- an "or" that does not hold
+-- an "and" that holds, and an "or" that does not
+pub both : (a b : Bool) → a && b ≡ true → (a ≡ true) × (b ≡ true)
+both true b e = (refl, e)
+both false b e = absurd (false≢true e)
+
 pub neither : (a b : Bool) → (a || b) ≡ false → (a ≡ false) × (b ≡ false)
 neither true b e = absurd (true≢false e)
 neither false b e = (refl, e)

@@ -1,7 +1,7 @@
 -- Entries that clash: what the search of row 14 tells, as facts.
 -- Assumes nothing.
-use mathlib.Core.Path.{_≡_, refl}
-use mathlib.Core.Bool.{Bool, true, false, _&&_, false≢true}
+use mathlib.Core.Path.{_≡_}
+use mathlib.Core.Bool.{Bool, true}
 use mathlib.Core.List.{List}
 use Prim.Native.Nat.{ℕ, _<_, _≤_, min, max}
 use native.Mathlib.Omega.{arith}
@@ -10,15 +10,11 @@ use lib.Dec.{eqb}
 use lib.ListN.{length, getD}
 use Rattle.base.specs.Counting.{firstBelow}
 use Rattle.base.proofs.Sums.{le-or-lt}
+use Rattle.base.proofs.Inversion.{both}
 use Rattle.base.proofs.Searches.{First, first-below, one-first}
 use Rattle.list.specs.DayLists.{blank}
 use Rattle.list.specs.Clashes.{clash, clashesEarlier, firstClash, Clash, Apart, FirstClash}
 use Rattle.list.specs.declared.types.Entry.{Entry}
-
--- two tests that both pass
-both : (a b : Bool) → a && b ≡ true → (a ≡ true) × (b ≡ true)
-both true b e = (refl, e)
-both false b e = absurd (false≢true e)
 
 module _ (es : List Entry) where
   abbrev at : ℕ → Entry

@@ -15,7 +15,8 @@ use Rattle.report.specs.Runs.{beginsRun, runEnd, Run}
 use Rattle.report.specs.Printed.{LineFields, numberIn, hasMinute, placeBy}
 use Rattle.report.specs.Laws.{SaysRun, SaysRuns}
 use Rattle.report.proofs.DecimalFacts.{decimal-is}
-use Rattle.report.proofs.RunFacts.{both, begins-so, runs-are}
+use Rattle.base.proofs.Inversion.{both}
+use Rattle.report.proofs.RunFacts.{begins-so, runs-are}
 use Rattle.report.proofs.Fields.{Words, decimal-word, kept, HasLine, kept-at, kept-has, kept-order}
 
 -- the fields of a run's line

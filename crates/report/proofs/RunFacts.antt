@@ -1,7 +1,7 @@
 -- The runs found are the maximal runs of one entry.
 -- Assumes nothing.
-use mathlib.Core.Path.{_≡_, refl, sym, ap, _∙_}
-use mathlib.Core.Bool.{Bool, true, false, not, _&&_, false≢true}
+use mathlib.Core.Path.{_≡_, sym, ap, _∙_}
+use mathlib.Core.Bool.{true, false, not}
 use Prim.Native.Nat.{ℕ, _+_, _-_, _<_, _≤_}
 use native.Mathlib.Omega.{arith}
 use borrow.Author.Tests.{eqb-false, eq-eqb, ne-eqb, not-true}
@@ -9,6 +9,7 @@ use lib.Dec.{eqb}
 use Rattle.base.specs.Counting.{firstBelow}
 use Rattle.jackson.specs.Plans.{idle}
 use Rattle.base.proofs.Sums.{le-or-lt, same-cases}
+use Rattle.base.proofs.Inversion.{both}
 use Rattle.base.proofs.Searches.{First, first-below}
 use Rattle.report.specs.Runs.{beginsRun, runEnd, Run, RunsAre}
 
@@ -19,10 +20,6 @@ differ a b e = eqb-false a b (not-true _ e)
 
 differs : (a b : ℕ) → (a ≡ b → ⊥) → not (eqb a b) ≡ true
 differs a b h = ap not (ne-eqb a b h)
-
-pub both : (a b : Bool) → a && b ≡ true → (a ≡ true) × (b ≡ true)
-both true b e = (refl, e)
-both false b e = absurd (false≢true e)
 
 module _ (m : ℕ → ℕ) (t : ℕ) where
   -- a run begins at minute t: an entry has it
