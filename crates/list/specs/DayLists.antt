@@ -53,12 +53,12 @@ pub record SameList (a b : DayList) : Type 0 where
   pub n : a .n ≡ b .n
   pub entries : entriesOf a ≡ entriesOf b
 
--- an entry without its seal
-abbrev pub unsealed : Entry → Entry
-unsealed e = record { serial = e .serial; seal = Missing; r = e .r; d = e .d; p = e .p; kind = e .kind }
+-- what the value check reads of an entry: not its seal and not its kind
+abbrev pub checkedFields : Entry → Entry
+checkedFields e = record { serial = e .serial; seal = Missing; r = e .r; d = e .d; p = e .p; kind = Pause }
 
--- two lists that differ in seals alone
-pub record SameUnsealed (a b : DayList) : Type 0 where
+-- two lists with the same H and n, and of each entry the same serial, r, d and p: seals and kinds are not compared
+pub record SameSerials (a b : DayList) : Type 0 where
   pub frame : a .frame ≡ b .frame
   pub n : a .n ≡ b .n
-  pub entries : map unsealed (entriesOf a) ≡ map unsealed (entriesOf b)
+  pub entries : map checkedFields (entriesOf a) ≡ map checkedFields (entriesOf b)

@@ -8,28 +8,20 @@ use native.Mathlib.Omega.{arith}
 use lib.ListN.{length, getD, List·getD-map}
 use lib.Seq.{take-append-seam}
 use Rattle.base.specs.Outcomes.{Outcome, answered, andThen}
-use Rattle.list.specs.DayLists.{entriesOf, blank, dayList, SameList, unsealed, SameUnsealed, isWhole, wholeIn}
+use Rattle.list.specs.DayLists.{entriesOf, blank, dayList, SameList, isWhole, wholeIn}
 use Rattle.list.specs.Checks.{checkOf}
 use Rattle.list.specs.declared.types.Entry.{Entry}
 use Rattle.list.specs.declared.types.DayList.{DayList}
-use Rattle.list.proofs.Alike.{same-unsealed, same-checked}
+use Rattle.list.proofs.Alike.{same-checked}
 use Rattle.jackson.specs.Windows.{Windows, plain, SameWindows}
 use Rattle.jackson.specs.Intervals.{overloadOf}
 use Rattle.jackson.proofs.Alike.{alike-windows}
 use Rattle.narrow.specs.Rounds.{Narrowed, unmoved, round, narrowing}
 use Rattle.narrow.specs.Calls.{bare, SameTimes, entryWith, entriesWith, listWith, settleOf, roundOf, listed}
 
--- lists that differ in seals alone have the same numbers and kinds, and so have lists that are equal
-pub unsealed-times : {a b : DayList} → SameUnsealed a b → SameTimes a b
-unsealed-times {a} {b} s =
-    record {
-      frame = s .frame;
-      n = s .n;
-      entries = sym (map-map bare unsealed (entriesOf a)) ∙ ap (map bare) (s .entries) ∙ map-map bare unsealed (entriesOf b);
-    }
-
+-- lists that are equal have the same numbers and kinds
 pub same-times : {a b : DayList} → SameList a b → SameTimes a b
-same-times s = unsealed-times (same-unsealed s)
+same-times s = record { frame = s .frame; n = s .n; entries = ap (map bare) (s .entries) }
 
 -- lists that differ in serials and seals alone have the same numbers, so that jackson's Alike speaks of them
 pub times-windows : {a b : DayList} → SameTimes a b → SameWindows a b
