@@ -8,11 +8,10 @@ use native.Mathlib.Nat.{le-antisymm}
 use native.Mathlib.Decide.{decLt, ℕ-discrete}
 use borrow.Author.Tests.{leb-true, ltb-true, ltb-false, le-leb, le-ltb, lt-ltb, not-true}
 use lib.Dec.{leb, ltb}
-use Rattle.base.specs.Counting.{smaller}
 use Rattle.jackson.specs.Plans.{idle}
-use Rattle.jackson.specs.Minutes.{State, isReady, earliestDeadline, goesOn, chosen}
-use Rattle.jackson.specs.Rules.{Ready, Takes}
-use Rattle.base.proofs.Scans.{Best, smaller-ranks, best-cases, best-some, best-smallest}
+use Rattle.jackson.specs.Rules.{Ready}
+use Rattle.jackson.specs.Minutes.{State, isReady, comesFirst, earliestDeadline, goesOn, chosen, Tied, Takes}
+use Rattle.base.proofs.Scans.{Ranks, Best, smaller-then-ranks, of-smaller-then, not-smaller-then, best-cases, best-some}
 
 module _ (s : State) where
   -- the algorithm's test of a place, and the rule's words for it
@@ -34,19 +33,23 @@ module _ (s : State) where
   to-goes-on : Ready (s .windows) (s .t) (s .last) → s .windows .d (s .last) ≤ s .windows .d (earliestDeadline s) → goesOn s ≡ true
   to-goes-on h l = simp (lt-ltb _ _ (h .place), le-leb _ _ (h .released), lt-ltb _ _ (h .unfinished), le-ltb _ _ l)
 
+  pub comes-first-ranks : Ranks (comesFirst s)
+  comes-first-ranks = smaller-then-ranks (s .windows .d) (s .windows .p)
+
   module _ (few : s .windows .n ≤ 255) where
     -- the scan finds a ready entry's place, if there is one
-    scan-some : (i : ℕ) → Ready (s .windows) (s .t) i → Best (s .windows .n) (isReady s) (smaller (s .windows .d)) (earliestDeadline s)
-    scan-some i h =
-        best-some idle (isReady s) (smaller (s .windows .d)) (smaller-ranks (s .windows .d)) (s .windows .n) few i (h .place) (to-test i h)
+    scan-some : (i : ℕ) → Ready (s .windows) (s .t) i → Best (s .windows .n) (isReady s) (comesFirst s) (earliestDeadline s)
+    scan-some i h = best-some idle (isReady s) (comesFirst s) comes-first-ranks (s .windows .n) few i (h .place) (to-test i h)
 
-    least-found : (i : ℕ) → Ready (s .windows) (s .t) i → s .windows .d (earliestDeadline s) ≤ s .windows .d i
-    least-found i h =
-        best-smallest (s .windows .n) (isReady s) (s .windows .d) (earliestDeadline s) (scan-some i h) i (h .place) (to-test i h)
+    module _ (i : ℕ) (h : Ready (s .windows) (s .t) i) where
+      unbeaten : (s .windows .d (earliestDeadline s) ≤ s .windows .d i)
+          × (s .windows .d i ≡ s .windows .d (earliestDeadline s) → s .windows .p (earliestDeadline s) ≤ s .windows .p i)
+      unbeaten = not-smaller-then (s .windows .d) (s .windows .p) i _ (scan-some i h .unbeaten i (h .place) (to-test i h))
 
-    -- ready places below the one found have a larger d
-    larger-below : (i : ℕ) → i < earliestDeadline s → Ready (s .windows) (s .t) i → s .windows .d (earliestDeadline s) < s .windows .d i
-    larger-below i l h = ltb-true _ _ (scan-some i h .lowest i l (to-test i h))
+      -- below the one found, ready places that share its d have more minutes left
+      more-below : i < earliestDeadline s → s .windows .d i ≡ s .windows .d (earliestDeadline s)
+          → s .windows .p (earliestDeadline s) < s .windows .p i
+      more-below l e = of-smaller-then (s .windows .d) (s .windows .p) _ i (scan-some i h .lowest i l (to-test i h)) .1 (sym e)
 
     -- the entry that had the minute before
     takes-last : goesOn s ≡ true → Takes s (s .last)
@@ -56,19 +59,19 @@ module _ (s : State) where
           deadline =
               record {
                 taken = λ _. z .0;
-                least = λ i _ h. omega (arith, least-found i h);
+                least = λ i _ h. omega (arith, unbeaten i h .0);
                 none = λ i h _. omega arith;
               };
           goes-on = λ _ _. refl;
-          lowest = λ i other _ _ _. absurd (other refl);
+          fewest = λ i _ alone _. absurd (alone (record { ready = z .0; deadline = refl }));
+          lowest = λ i _ alone _ _. absurd (alone (record { ready = z .0; deadline = refl }));
           idles = λ h. absurd (omega arith);
         }
 
-    -- or else the lowest of the ready places with the smallest d
+    -- or else the one that the scan finds
     takes-earliest-deadline : goesOn s ≡ false → Takes s (earliestDeadline s)
     takes-earliest-deadline e =
-        let d = s .windows .d in
-        best-cases idle (isReady s) (smaller d) (smaller-ranks d) (s .windows .n) few (Takes s (earliestDeadline s))
+        best-cases idle (isReady s) (comesFirst s) comes-first-ranks (s .windows .n) few (Takes s (earliestDeadline s))
         (λ q empty.
         record {
           deadline =
@@ -78,7 +81,8 @@ module _ (s : State) where
                 none = λ i _ h. empty i (h .place) (to-test i h);
               };
           goes-on = λ h _. absurd (empty (s .last) (h .place) (to-test (s .last) h));
-          lowest = λ i _ h _ _. absurd (omega arith);
+          fewest = λ i h _ _. absurd (omega arith);
+          lowest = λ i h _ _ _. absurd (omega arith);
           idles = λ _. q;
         })
         (λ b.
@@ -87,11 +91,15 @@ module _ (s : State) where
           deadline =
               record {
                 taken = λ _. first;
-                least = λ i _ h. least-found i h;
+                least = λ i _ h. unbeaten i h .0;
                 none = λ i h _. omega (arith, b .below);
               };
           goes-on = λ h alone. absurd (true≢false (sym (to-goes-on h (omega (arith, alone (earliestDeadline s) first))) ∙ e));
-          lowest = λ i _ _ h q. let above : i < earliestDeadline s → ⊥ = λ l. omega (arith, larger-below i l h) in omega arith;
+          fewest = λ i _ _ tied. unbeaten i (tied .ready) .1 (tied .deadline);
+          lowest =
+              λ i _ _ tied q.
+              let above : i < earliestDeadline s → ⊥ = λ l. omega (arith, more-below i (tied .ready) l (tied .deadline)) in
+              omega arith;
           idles = λ h. absurd (omega (arith, b .below));
         })
 
@@ -104,6 +112,10 @@ module _ (s : State) where
         go true e = takes-last e
         go false e = takes-earliest-deadline e
 
+-- of the entries that share the smallest d, one that had the minute before is taken
+last-taken : (s : State) (k : ℕ) → Takes s k → k < s .windows .n → Tied s k (s .last) → k ≡ s .last
+last-taken s k a h tied = a .goes-on (tied .ready) (λ i r less. omega (arith, a .deadline .least i h r, tied .deadline))
+
 -- the rule leaves one choice: of two, neither is above the other
 not-above : (s : State) (j k : ℕ) → Takes s j → Takes s k → j ≤ k
 not-above s j k a b = go (decLt j (s .windows .n)) (decLt k (s .windows .n)) (ℕ-discrete j (s .last))
@@ -115,7 +127,12 @@ not-above s j k a b = go (decLt j (s .windows .n)) (decLt k (s .windows .n)) (�
     go (yes h) (yes l) (no q) =
         let x = a .deadline .taken h in
         let y = b .deadline .taken l in
-        a .lowest k q h y (omega (arith, a .deadline .least k h y, b .deadline .least j l x))
+        let e : s .windows .d k ≡ s .windows .d j = omega (arith, a .deadline .least k h y, b .deadline .least j l x) in
+        let alone : Tied s j (s .last) → ⊥ = λ tied. q (last-taken s j a h tied) in
+        let fewer = b .fewest j l (λ tied. alone (record { ready = tied .ready; deadline = tied .deadline ∙ e }))
+            (record { ready = x; deadline = sym e }) in
+        let tied : Tied s j k = record { ready = y; deadline = e } in
+        a .lowest k h alone tied (omega (arith, a .fewest k h alone tied, fewer))
     go (yes h) (no l) q = omega arith
     go (no h) (yes l) q = absurd (a .deadline .none k (omega arith) (b .deadline .taken l))
     go (no h) (no l) q = omega (arith, a .idles (omega arith), b .idles (omega arith))

@@ -4,15 +4,26 @@ use mathlib.Core.Path.{_≡_, refl}
 use Prim.Native.Nat.{ℕ, _≤_}
 use native.Mathlib.Omega.{arith}
 use Rattle.base.specs.Outcomes.{Code, Outcome, answered, refused}
-use Rattle.jackson.specs.Windows.{Windows, Roomy}
-use Rattle.jackson.specs.Plans.{PlanBytes, placesIn, Plannable}
-use Rattle.jackson.specs.Intervals.{NoOverload, overloadOf}
-use Rattle.jackson.specs.Laws.{PlanLaw, ScheduleLaw}
+use Rattle.jackson.specs.Windows.{Windows, restFrom, Roomy}
+use Rattle.jackson.specs.Plans.{Plan, PlanBytes, placesIn, Plannable}
+use Rattle.jackson.specs.Intervals.{Fits, NoOverload, overloadOf}
+use Rattle.jackson.specs.Rules.{Follows}
 use Rattle.jackson.specs.Minutes.{schedule}
+use Rattle.jackson.specs.Laws.{PlanLaw, RuleLaw, ScheduleLaw}
 use Rattle.jackson.proofs.PlanWork.{plan-fits}
+use Rattle.jackson.proofs.RunningDays.{rest-of-day, run-plan}
 use Rattle.jackson.proofs.Endpoints.{fits-none, none-fits}
 use Rattle.jackson.proofs.ShownInterval.{accepted-none, none-accepted, refused-shown}
 use Rattle.jackson.proofs.Schedules.{schedule-bytes, schedule-takes}
+
+-- a plan leaves no interval with more work than minutes, so every rule of earliest deadline makes one
+pub rule-law : (w : Windows) → Roomy w → RuleLaw w
+rule-law w roomy = record { plan = λ m left run. (made m left run, λ plan. (m, plan)) }
+  where
+    made : (m : ℕ → ℕ) (left : ℕ → ℕ → ℕ) → Follows w 0 m left → Plannable w → Plan w m
+    made m left run planned =
+        let fits : Fits (restFrom 0 w) = rw (rest-of-day w) (plan-fits w (planned .0) (planned .1)) in
+        rw (rest-of-day w) at (run-plan w 0 m left run (omega arith) (roomy .in-day) fits)
 
 module _ (w : Windows) (roomy : Roomy w) (few : w .n ≤ 255) where
   -- the steps from a plan to no overload, and from that to the schedule

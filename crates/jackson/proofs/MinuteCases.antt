@@ -1,31 +1,40 @@
 -- Jackson's minute in each case that the code meets.
 -- Assumes nothing.
 use mathlib.Core.Path.{_≡_, refl, sym, _∙_, ap, fun-ext}
-use mathlib.Core.Bool.{Bool, true, false, not, _&&_}
+use mathlib.Core.Bool.{Bool, true, false, not, _&&_, _||_, or-false}
 use mathlib.Core.List.{List}
 use Prim.Native.Nat.{ℕ, _+_, _-_, _<_, _≤_, min}
 use native.Mathlib.Omega.{arith}
-use borrow.Author.Tests.{le-leb, lt-leb, lt-ltb, le-ltb, not-true, not-false}
-use lib.Dec.{leb, ltb}
+use borrow.Author.Tests.{le-leb, lt-leb, lt-ltb, le-ltb, eq-eqb, ne-eqb, not-true, not-false}
+use lib.Dec.{eqb, leb, ltb}
 use lib.ListN.{length, getD, set, List·getD-eq-default}
 use lib.Seq.{set-out, getD-set-same, getD-set-other}
-use Rattle.base.specs.Counting.{same, smaller}
+use Rattle.base.specs.Counting.{same}
 use Rattle.jackson.specs.Windows.{withLeft, windowsIn}
 use Rattle.jackson.specs.Plans.{idle}
-use Rattle.jackson.specs.Minutes.{State, isReady, earliestDeadline, chosen}
+use Rattle.jackson.specs.Minutes.{State, isReady, comesFirst, earliestDeadline, chosen}
 use Rattle.jackson.specs.Internal.{stateAt, betterReady, IsAfter}
 use Rattle.jackson.specs.declared.types.WindowSet.{WindowSet}
 use Rattle.jackson.specs.declared.types.Day.{Day}
 use Rattle.base.proofs.Sums.{le-or-lt, same-cases}
-use Rattle.base.proofs.Scans.{smaller-ranks, best-some}
+use Rattle.base.proofs.Scans.{best-some}
+use Rattle.jackson.proofs.Choices.{comes-first-ranks}
 use Rattle.jackson.proofs.ScanCases.{unfit, first, wins, stays}
 
+-- the test of an entry, and of two
 module _ (t r left : ℕ) where
   pub released : r ≤ t → ltb 0 left ≡ leb r t && ltb 0 left
   released h = rw (le-leb r t h) refl
 
   pub unreleased : t < r → false ≡ leb r t && ltb 0 left
   unreleased h = rw (lt-leb r t h) refl
+
+module _ (di dk pi pk : ℕ) where
+  pub equal-deadlines : di ≡ dk → ltb pi pk ≡ ltb di dk || (eqb di dk && ltb pi pk)
+  equal-deadlines h = rw (eq-eqb di dk h, le-ltb di dk (omega arith)) refl
+
+  pub other-deadlines : (di ≡ dk → ⊥) → ltb di dk ≡ ltb di dk || (eqb di dk && ltb pi pk)
+  other-deadlines h = rw (ne-eqb di dk h) (sym (or-false _))
 
 -- the better of place i and the best so far: b says whether i is ready
 module _ (i k t : ℕ) (r d left : List ℕ) (b : Bool) (says : b ≡ leb (getD r i 0) t && ltb 0 (getD left i 0)) where
@@ -35,20 +44,22 @@ module _ (i k t : ℕ) (r d left : List ℕ) (b : Bool) (says : b ≡ leb (getD 
   abbrev passes : ℕ → Bool
   passes = isReady held
 
-  abbrev sooner : ℕ → ℕ → Bool
-  sooner = smaller (held .windows .d)
+  abbrev order : ℕ → ℕ → Bool
+  order = comesFirst held
 
   pub not-ready : not b ≡ true → k ≡ betterReady held i k
-  not-ready e = unfit idle passes sooner i k (sym says ∙ not-true b e)
+  not-ready e = unfit idle passes order i k (sym says ∙ not-true b e)
 
   pub first-ready : not b ≡ false → k ≡ 255 → i ≡ betterReady held i k
-  first-ready e z = first idle passes sooner i k (sym says ∙ not-false b e) z
+  first-ready e z = first idle passes order i k (sym says ∙ not-false b e) z
 
-  pub smaller-deadline : not b ≡ false → (k ≡ 255 → ⊥) → getD d i 0 < getD d k 0 → i ≡ betterReady held i k
-  smaller-deadline e z h = wins idle passes sooner i k (sym says ∙ not-false b e) z (lt-ltb (getD d i 0) (getD d k 0) h)
+  -- c says whether i comes before k
+  module _ (c : Bool) (compares : c ≡ order i k) (z : k ≡ 255 → ⊥) where
+    pub ready-before : not b ≡ false → c ≡ true → i ≡ betterReady held i k
+    ready-before e h = wins idle passes order i k (sym says ∙ not-false b e) z (sym compares ∙ h)
 
-  pub no-smaller : (k ≡ 255 → ⊥) → getD d k 0 ≤ getD d i 0 → k ≡ betterReady held i k
-  no-smaller z h = stays idle passes sooner i k z (le-ltb (getD d i 0) (getD d k 0) h)
+    pub ready-after : c ≡ false → k ≡ betterReady held i k
+    ready-after h = stays idle passes order i k z (sym compares ∙ h)
 
 -- the choice: k is the ready place with the smallest d of the n that the arrays hold, b says whether the entry that had the minute before
 -- is ready
@@ -69,9 +80,8 @@ module _ (s : WindowSet) (n : ℕ) (holds : n ≡ min (s .n) 64) (t last k : ℕ
     -- a place was found, since the entry that had the minute before is ready
     pub found-place : n ≤ 64 → not b ≡ false → k < n
     found-place few e =
-        let ranks = smaller-ranks (now .windows .d) in
         let passes = sym says ∙ not-false b e in
-        let found = best-some idle (isReady now) (smaller (now .windows .d)) ranks n (omega (arith, few)) last h passes in
+        let found = best-some idle (isReady now) (comesFirst now) (comes-first-ranks now) n (omega (arith, few)) last h passes in
         rw (← first) at (found .below)
 
     pub interrupted : not b ≡ false → getD (s .d) k 0 < getD (s .d) last 0 → k ≡ chosen now

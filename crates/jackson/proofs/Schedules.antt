@@ -11,8 +11,8 @@ use lib.Dec.{ltb}
 use Rattle.base.specs.Counting.{same, listOf}
 use Rattle.jackson.specs.Windows.{Windows, withLeft, restFrom}
 use Rattle.jackson.specs.Plans.{Plan, PlanBytes, idle, placesIn}
-use Rattle.jackson.specs.Minutes.{State, dayStart, chosen, after, minuteOf, later, placeAt, schedule}
-use Rattle.jackson.specs.Rules.{EarliestDeadlineFirst, Takes, Follows}
+use Rattle.jackson.specs.Rules.{EarliestDeadlineFirst, Follows}
+use Rattle.jackson.specs.Minutes.{State, dayStart, chosen, Takes, after, minuteOf, later, placeAt, schedule}
 use Rattle.jackson.specs.Intervals.{Fits}
 use Rattle.base.proofs.Sums.{le-or-lt}
 use Rattle.base.proofs.Listed.{list-length, list-at}

@@ -1,13 +1,14 @@
--- The law of plans, which names no schedule, and that of Jackson's schedule. The crates above know this crate by them.
+-- The law of plans, which names no schedule, that of rules of earliest deadline, and that of Jackson's schedule. The crates above know
+-- this crate by them.
 use Prim.Native.Nat.{ℕ, _<_}
 use mathlib.Core.Path.{_≡_}
 use mathlib.Core.Logic.{_↔_}
 use Rattle.base.specs.Outcomes.{Code, answered, refused}
 use Rattle.jackson.specs.Windows.{Windows}
-use Rattle.jackson.specs.Plans.{Plannable, PlanBytes}
+use Rattle.jackson.specs.Plans.{Plan, Plannable, PlanBytes}
 use Rattle.jackson.specs.Intervals.{Fits, NoOverload, ShowsOverload, overloadOf}
-use Rattle.jackson.specs.Minutes.{dayStart, later, placeAt, schedule}
-use Rattle.jackson.specs.Rules.{Takes}
+use Rattle.jackson.specs.Rules.{Follows}
+use Rattle.jackson.specs.Minutes.{Takes, dayStart, later, placeAt, schedule}
 
 -- the law of at most 255 windows that have room (`Roomy`); its last field holds of all windows
 pub record PlanLaw (w : Windows) : Type 0 where
@@ -21,6 +22,11 @@ pub record PlanLaw (w : Windows) : Type 0 where
   pub turned-back : (Plannable w → ⊥) ↔ (k : Code) × (overloadOf w ≡ refused k)
   -- and that refusal is row 9 with the interval shown and its work
   pub shown : (k : Code) → overloadOf w ≡ refused k → ShowsOverload w k
+
+-- the law of rules, for windows that have room: a rule of earliest deadline, whatever it does with ties, followed from the day's first
+-- minute on, makes a plan exactly if there is one
+pub record RuleLaw (w : Windows) : Type 0 where
+  pub plan : (m : ℕ → ℕ) (left : ℕ → ℕ → ℕ) → Follows w 0 m left → Plannable w ↔ Plan w m
 
 -- the law of Jackson's preemptive schedule, for at most 255 windows that have room: it is a plan exactly if there is one, and each of
 -- its minutes has the place that the rule takes

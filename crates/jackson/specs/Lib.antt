@@ -2,8 +2,8 @@ pub mod Windows
 pub mod Plans
 pub mod Mirrors
 pub mod Intervals
-pub mod Minutes
 pub mod Rules
+pub mod Minutes
 pub mod Laws
 pub mod Calls
 pub mod Internal

@@ -1,11 +1,13 @@
--- Jackson's minute and Jackson's preemptive schedule.
-use Prim.Native.Nat.{ℕ, zero, suc, _+_, _-_}
+-- Jackson's minute, as an algorithm (`chosen`) and as facts (`Takes`), and Jackson's preemptive schedule.
+use Prim.Native.Nat.{ℕ, zero, suc, _+_, _-_, _<_, _≤_}
+use mathlib.Core.Path.{_≡_}
 use mathlib.Core.Bool.{Bool, cond, not, _&&_}
 use mathlib.Core.List.{List}
 use lib.Dec.{leb, ltb}
-use Rattle.base.specs.Counting.{same, best, smaller, listOf}
+use Rattle.base.specs.Counting.{same, best, smallerThen, listOf}
 use Rattle.jackson.specs.Windows.{Windows, withLeft, windowsIn}
 use Rattle.jackson.specs.Plans.{idle}
+use Rattle.jackson.specs.Rules.{Ready, EarliestDeadlineFirst}
 use Rattle.jackson.specs.declared.types.Day.{Day}
 
 -- "the day's state": its minute t, the entry that had the minute before (idle for none), and the windows, where p i is the minutes that
@@ -28,9 +30,13 @@ module _ (s : State) where
   abbrev pub isReady : ℕ → Bool
   isReady i = leb (s .windows .r i) (s .t) && ltb 0 (s .windows .p i)
 
-  -- "among entries with r reached and minutes left, take the smallest d .. the lowest place among equals"; idle if there is none
+  -- "take the smallest d", and of several that share it "the one with the fewest minutes left" (document 02): i comes before k
+  abbrev pub comesFirst : ℕ → ℕ → Bool
+  comesFirst = smallerThen (s .windows .d) (s .windows .p)
+
+  -- the ready place that comes before the others, "then the lowest place"; idle if there is none
   abbrev pub earliestDeadline : ℕ
-  earliestDeadline = best idle (s .windows .n) isReady (smaller (s .windows .d))
+  earliestDeadline = best idle (s .windows .n) isReady comesFirst
 
   -- "The entry that had the minute before, if it has minutes left, goes on unless another d is strictly smaller." Its r was reached then;
   -- in other values of a day it may not be, so it is tested here
@@ -40,6 +46,29 @@ module _ (s : State) where
   -- the place that has the minute
   unfoldable pub chosen : ℕ
   chosen = cond goesOn (s .last) earliestDeadline
+
+  -- The same as facts about the place k that has the minute. They leave one place, and `chosen` is that one (`takes-one` and
+  -- `chosen-takes` of proofs/Choices.antt).
+
+  -- the entry at place i is ready, and its d is that of the entry at place k
+  pub record Tied (k i : ℕ) : Type 0 where
+    pub ready : Ready (s .windows) (s .t) i
+    pub deadline : s .windows .d i ≡ s .windows .d k
+
+  pub record Takes (k : ℕ) : Type 0 where
+    -- "among entries with r reached and minutes left, take the smallest d"
+    pub deadline : EarliestDeadlineFirst (s .windows) (s .t) k
+    -- "The entry that had the minute before, if it has minutes left, goes on unless another d is strictly smaller."
+    pub goes-on : Ready (s .windows) (s .t) (s .last)
+        → ((i : ℕ) → Ready (s .windows) (s .t) i → s .windows .d i < s .windows .d (s .last) → ⊥)
+        → k ≡ s .last
+    -- "When several boxes share the smallest latest minute and the running box is not among them, take the one with the fewest minutes
+    -- left,"
+    pub fewest : (i : ℕ) → k < s .windows .n → (Tied k (s .last) → ⊥) → Tied k i → s .windows .p k ≤ s .windows .p i
+    -- "then the lowest place."
+    pub lowest : (i : ℕ) → k < s .windows .n → (Tied k (s .last) → ⊥) → Tied k i → s .windows .p i ≡ s .windows .p k → k ≤ i
+    -- idle is the one value that stands for no place
+    pub idles : s .windows .n ≤ k → k ≡ idle
 
 -- one minute less at k; idle is no place, so then no entry has less
 abbrev pub lessOne : Windows → ℕ → Windows

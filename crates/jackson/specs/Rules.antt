@@ -1,10 +1,8 @@
--- Jackson's rule as facts about the place chosen, beside the algorithm of Minutes.antt.
+-- Rules of earliest deadline first, whatever they do with ties. The law of plans is over these; Minutes.antt has Jackson's own.
 use Prim.Native.Nat.{ℕ, suc, _-_, _<_, _≤_}
 use mathlib.Core.Path.{_≡_}
 use Rattle.base.specs.Counting.{same}
 use Rattle.jackson.specs.Windows.{Windows, withLeft}
-use Rattle.jackson.specs.Plans.{idle}
-use Rattle.jackson.specs.Minutes.{State}
 
 -- the entry at place i has its r reached at minute t, and has minutes left
 pub record Ready (w : Windows) (t i : ℕ) : Type 0 where
@@ -13,25 +11,11 @@ pub record Ready (w : Windows) (t i : ℕ) : Type 0 where
   pub unfinished : 1 ≤ w .p i
 
 -- "at each minute, among entries with r reached and minutes left, take the smallest d"; none is taken only if there is none.
--- w .p is the minutes left. This says nothing of ties: the law on plans holds for every rule of this kind.
+-- w .p is the minutes left.
 pub record EarliestDeadlineFirst (w : Windows) (t k : ℕ) : Type 0 where
   pub taken : k < w .n → Ready w t k
   pub least : (i : ℕ) → k < w .n → Ready w t i → w .d k ≤ w .d i
   pub none : (i : ℕ) → w .n ≤ k → Ready w t i → ⊥
-
--- the rule with its ties
-pub record Takes (s : State) (k : ℕ) : Type 0 where
-  pub deadline : EarliestDeadlineFirst (s .windows) (s .t) k
-  -- "The entry that had the minute before, if it has minutes left, goes on unless another d is strictly smaller."
-  pub goes-on : Ready (s .windows) (s .t) (s .last)
-      → ((i : ℕ) → Ready (s .windows) (s .t) i → s .windows .d i < s .windows .d (s .last) → ⊥)
-      → k ≡ s .last
-  -- "Otherwise the lowest place among equals is taken."
-  pub lowest : (i : ℕ) → (k ≡ s .last → ⊥) → k < s .windows .n
-      → Ready (s .windows) (s .t) i
-      → s .windows .d i ≡ s .windows .d k
-      → k ≤ i
-  pub idles : s .windows .n ≤ k → k ≡ idle
 
 -- A rule followed from minute t₀, when w .p is left, to the day's end: m t is the place that has minute t (none before t₀), left t i the
 -- minutes that the entry at place i has left at minute t.

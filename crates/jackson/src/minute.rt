@@ -5,9 +5,9 @@ use crate::types::WindowSet;
 use list::places_held;
 use list::types::ENTRIES;
 ghost use mathlib.Core.Path.{_≡_};
-ghost use mathlib.Core.Bool.{_&&_};
+ghost use mathlib.Core.Bool.{_&&_, _||_};
 ghost use Prim.Native.Nat.{_-_, _<_, _≤_};
-ghost use lib.Dec.{leb, ltb};
+ghost use lib.Dec.{eqb, leb, ltb};
 ghost use Rattle.jackson.specs.Windows.{windowsIn};
 ghost use Rattle.jackson.specs.Plans.{idle};
 ghost use Rattle.jackson.specs.Minutes.{earliestDeadline, chosen};
@@ -22,7 +22,14 @@ fn is_ready(t: u16, r: u16, left: u16) -> bool
     if r <= t { 0 < left } else { false }
 }
 
-// The better of place i and the best so far k, 255 for none: i if it is ready and its d is smaller.
+// Place i comes before place k: its d is smaller, or as small and it has fewer minutes left.
+fn comes_first(di: u16, dk: u16, pi: u16, pk: u16) -> bool
+    ensures { λ b. ⌜ b ≡ ltb di dk || (eqb di dk && ltb pi pk) ⌝ }
+{
+    if di == dk { pi < pk } else { di < dk }
+}
+
+// The better of place i and the best so far k, 255 for none: i if it is ready and comes before k.
 fn sooner(
     i: usize,
     k: u8,
@@ -41,13 +48,13 @@ fn sooner(
     if k == 255 {
         return i as u8;
     }
-    if d[i] < d[k as usize] {
+    if comes_first(d[i], d[k as usize], left[i], left[k as usize]) {
         return i as u8;
     }
     k
 }
 
-// The ready place with the smallest d, the lowest among equals, 255 for none.
+// The ready place with the smallest d, of equals the one with the fewest minutes left, then the lowest; 255 for none.
 fn earliest_deadline(
     count: usize,
     t: u16,

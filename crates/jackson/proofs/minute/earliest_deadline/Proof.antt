@@ -1,20 +1,18 @@
 -- The scan finds the definition's place. The loop's invariant is the best so far, the measure what is left of the places.
 -- Assumes nothing.
 use borrow.Author.Needs.{needs}
-use Prim.Native.Nat.{ℕ, _-_}
+use Prim.Native.Nat.{_-_}
 use native.Mathlib.Omega.{arith}
-use lib.ListN.{getD}
-use Rattle.base.specs.Counting.{smaller}
 use Rattle.jackson.specs.Plans.{idle}
-use Rattle.jackson.specs.Minutes.{isReady}
+use Rattle.jackson.specs.Minutes.{isReady, comesFirst}
 use Rattle.jackson.specs.Internal.{stateAt}
-use Rattle.base.proofs.Scans.{smaller-ranks}
+use Rattle.jackson.proofs.Choices.{comes-first-ranks}
 use Rattle.jackson.proofs.ScanCases.{Searched, search-start, search-next, search-done, search-found}
 use Rattle.jackson.proofs.minute.earliest_deadline.Statement.{statement}
 use Rattle.jackson.proofs.minute.earliest_deadline.Tie as tie
 
 abbrev Inv-loop : tie.InvT-loop
-Inv-loop count t r d left k₀ i₀ k i = Searched idle (isReady (stateAt count t r d left)) (smaller (λ (j : ℕ). getD d j 0)) count k i
+Inv-loop count t r d left k₀ i₀ k i = let s = stateAt count t r d left in Searched idle (isReady s) (comesFirst s) count k i
 
 abbrev μ-loop : tie.MeasureT-loop
 μ-loop count t r d left k₀ i₀ k i = count - i
@@ -24,13 +22,14 @@ loop-holds c = search-start (c .pre)
 
 sooner-requires : tie.Need-sooner-requires Inv-loop μ-loop
 sooner-requires c κs =
-    let loop = c .before .loop in (
+    let loop = c .before .loop in
+    let args = c .before .before .args in
+    let s = stateAt (args .count) (args .t) (args .r .now) (args .d .now) (args .left .now) in (
       search needs,
       λ h. omega (
         arith,
         loop .inv .held,
-        search-found (smaller-ranks (λ (j : ℕ). getD (c .before .before .args .d .now) j 0))
-            (omega (arith, loop .inv .held)) (loop .inv) h,
+        search-found (comes-first-ranks s) (omega (arith, loop .inv .held)) (loop .inv) h,
       ),
     )
 

@@ -1,7 +1,7 @@
 -- The better of place i and the best so far is the definition's, in each case.
 -- Assumes nothing.
 use borrow.Author.Needs.{needs}
-use Rattle.jackson.proofs.MinuteCases.{not-ready, first-ready, smaller-deadline, no-smaller}
+use Rattle.jackson.proofs.MinuteCases.{not-ready, first-ready, ready-before, ready-after}
 use Rattle.jackson.proofs.minute.sooner.Statement.{statement}
 use Rattle.jackson.proofs.minute.sooner.Tie as tie
 
@@ -37,37 +37,54 @@ returns-2 c =
     first-ready (args .i) (args .k) (args .t) (args .r .now) (args .d .now) (args .left .now) (is-ready .result) (is-ready .ensures)
     (c .before .if1 .left) (c .if2 .taken)
 
-mul-if3 : tie.Need-mul-if3
-mul-if3 c = search needs
+mul-comes-first : tie.Need-mul-comes-first
+mul-comes-first c = search needs
 
-element-copy-out-if3 : tie.Need-element-copy-out-if3
-element-copy-out-if3 c = search needs
+element-copy-out-comes-first : tie.Need-element-copy-out-comes-first
+element-copy-out-comes-first c = search needs
 
-mul-if3-2 : tie.Need-mul-if3-2
-mul-if3-2 c = search (needs, c .before .before .before .before .before .before .pre .1 (c .before .if2 .left))
+mul-comes-first-2 : tie.Need-mul-comes-first-2
+mul-comes-first-2 c = search needs
 
-element-copy-out-if3-2 : tie.Need-element-copy-out-if3-2
-element-copy-out-if3-2 c = search (needs, c .before .before .before .before .before .before .pre .1 (c .before .if2 .left))
+element-copy-out-comes-first-2 : tie.Need-element-copy-out-comes-first-2
+element-copy-out-comes-first-2 c = search (needs, c .before .before .before .before .before .before .pre .1 (c .before .if2 .left))
+
+mul-comes-first-3 : tie.Need-mul-comes-first-3
+mul-comes-first-3 c = search needs
+
+element-copy-out-comes-first-3 : tie.Need-element-copy-out-comes-first-3
+element-copy-out-comes-first-3 c = search needs
+
+mul-comes-first-4 : tie.Need-mul-comes-first-4
+mul-comes-first-4 c = search needs
+
+element-copy-out-comes-first-4 : tie.Need-element-copy-out-comes-first-4
+element-copy-out-comes-first-4 c =
+    search (needs, c .before .before .before .before .before .before .before .before .pre .1 (c .before .before .before .if2 .left))
+
+comes-first-requires : tie.Need-comes-first-requires
+comes-first-requires c κs = search needs
 
 cast-result-2 : tie.Need-cast-result-2
 cast-result-2 c = search needs
 
 returns-3 : tie.Need-returns-3
 returns-3 c =
-    let args = c .before .before .before .before .before .before .before .before .args in
-    let is-ready = c .before .before .before .before .before .is-ready in
-    let if1 = c .before .before .before .before .if1 in
-    let if2 = c .before .before .before .if2 in
-    smaller-deadline (args .i) (args .k) (args .t) (args .r .now) (args .d .now) (args .left .now) (is-ready .result) (is-ready .ensures)
-    (if1 .left) (if2 .left) (c .if3 .taken)
+    let tests = c .before .before .before .before .before .before in
+    let args = tests .before .before .before .before .before .args in
+    let is-ready = tests .before .before .is-ready in
+    let comes-first = c .before .comes-first in
+    ready-before (args .i) (args .k) (args .t) (args .r .now) (args .d .now) (args .left .now) (is-ready .result) (is-ready .ensures)
+    (comes-first .result) (comes-first .ensures) (tests .if2 .left) (tests .before .if1 .left) (c .if3 .taken)
 
 returns-4 : tie.Need-returns-4
 returns-4 c =
-    let args = c .before .before .before .before .before .before .before .before .args in
-    let is-ready = c .before .before .before .before .before .is-ready in
-    let if2 = c .before .before .before .if2 in
-    no-smaller (args .i) (args .k) (args .t) (args .r .now) (args .d .now) (args .left .now) (is-ready .result) (is-ready .ensures)
-    (if2 .left) (c .if3 .left)
+    let tests = c .before .before .before .before .before .before in
+    let args = tests .before .before .before .before .before .args in
+    let is-ready = tests .before .before .is-ready in
+    let comes-first = c .before .comes-first in
+    ready-after (args .i) (args .k) (args .t) (args .r .now) (args .d .now) (args .left .now) (is-ready .result) (is-ready .ensures)
+    (comes-first .result) (comes-first .ensures) (tests .if2 .left) (c .if3 .left)
 
 pub sooner-spec : {M : Type 1} → statement M
 sooner-spec =
@@ -81,10 +98,15 @@ sooner-spec =
     returns
     cast-result
     returns-2
-    mul-if3
-    element-copy-out-if3
-    mul-if3-2
-    element-copy-out-if3-2
+    mul-comes-first
+    element-copy-out-comes-first
+    mul-comes-first-2
+    element-copy-out-comes-first-2
+    mul-comes-first-3
+    element-copy-out-comes-first-3
+    mul-comes-first-4
+    element-copy-out-comes-first-4
+    comes-first-requires
     cast-result-2
     returns-3
     returns-4)
