@@ -1,4 +1,4 @@
--- Document 01's examples hold of the definitions.
+-- Document 01's examples, and those of document 02's tie rule, hold of the definitions.
 -- Assumes nothing.
 use Prim.Native.Nat.{ℕ, zero, suc, _+_, _<_, _≤_}
 use mathlib.Core.Path.{_≡_, refl}
@@ -8,7 +8,7 @@ use Rattle.list.specs.Entries.{entryFault}
 use Rattle.list.specs.Clashes.{firstClash}
 use Rattle.list.specs.Checks.{headerFault, entriesFault, valuesFault, checkOf}
 use Rattle.format.specs.Reading.{readOf, decodeOf, bodyOf, entriesFrom}
-use Rattle.base.specs.Counting.{sum, same, firstBelow, best, listOf}
+use Rattle.base.specs.Counting.{sum, same, firstBelow, lastBelow, best, listOf}
 use Rattle.jackson.specs.Windows.{windowsOf}
 use Rattle.jackson.specs.Plans.{Plan, IsEnd, IsStart, placesIn}
 use Rattle.jackson.specs.Intervals.{work, leftEnd, rightEnd, overloadOf}
@@ -18,8 +18,9 @@ use Rattle.narrow.specs.Searching.{failedStarts, failedEnds, leastStart, greate
 use Rattle.narrow.specs.Rounds.{narrowSide, visit, visits, rounds, narrowing}
 use Rattle.narrow.specs.Calls.{entriesWith, listWith, settleOf, roundOf}
 use Rattle.bounds.specs.Ends.{failedDeadlines, failedReleases, leastEnd, greatestStart}
-use Rattle.planner.specs.Calls.{planChecks}
-use Rattle.planner.specs.Examples.{listB, PlanExamples}
+use Rattle.planner.specs.BrokenEntries.{brokenIn}
+use Rattle.planner.specs.Calls.{planChecks, shownChecks}
+use Rattle.planner.specs.Examples.{listB, PlanExamples, TieExamples}
 
 -- (b) over all plans: the four minutes are all given to an entry, and minute 3 cannot be place 0's.
 
@@ -131,4 +132,22 @@ plan-examples =
       h-read = refl;
       h-accepted = record { narrowed = refl; planned = refl };
       h-plan = refl;
+    }
+
+pub tie-examples : TieExamples
+unfolding firstClash checkOf valuesFault headerFault entriesFault entryFault
+    sum firstBelow lastBelow best listOf work leftEnd rightEnd overloadOf chosen minuteOf later schedule
+    failedStarts failedEnds leastStart greatestEnd narrowSide visit visits rounds narrowing
+    failedDeadlines failedReleases leastEnd greatestStart brokenIn planChecks shownChecks
+tie-examples =
+    record {
+      fewest-left = refl;
+      early = refl;
+      late = refl;
+      more-broken = record { plan = refl; broken = refl };
+      fewer-broken = record { plan = refl; broken = refl };
+      lowest-place = refl;
+      running = refl;
+      interrupted = refl;
+      left-not-needed = refl;
     }

@@ -1,4 +1,5 @@
--- Document 01's examples, (a) to (h), "a lone joint assertion about the meanings themselves".
+-- Document 01's examples, (a) to (h), "a lone joint assertion about the meanings themselves", and days on which document 02's tie rule
+-- decides.
 use Prim.Native.Nat.{ℕ, _≤_}
 use mathlib.Core.Path.{_≡_}
 use mathlib.Core.List.{List, [], _∷_, _++_, map}
@@ -15,7 +16,10 @@ use Rattle.jackson.specs.Plans.{Plan, IsEnd, IsStart}
 use Rattle.jackson.specs.Minutes.{schedule}
 use Rattle.narrow.specs.Rounds.{Narrowed}
 use Rattle.narrow.specs.Calls.{settleOf, roundOf, listed}
-use Rattle.planner.specs.Calls.{settledOr, planOf, endsOf, startsOf}
+use Rattle.bounds.specs.ShownPlans.{shownPlan}
+use Rattle.bounds.specs.declared.types.Shown.{Shown}
+use Rattle.bounds.specs.declared.types.Shown.the-variants.{Early, Late}
+use Rattle.planner.specs.Calls.{settledOr, planOf, endsOf, startsOf, brokenOf, shownOf}
 
 -- entries without a seal, by serial, r, d and p
 abbrev pub pauseEntry : ℕ → ℕ → ℕ → ℕ → Entry
@@ -126,3 +130,38 @@ pub record PlanExamples : Type 0 where
   pub h-read : readOf bytesH ≡ answered listH
   pub h-accepted : Gives listH (answered (listH, 0))
   pub h-plan : plannedBytes listH ≡ 255 ∷ []
+
+-- Document 02, request 2.
+
+-- the plan shown of place k, with a buffer of H bytes
+abbrev pub shownBytes : Shown → DayList → ℕ → List ℕ
+shownBytes x l k = settledOr [] (shownPlan x (wholeIn l) k) (shownOf l k (l .frame .h))
+
+-- the plan of the list is these bytes, and breaks so many entries
+pub record PlannedAs (l : DayList) (bytes : List ℕ) (count : ℕ) : Type 0 where
+  pub plan : plannedBytes l ≡ bytes
+  pub broken : brokenOf (wholeIn l) (planning l) ≡ count
+
+-- "When several boxes share the smallest latest minute and the running box is not among them, take the one with the fewest minutes left,
+-- then the lowest place." The first five are of the smallest days on which this and the rule before it, the lowest place among equals,
+-- differ: in the plan, in an early and in a late plan, and in the broken entries, which may be more or fewer.
+pub record TieExamples : Type 0 where
+  -- before: 0 0 1
+  pub fewest-left : plannedBytes (day 3 (pauseEntry 1 0 3 2 ∷ pauseEntry 2 0 3 1 ∷ [])) ≡ 1 ∷ 0 ∷ 0 ∷ []
+  -- place 2's early plan; before: 2 0 0 1
+  pub early : shownBytes Early (day 4 (wholeEntry 1 0 4 2 ∷ wholeEntry 2 0 4 1 ∷ wholeEntry 3 0 4 1 ∷ [])) 2 ≡ 2 ∷ 1 ∷ 0 ∷ 0 ∷ []
+  -- place 2's late plan, from the day's end back; before: 2 1 0 0
+  pub late : shownBytes Late (day 4 (wholeEntry 1 1 4 2 ∷ wholeEntry 2 1 4 1 ∷ wholeEntry 3 0 1 1 ∷ [])) 2 ≡ 2 ∷ 0 ∷ 0 ∷ 1 ∷ []
+  -- before: 0 0 2 1 255, broken 0
+  pub more-broken : PlannedAs (day 5 (wholeEntry 1 0 5 2 ∷ wholeEntry 2 0 5 1 ∷ wholeEntry 3 2 4 1 ∷ [])) (1 ∷ 0 ∷ 2 ∷ 0 ∷ 255 ∷ []) 1
+  -- before: 1 0 1 2, broken 1
+  pub fewer-broken : PlannedAs (day 4 (wholeEntry 1 1 3 1 ∷ wholeEntry 2 0 4 2 ∷ wholeEntry 3 0 4 1 ∷ [])) (2 ∷ 0 ∷ 1 ∷ 1 ∷ []) 0
+  -- of equally many minutes left, the lowest place
+  pub lowest-place : plannedBytes (day 2 (pauseEntry 1 0 2 1 ∷ pauseEntry 2 0 2 1 ∷ [])) ≡ 0 ∷ 1 ∷ []
+  -- the running box goes on, though another has the same d and fewer minutes left
+  pub running : plannedBytes (day 4 (pauseEntry 1 1 4 1 ∷ pauseEntry 2 0 4 3 ∷ [])) ≡ 1 ∷ 1 ∷ 1 ∷ 0 ∷ []
+  -- place 1 was interrupted and is not the running box: of places 0 and 1, with 1 and 2 minutes left, place 0 is taken
+  pub interrupted : plannedBytes (day 5 (pauseEntry 1 1 5 1 ∷ pauseEntry 2 0 5 3 ∷ pauseEntry 3 1 2 1 ∷ [])) ≡ 1 ∷ 2 ∷ 0 ∷ 1 ∷ 1 ∷ []
+  -- minutes left, not p: after the interruption place 1 needs 3 minutes and has 1 left, place 0 has 2
+  pub left-not-needed : plannedBytes (day 6 (pauseEntry 1 1 6 2 ∷ pauseEntry 2 0 6 3 ∷ pauseEntry 3 2 3 1 ∷ []))
+      ≡ 1 ∷ 1 ∷ 2 ∷ 1 ∷ 0 ∷ 0 ∷ []
