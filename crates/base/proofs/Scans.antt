@@ -54,9 +54,10 @@ module _ (f g : ℕ → ℕ) (i k : ℕ) where
       (λ l. simp (lt-ltb (f i) (f k) l))
 
   pub not-smaller-then : (smallerThen f g i k ≡ true → ⊥) → (f k ≤ f i) × (f i ≡ f k → g k ≤ g i)
-  not-smaller-then h =
-      (le-or-lt (f k) (f i) (λ l. l) (λ l. absurd (h (to-smaller-then (omega arith) (λ e. absurd (omega arith))))),
-      λ e. le-or-lt (g k) (g i) (λ l. l) (λ l. absurd (h (to-smaller-then (omega arith) (λ _. l)))))
+  not-smaller-then h = (
+    le-or-lt (f k) (f i) (λ l. l) (λ l. absurd (h (to-smaller-then (omega arith) (λ e. absurd (omega arith))))),
+    λ e. le-or-lt (g k) (g i) (λ l. l) (λ l. absurd (h (to-smaller-then (omega arith) (λ _. l)))),
+  )
 
 pub smaller-then-ranks : (f g : ℕ → ℕ) → Ranks (smallerThen f g)
 smaller-then-ranks f g =

@@ -130,7 +130,7 @@ not-above s j k a b = go (decLt j (s .windows .n)) (decLt k (s .windows .n)) (�
         let e : s .windows .d k ≡ s .windows .d j = omega (arith, a .deadline .least k h y, b .deadline .least j l x) in
         let alone : Tied s j (s .last) → ⊥ = λ tied. q (last-taken s j a h tied) in
         let fewer = b .fewest j l (λ tied. alone (record { ready = tied .ready; deadline = tied .deadline ∙ e }))
-            (record { ready = x; deadline = sym e }) in
+        (record { ready = x; deadline = sym e }) in
         let tied : Tied s j k = record { ready = y; deadline = e } in
         a .lowest k h alone tied (omega (arith, a .fewest k h alone tied, fewer))
     go (yes h) (no l) q = omega arith
