@@ -10,7 +10,7 @@ use borrow.Author.Tests.{leb-true, ltb-true, ltb-false, le-leb, le-ltb, lt-ltb, 
 use lib.Dec.{leb, ltb}
 use Rattle.jackson.specs.Plans.{idle}
 use Rattle.jackson.specs.Rules.{Ready}
-use Rattle.jackson.specs.Minutes.{State, isReady, comesFirst, earliestDeadline, goesOn, chosen, Tied, Takes}
+use Rattle.jackson.specs.Minutes.{State, isReady, comesBefore, earliestDeadline, goesOn, chosen, Tied, Takes}
 use Rattle.base.proofs.Scans.{Ranks, Best, smaller-then-ranks, of-smaller-then, not-smaller-then, best-cases, best-some}
 
 module _ (s : State) where
@@ -33,13 +33,13 @@ module _ (s : State) where
   to-goes-on : Ready (s .windows) (s .t) (s .last) → s .windows .d (s .last) ≤ s .windows .d (earliestDeadline s) → goesOn s ≡ true
   to-goes-on h l = simp (lt-ltb _ _ (h .place), le-leb _ _ (h .released), lt-ltb _ _ (h .unfinished), le-ltb _ _ l)
 
-  pub comes-first-ranks : Ranks (comesFirst s)
-  comes-first-ranks = smaller-then-ranks (s .windows .d) (s .windows .p)
+  pub comes-before-ranks : Ranks (comesBefore s)
+  comes-before-ranks = smaller-then-ranks (s .windows .d) (s .windows .p)
 
   module _ (few : s .windows .n ≤ 255) where
     -- the scan finds a ready entry's place, if there is one
-    scan-some : (i : ℕ) → Ready (s .windows) (s .t) i → Best (s .windows .n) (isReady s) (comesFirst s) (earliestDeadline s)
-    scan-some i h = best-some idle (isReady s) (comesFirst s) comes-first-ranks (s .windows .n) few i (h .place) (to-test i h)
+    scan-some : (i : ℕ) → Ready (s .windows) (s .t) i → Best (s .windows .n) (isReady s) (comesBefore s) (earliestDeadline s)
+    scan-some i h = best-some idle (isReady s) (comesBefore s) comes-before-ranks (s .windows .n) few i (h .place) (to-test i h)
 
     module _ (i : ℕ) (h : Ready (s .windows) (s .t) i) where
       unbeaten : (s .windows .d (earliestDeadline s) ≤ s .windows .d i)
@@ -71,7 +71,7 @@ module _ (s : State) where
     -- or else the one that the scan finds
     takes-earliest-deadline : goesOn s ≡ false → Takes s (earliestDeadline s)
     takes-earliest-deadline e =
-        best-cases idle (isReady s) (comesFirst s) comes-first-ranks (s .windows .n) few (Takes s (earliestDeadline s))
+        best-cases idle (isReady s) (comesBefore s) comes-before-ranks (s .windows .n) few (Takes s (earliestDeadline s))
         (λ q empty.
         record {
           deadline =

@@ -12,13 +12,13 @@ use lib.Seq.{set-out, getD-set-same, getD-set-other}
 use Rattle.base.specs.Counting.{same}
 use Rattle.jackson.specs.Windows.{withLeft, windowsIn}
 use Rattle.jackson.specs.Plans.{idle}
-use Rattle.jackson.specs.Minutes.{State, isReady, comesFirst, earliestDeadline, chosen}
+use Rattle.jackson.specs.Minutes.{State, isReady, comesBefore, earliestDeadline, chosen}
 use Rattle.jackson.specs.Internal.{stateAt, betterReady, IsAfter}
 use Rattle.jackson.specs.declared.types.WindowSet.{WindowSet}
 use Rattle.jackson.specs.declared.types.Day.{Day}
 use Rattle.base.proofs.Sums.{le-or-lt, same-cases}
 use Rattle.base.proofs.Scans.{best-some}
-use Rattle.jackson.proofs.Choices.{comes-first-ranks}
+use Rattle.jackson.proofs.Choices.{comes-before-ranks}
 use Rattle.jackson.proofs.ScanCases.{unfit, first, wins, stays}
 
 -- the test of an entry, and of two
@@ -45,7 +45,7 @@ module _ (i k t : ℕ) (r d left : List ℕ) (b : Bool) (says : b ≡ leb (getD 
   passes = isReady held
 
   abbrev order : ℕ → ℕ → Bool
-  order = comesFirst held
+  order = comesBefore held
 
   pub not-ready : not b ≡ true → k ≡ betterReady held i k
   not-ready e = unfit idle passes order i k (sym says ∙ not-true b e)
@@ -81,7 +81,7 @@ module _ (s : WindowSet) (n : ℕ) (holds : n ≡ min (s .n) 64) (t last k : ℕ
     pub found-place : n ≤ 64 → not b ≡ false → k < n
     found-place few e =
         let passes = sym says ∙ not-false b e in
-        let found = best-some idle (isReady now) (comesFirst now) (comes-first-ranks now) n (omega (arith, few)) last h passes in
+        let found = best-some idle (isReady now) (comesBefore now) (comes-before-ranks now) n (omega (arith, few)) last h passes in
         rw (← first) at (found .below)
 
     pub interrupted : not b ≡ false → getD (s .d) k 0 < getD (s .d) last 0 → k ≡ chosen now

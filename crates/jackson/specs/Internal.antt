@@ -9,7 +9,7 @@ use Rattle.base.specs.Counting.{better, smaller, larger}
 use Rattle.jackson.specs.Windows.{Windows, columns}
 use Rattle.jackson.specs.Plans.{idle}
 use Rattle.jackson.specs.Intervals.{leftOf, rightOf}
-use Rattle.jackson.specs.Minutes.{State, stateIn, isReady, comesFirst, after}
+use Rattle.jackson.specs.Minutes.{State, stateIn, isReady, comesBefore, after}
 use Rattle.jackson.specs.declared.types.Day.{Day}
 
 -- the windows of n entries held in arrays: their work and their intervals ask for no H
@@ -29,7 +29,7 @@ stateAt n t r d left = record { windows = windowsHeld n r d left; t = t; last = 
 
 -- the better of place i and the best so far k, idle for none, in the search for the ready entry of earliest deadline
 abbrev pub betterReady : State → ℕ → ℕ → ℕ
-betterReady s i k = better idle (isReady s) (comesFirst s) i k
+betterReady s i k = better idle (isReady s) (comesBefore s) i k
 
 -- the day after place k, or none, had its minute
 pub record IsAfter (day : Day) (k : ℕ) (next : Day) : Type 0 where

@@ -30,13 +30,13 @@ module _ (s : State) where
   abbrev pub isReady : ℕ → Bool
   isReady i = leb (s .windows .r i) (s .t) && ltb 0 (s .windows .p i)
 
-  -- "take the smallest d", and of several that share it "the one with the fewest minutes left" (document 02): i comes before k
-  abbrev pub comesFirst : ℕ → ℕ → Bool
-  comesFirst = smallerThen (s .windows .d) (s .windows .p)
+  -- "take the smallest d", and of several that share it "the one with the fewest minutes left" (document 02): entry i comes before entry k
+  abbrev pub comesBefore : ℕ → ℕ → Bool
+  comesBefore = smallerThen (s .windows .d) (s .windows .p)
 
   -- the ready place that comes before the others, "then the lowest place"; idle if there is none
   abbrev pub earliestDeadline : ℕ
-  earliestDeadline = best idle (s .windows .n) isReady comesFirst
+  earliestDeadline = best idle (s .windows .n) isReady comesBefore
 
   -- "The entry that had the minute before, if it has minutes left, goes on unless another d is strictly smaller." Its r was reached then;
   -- in other values of a day it may not be, so it is tested here
@@ -47,14 +47,13 @@ module _ (s : State) where
   unfoldable pub chosen : ℕ
   chosen = cond goesOn (s .last) earliestDeadline
 
-  -- The same as facts about the place k that has the minute. They leave one place, and `chosen` is that one (`takes-one` and
-  -- `chosen-takes` of proofs/Choices.antt).
-
   -- the entry at place i is ready, and its d is that of the entry at place k
   pub record Tied (k i : ℕ) : Type 0 where
     pub ready : Ready (s .windows) (s .t) i
     pub deadline : s .windows .d i ≡ s .windows .d k
 
+  -- the same as facts about the place k that has the minute: they leave one place, and `chosen` is that one (`takes-one` and
+  -- `chosen-takes` of proofs/Choices.antt)
   pub record Takes (k : ℕ) : Type 0 where
     -- "among entries with r reached and minutes left, take the smallest d"
     pub deadline : EarliestDeadlineFirst (s .windows) (s .t) k
@@ -62,8 +61,8 @@ module _ (s : State) where
     pub goes-on : Ready (s .windows) (s .t) (s .last)
         → ((i : ℕ) → Ready (s .windows) (s .t) i → s .windows .d i < s .windows .d (s .last) → ⊥)
         → k ≡ s .last
-    -- "When several boxes share the smallest latest minute and the running box is not among them, take the one with the fewest minutes
-    -- left,"
+    -- document 02: "When several boxes share the smallest latest minute and the running box is not among them, take the one with the
+    -- fewest minutes left". The running box is the entry that had the minute before, if it is ready.
     pub fewest : (i : ℕ) → k < s .windows .n → (Tied k (s .last) → ⊥) → Tied k i → s .windows .p k ≤ s .windows .p i
     -- "then the lowest place."
     pub lowest : (i : ℕ) → k < s .windows .n → (Tied k (s .last) → ⊥) → Tied k i → s .windows .p i ≡ s .windows .p k → k ≤ i

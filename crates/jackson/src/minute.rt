@@ -23,7 +23,7 @@ fn is_ready(t: u16, r: u16, left: u16) -> bool
 }
 
 // Place i comes before place k: its d is smaller, or as small and it has fewer minutes left.
-fn comes_first(di: u16, dk: u16, pi: u16, pk: u16) -> bool
+fn comes_before(di: u16, dk: u16, pi: u16, pk: u16) -> bool
     ensures { λ b. ⌜ b ≡ ltb di dk || (eqb di dk && ltb pi pk) ⌝ }
 {
     if di == dk { pi < pk } else { di < dk }
@@ -48,7 +48,7 @@ fn sooner(
     if k == 255 {
         return i as u8;
     }
-    if comes_first(d[i], d[k as usize], left[i], left[k as usize]) {
+    if comes_before(d[i], d[k as usize], left[i], left[k as usize]) {
         return i as u8;
     }
     k

@@ -4,15 +4,15 @@ use borrow.Author.Needs.{needs}
 use Prim.Native.Nat.{_-_}
 use native.Mathlib.Omega.{arith}
 use Rattle.jackson.specs.Plans.{idle}
-use Rattle.jackson.specs.Minutes.{isReady, comesFirst}
+use Rattle.jackson.specs.Minutes.{isReady, comesBefore}
 use Rattle.jackson.specs.Internal.{stateAt}
-use Rattle.jackson.proofs.Choices.{comes-first-ranks}
+use Rattle.jackson.proofs.Choices.{comes-before-ranks}
 use Rattle.jackson.proofs.ScanCases.{Searched, search-start, search-next, search-done, search-found}
 use Rattle.jackson.proofs.minute.earliest_deadline.Statement.{statement}
 use Rattle.jackson.proofs.minute.earliest_deadline.Tie as tie
 
 abbrev Inv-loop : tie.InvT-loop
-Inv-loop count t r d left k₀ i₀ k i = let s = stateAt count t r d left in Searched idle (isReady s) (comesFirst s) count k i
+Inv-loop count t r d left k₀ i₀ k i = let s = stateAt count t r d left in Searched idle (isReady s) (comesBefore s) count k i
 
 abbrev μ-loop : tie.MeasureT-loop
 μ-loop count t r d left k₀ i₀ k i = count - i
@@ -29,7 +29,7 @@ sooner-requires c κs =
       λ h. omega (
         arith,
         loop .inv .held,
-        search-found (comes-first-ranks s) (omega (arith, loop .inv .held)) (loop .inv) h,
+        search-found (comes-before-ranks s) (omega (arith, loop .inv .held)) (loop .inv) h,
       ),
     )
 

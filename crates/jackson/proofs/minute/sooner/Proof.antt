@@ -37,33 +37,33 @@ returns-2 c =
     first-ready (args .i) (args .k) (args .t) (args .r .now) (args .d .now) (args .left .now) (is-ready .result) (is-ready .ensures)
     (c .before .if1 .left) (c .if2 .taken)
 
-mul-comes-first : tie.Need-mul-comes-first
-mul-comes-first c = search needs
+mul-comes-before : tie.Need-mul-comes-before
+mul-comes-before c = search needs
 
-element-copy-out-comes-first : tie.Need-element-copy-out-comes-first
-element-copy-out-comes-first c = search needs
+element-copy-out-comes-before : tie.Need-element-copy-out-comes-before
+element-copy-out-comes-before c = search needs
 
-mul-comes-first-2 : tie.Need-mul-comes-first-2
-mul-comes-first-2 c = search needs
+mul-comes-before-2 : tie.Need-mul-comes-before-2
+mul-comes-before-2 c = search needs
 
-element-copy-out-comes-first-2 : tie.Need-element-copy-out-comes-first-2
-element-copy-out-comes-first-2 c = search (needs, c .before .before .before .before .before .before .pre .1 (c .before .if2 .left))
+element-copy-out-comes-before-2 : tie.Need-element-copy-out-comes-before-2
+element-copy-out-comes-before-2 c = search (needs, c .before .before .before .before .before .before .pre .1 (c .before .if2 .left))
 
-mul-comes-first-3 : tie.Need-mul-comes-first-3
-mul-comes-first-3 c = search needs
+mul-comes-before-3 : tie.Need-mul-comes-before-3
+mul-comes-before-3 c = search needs
 
-element-copy-out-comes-first-3 : tie.Need-element-copy-out-comes-first-3
-element-copy-out-comes-first-3 c = search needs
+element-copy-out-comes-before-3 : tie.Need-element-copy-out-comes-before-3
+element-copy-out-comes-before-3 c = search needs
 
-mul-comes-first-4 : tie.Need-mul-comes-first-4
-mul-comes-first-4 c = search needs
+mul-comes-before-4 : tie.Need-mul-comes-before-4
+mul-comes-before-4 c = search needs
 
-element-copy-out-comes-first-4 : tie.Need-element-copy-out-comes-first-4
-element-copy-out-comes-first-4 c =
+element-copy-out-comes-before-4 : tie.Need-element-copy-out-comes-before-4
+element-copy-out-comes-before-4 c =
     search (needs, c .before .before .before .before .before .before .before .before .pre .1 (c .before .before .before .if2 .left))
 
-comes-first-requires : tie.Need-comes-first-requires
-comes-first-requires c κs = search needs
+comes-before-requires : tie.Need-comes-before-requires
+comes-before-requires c κs = search needs
 
 cast-result-2 : tie.Need-cast-result-2
 cast-result-2 c = search needs
@@ -73,18 +73,18 @@ returns-3 c =
     let tests = c .before .before .before .before .before .before in
     let args = tests .before .before .before .before .before .args in
     let is-ready = tests .before .before .is-ready in
-    let comes-first = c .before .comes-first in
+    let comes-before = c .before .comes-before in
     ready-before (args .i) (args .k) (args .t) (args .r .now) (args .d .now) (args .left .now) (is-ready .result) (is-ready .ensures)
-    (comes-first .result) (comes-first .ensures) (tests .if2 .left) (tests .before .if1 .left) (c .if3 .taken)
+    (comes-before .result) (comes-before .ensures) (tests .if2 .left) (tests .before .if1 .left) (c .if3 .taken)
 
 returns-4 : tie.Need-returns-4
 returns-4 c =
     let tests = c .before .before .before .before .before .before in
     let args = tests .before .before .before .before .before .args in
     let is-ready = tests .before .before .is-ready in
-    let comes-first = c .before .comes-first in
+    let comes-before = c .before .comes-before in
     ready-after (args .i) (args .k) (args .t) (args .r .now) (args .d .now) (args .left .now) (is-ready .result) (is-ready .ensures)
-    (comes-first .result) (comes-first .ensures) (tests .if2 .left) (c .if3 .left)
+    (comes-before .result) (comes-before .ensures) (tests .if2 .left) (c .if3 .left)
 
 pub sooner-spec : {M : Type 1} → statement M
 sooner-spec =
@@ -98,15 +98,15 @@ sooner-spec =
     returns
     cast-result
     returns-2
-    mul-comes-first
-    element-copy-out-comes-first
-    mul-comes-first-2
-    element-copy-out-comes-first-2
-    mul-comes-first-3
-    element-copy-out-comes-first-3
-    mul-comes-first-4
-    element-copy-out-comes-first-4
-    comes-first-requires
+    mul-comes-before
+    element-copy-out-comes-before
+    mul-comes-before-2
+    element-copy-out-comes-before-2
+    mul-comes-before-3
+    element-copy-out-comes-before-3
+    mul-comes-before-4
+    element-copy-out-comes-before-4
+    comes-before-requires
     cast-result-2
     returns-3
     returns-4)

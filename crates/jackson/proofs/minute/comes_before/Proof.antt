@@ -1,8 +1,8 @@
 -- The test of two entries says which comes first.
 -- Assumes nothing.
 use Rattle.jackson.proofs.MinuteCases.{equal-deadlines, other-deadlines}
-use Rattle.jackson.proofs.minute.comes_first.Statement.{statement}
-use Rattle.jackson.proofs.minute.comes_first.Tie as tie
+use Rattle.jackson.proofs.minute.comes_before.Statement.{statement}
+use Rattle.jackson.proofs.minute.comes_before.Tie as tie
 
 returns : tie.Need-returns
 returns c =
@@ -14,5 +14,5 @@ returns-2 c =
     let args = c .before .args in
     other-deadlines (args .di) (args .dk) (args .pi) (args .pk) (c .if1 .left)
 
-pub comes-first-spec : {M : Type 1} → statement M
-comes-first-spec = tie.close (tie.spec returns returns-2)
+pub comes-before-spec : {M : Type 1} → statement M
+comes-before-spec = tie.close (tie.spec returns returns-2)
