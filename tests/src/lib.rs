@@ -18,6 +18,7 @@ pub mod overload; // overloaded intervals
 pub mod planner; // the schedule of the windows as given, and its refusals
 pub mod reader; // from bytes to a list
 pub mod report; // from bytes to the report's text
+pub mod rule; // Jackson's rule as facts about a plan
 pub mod writer; // from a list to bytes, and the refusals of a value
 
 // Small days by trying everything.

@@ -4,6 +4,8 @@ mod format;
 mod pages;
 mod picture;
 mod refusals;
+mod smallest_days;
+mod tie_traps;
 mod traps;
 
 use dock_tests::cases::root;
