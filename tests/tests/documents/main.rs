@@ -1,6 +1,7 @@
 //! What the documents say: the pages of this repository, and document 01's traps.
 
 mod format;
+mod imports;
 mod pages;
 mod picture;
 mod refusals;
