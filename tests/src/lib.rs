@@ -1,7 +1,7 @@
 //! What the tests of the dock planner stand on. The tests are a program for each layer: `list` (reading and
 //! writing), `jackson` (overload test and schedule of the windows as given), `narrow`, `bounds` (the calls that
-//! plan), `report` (the report's text), `program` (the built program); and `documents` for the pages and
-//! document 01's traps.
+//! plan), `report` (the report's text), `program` (the built program); and `documents` for the pages, the
+//! imports under crates/, and wrong readings of the documents.
 
 // What is tested.
 pub mod abi; // the calls of the static library
