@@ -4,7 +4,7 @@
 use crate::day::{Day, IDLE};
 use std::ops::AddAssign;
 
-/// How often several entries shared the smallest d in a minute, by the sentence that decided.
+/// In how many minutes several entries shared the smallest d, by the sentence that decided.
 #[derive(Clone, Copy, Debug, Default, PartialEq, Eq)]
 pub struct Ties {
     /// The entry that had the minute before went on.
@@ -13,7 +13,7 @@ pub struct Ties {
     pub running_with_more: usize,
     /// One had fewer minutes left than the others.
     pub fewest: usize,
-    /// It did so though another had a lower place.
+    /// It was taken though another had a lower place.
     pub fewest_though_higher: usize,
     /// Several had the fewest minutes left, and one of them the lowest place.
     pub lowest: usize,
@@ -30,7 +30,7 @@ impl AddAssign for Ties {
 }
 
 impl Ties {
-    /// How each tie was decided: each of them at least so often.
+    /// Each of these was met more often than this.
     #[track_caller]
     pub fn more_than(&self, often: usize) {
         let Ties { running, running_with_more, fewest, fewest_though_higher, lowest } = *self;

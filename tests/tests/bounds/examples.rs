@@ -209,8 +209,8 @@ fn an_interrupted_entry_does_not_go_on() {
     gives(Call::Plan, 6, "p[1,6)2 p[0,6)3 p[1,2)1", "1 2 0 0 1 1");
 }
 
-/// The same rule in an early plan: the fewest minutes left begin; an equal d does not interrupt, though it has fewer; and
-/// one that was interrupted does not go on.
+/// The same rule in an early plan: the fewest minutes left begin; an equal d does not interrupt, though it has fewer;
+/// and one that was interrupted does not go on.
 #[test]
 fn the_tie_rule_of_an_early_plan() {
     gives(Call::Early(2), 4, "p[0,4)2 p[0,4)1 p[0,1)1", "2 1 0 0");

@@ -102,7 +102,8 @@ fn random_days_plans_follow_the_rule() {
     seen.more_than(100);
 }
 
-/// 1,440 minutes and 64 entries with few different d, pause so that nothing is narrowed; the plans of every eighth place.
+/// 1,440 minutes and 64 entries with few different d, pause so that nothing is narrowed: the plans of every eighth
+/// place.
 #[test]
 fn full_days_plans_follow_the_rule() {
     let mut seen = Seen::default();

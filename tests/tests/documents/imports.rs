@@ -41,8 +41,8 @@ fn files(folder: &str, ending: &str) -> Vec<String> {
     names(&root().join(folder), ending).iter().map(|name| format!("{folder}/{name}.{ending}")).collect()
 }
 
-/// The definitions and proofs that a file imports, by lines "use Rattle.jackson.specs.Windows.{Windows}" and "ghost
-/// use ..". There is no other way to name another file, and each such line must lead to one. Modules of
+/// The definitions and proofs that a file imports, by lines "use Rattle.jackson.specs.Windows.{Windows}" and
+/// "ghost use ..". There is no other way to name another file, and each such line must lead to one. Modules of
 /// `specs.declared` are made from the code's types and import nothing.
 #[track_caller]
 fn definitions(file: &str) -> Vec<String> {
@@ -141,8 +141,8 @@ fn narrowings_code_promises_nothing_of_the_tie_rule() {
     assert!(never_reach_minutes(&sources) > 12);
 }
 
-/// "the narrower uses only the planner's promise that a plan exists exactly without overload": the code that narrows, and
-/// that finds least ends and greatest starts, never calls Jackson's minute, nor the schedule that is made of it.
+/// "the narrower uses only the planner's promise that a plan exists exactly without overload": the code that narrows,
+/// and that finds least ends and greatest starts, never calls Jackson's minute, nor the schedule that is made of it.
 #[test]
 fn code_of_windows_and_bounds_does_not_call_jacksons_minute() {
     let bounds = "crates/bounds/src/ends.rt".to_string();

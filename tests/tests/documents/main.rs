@@ -1,5 +1,5 @@
-//! What the documents say: the pages of this repository, what its files import, the traps of document 01, wrong readings
-//! of document 02's tie rule, and the smallest days that it changes.
+//! What the documents say: the pages of this repository, what its files import, the traps of document 01, wrong
+//! readings of document 02's tie rule, and the smallest days that it changes.
 
 mod format;
 mod imports;

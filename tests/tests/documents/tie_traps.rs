@@ -1,6 +1,6 @@
-//! Wrong readings of document 02's "Clear the nearly finished box first", each with a day on which it gives another plan
-//! than the rule: "When several boxes share the smallest latest minute and the running box is not among them, take the
-//! one with the fewest minutes left, then the lowest place."
+//! Wrong readings of document 02's "Clear the nearly finished box first", each with a day on which it gives another
+//! plan than the rule: "When several boxes share the smallest latest minute and the running box is not among them, take
+//! the one with the fewest minutes left, then the lowest place."
 
 use dock_tests::check::planned;
 use dock_tests::day::{Day, Entry, IDLE};

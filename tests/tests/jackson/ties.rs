@@ -68,7 +68,8 @@ fn of_as_many_minutes_left_the_lowest_place_begins() {
     planned(9, &[(0, 9, 3), (0, 9, 2), (0, 9, 2)], "1 1 2 2 0 0 0 - -");
 }
 
-/// "share the smallest latest minute": place 0 has the fewest minutes left of all, and a larger d.
+/// "share the smallest latest minute": the entry with the fewest minutes left of all has a larger d. It waits, in the
+/// second day though it was running.
 #[test]
 fn minutes_left_count_among_the_smallest_d_alone() {
     planned(9, &[(0, 9, 1), (0, 8, 3), (0, 8, 2)], "2 2 1 1 1 0 - - -");
@@ -165,8 +166,8 @@ fn after_an_idle_minute_the_fewest_minutes_left_are_taken_then_the_lowest_place(
     planned(4, &[(1, 4, 1), (1, 4, 1)], "- 0 1 -");
 }
 
-/// Place 1 has minute 0 and is interrupted. At minute 3 it has two minutes left, as place 0 has, which is taken and goes
-/// on; and where place 3 has one, that is taken before both.
+/// Place 1 has minute 0 and is interrupted. At minute 3 it has two minutes left, as place 0 has, which is taken and
+/// goes on; and where place 3 has one, that is taken before both.
 #[test]
 fn only_the_very_minute_before_counts() {
     planned(9, &[(3, 9, 2), (0, 9, 3), (1, 3, 2)], "1 2 2 0 0 1 1 - -");
