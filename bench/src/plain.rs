@@ -1,4 +1,5 @@
-//! The plain Rust program: document 01 line by line, without the proved code and without a faster way.
+//! The plain Rust program: document 01 with document 02's tie rule, line by line, without the proved code and
+//! without a faster way.
 //! Jackson's schedule goes minute by minute, and every start, end and bound is found by trying one minute
 //! after the other. Like the library it takes a list as 450 numbers and writes what it answers into what it
 //! is lent. The value check, row 11 and the count of broken entries are those of the tests. Their second

@@ -1,4 +1,5 @@
-//! Jackson's preemptive schedule, minute by minute, from document 01's section "Jackson's minute".
+//! Jackson's preemptive schedule, minute by minute, from document 01's section "Jackson's minute" and document 02's
+//! "Clear the nearly finished box first".
 
 use crate::day::{Day, IDLE};
 
@@ -21,14 +22,15 @@ pub fn schedule(day: &Day) -> Vec<u8> {
 /// the minute before.
 fn taken(day: &Day, left: &[u16], minute: u16, before: Option<usize>) -> Option<usize> {
     let d = |place: usize| day.entries[place].d;
-    // "among entries with r reached and minutes left, take the smallest d", of equals the first
+    // "among entries with r reached and minutes left, take the smallest d"; "When several boxes share the smallest
+    // latest minute and the running box is not among them, take the one with the fewest minutes left, then the
+    // lowest place."
     let ready = |&place: &usize| day.entries[place].r <= minute && left[place] > 0;
-    let smallest = (0..day.entries.len()).filter(ready).min_by_key(|&place| d(place))?;
-    // "The entry that had the minute before, if it has minutes left, goes on unless another d is strictly
-    // smaller. Otherwise the lowest place among equals is taken."
+    let first = (0..day.entries.len()).filter(ready).min_by_key(|&place| (d(place), left[place], place))?;
+    // "The entry that had the minute before, if it has minutes left, goes on unless another d is strictly smaller."
     match before {
-        Some(running) if left[running] > 0 && d(smallest) >= d(running) => Some(running),
-        _ => Some(smallest),
+        Some(running) if left[running] > 0 && d(first) >= d(running) => Some(running),
+        _ => Some(first),
     }
 }
 

@@ -1,7 +1,7 @@
 //! What the tests of the dock planner stand on. The tests are a program for each layer: `list` (reading and
 //! writing), `jackson` (overload test and schedule of the windows as given), `narrow`, `bounds` (the calls that
-//! plan), `report` (the report's text), `program` (the built program); and `documents` for the pages and
-//! document 01's traps.
+//! plan), `report` (the report's text), `program` (the built program); and `documents` for the pages, the
+//! imports under crates/, and wrong readings of the documents.
 
 // What is tested.
 pub mod abi; // the calls of the static library
@@ -18,6 +18,7 @@ pub mod overload; // overloaded intervals
 pub mod planner; // the schedule of the windows as given, and its refusals
 pub mod reader; // from bytes to a list
 pub mod report; // from bytes to the report's text
+pub mod rule; // Jackson's rule as facts about a plan
 pub mod writer; // from a list to bytes, and the refusals of a value
 
 // Small days by trying everything.

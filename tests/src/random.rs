@@ -224,6 +224,24 @@ pub fn interrupted_day(random: &mut Random) -> Day {
     told_apart(day)
 }
 
+/// A full day in which many entries have the same r, d or p, so that ties are frequent, here and in the mirror, and a
+/// quarter of them, with a minute each, interrupts the others.
+pub fn crowded_day(random: &mut Random) -> Day {
+    let mut day = Day { h: LONGEST_DAY, entries: vec![] };
+    for place in 0..MOST_ENTRIES as u16 {
+        let quarter = random.pick(&[0, 360, 720, 1080]);
+        let (r, d, p) = if place % 4 == 0 {
+            let r = quarter + 10 + 4 * place;
+            (r, r + 1, 1)
+        } else {
+            let (r, d) = (random.pick(&[0, 0, 20, 60]), random.pick(&[300, 340, 360, 360]));
+            (quarter + r, quarter + d, random.pick(&[4, 8, 16, 24]))
+        };
+        day.entries.push(Entry { r, d, p, ..entry(random, 1) });
+    }
+    told_apart(day)
+}
+
 /// A day of at most `most` minutes and `n` entries, of which three in four or all are whole: windows of any
 /// kind, or drawn around a plan that breaks entries or not.
 pub fn mixed_day(random: &mut Random, most: u16, n: usize) -> Day {

@@ -25,11 +25,15 @@ pub fn days(h: u16, n: u32) -> impl Iterator<Item = Day> {
 
 /// The same with each entry pause or whole, whatever the others are.
 pub fn days_of_both_kinds(h: u16, n: u32) -> impl Iterator<Item = Day> {
-    days(h, n).flat_map(move |day| {
-        (0..1_u32 << n).map(move |kinds| {
-            let places: Vec<_> = (0..n as usize).filter(|place| kinds >> place & 1 == 1).collect();
-            samples::whole(day.clone(), &places)
-        })
+    days(h, n).flat_map(of_both_kinds)
+}
+
+/// A day of pause entries with each of them pause or whole, whatever the others are.
+pub fn of_both_kinds(day: Day) -> impl Iterator<Item = Day> {
+    let n = day.entries.len();
+    (0..1_u32 << n).map(move |kinds| {
+        let places: Vec<_> = (0..n).filter(|place| kinds >> place & 1 == 1).collect();
+        samples::whole(day.clone(), &places)
     })
 }
 

@@ -1,5 +1,6 @@
 //! Every day of at most 4 minutes and 3 entries of both kinds: its plan, its bounds and both plans of every
-//! place, held against all plans in its settled windows.
+//! place, held against all plans in its settled windows. Windows, moves and bounds are found from all plans, by no rule
+//! for ties: "Settled windows, least ends and greatest starts keep their values" (document 02).
 
 use dock_tests::abi::Call;
 use dock_tests::check_bounds::{ask, ask_all, by_trying_everything, calls, refused};

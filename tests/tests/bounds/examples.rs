@@ -76,7 +76,7 @@ fn example_b() {
     shown(&day, 1, "0 0 1 1", "0 0 1 1");
 }
 
-/// "(c) H 10, [2,5) p 2 twice: 9, from 2 to 5, work 4. With p 2 and 1: accepted."
+/// "(c) H 10, [2,5) p 2 twice: 9, from 2 to 5, work 4. With p 2 and 1: accepted." The shorter one goes first.
 #[test]
 fn example_c() {
     refused(&boxes(10, "p[2,5)2 p[2,5)2"), 9, [2, 5, 4]);
@@ -87,7 +87,7 @@ fn example_c() {
         broken: 0,
         ends: &[4, 3],
         starts: &[3, 4],
-        plan: "- - 0 0 1 - - - - -",
+        plan: "- - 1 0 0 - - - - -",
     };
     planned(&day, says);
     shown(&day, 0, "- - 0 0 1 - - - - -", "- - 1 0 0 - - - - -");
@@ -193,32 +193,57 @@ fn the_plans_shown_of_the_sample_input() {
     }
 }
 
-/// "The entry that had the minute before": one that was interrupted earlier is not that.
+/// The plan that a call gives a day.
+#[track_caller]
+fn gives(call: Call, h: u16, entries: &str, minutes: &str) {
+    assert_eq!(asked(call, &boxes(h, entries)).1.plan, plan(minutes), "{call:?} of {entries}");
+}
+
+/// "The entry that had the minute before": one that was interrupted earlier is not that. It is taken where it has fewer
+/// minutes left than the other, and waits where it has more, or as many and a higher place.
 #[test]
 fn an_interrupted_entry_does_not_go_on() {
-    let day = boxes(9, "p[0,9)3 p[0,9)2 p[1,4)2");
-    assert_eq!(asked(Call::Plan, &day).1.plan, plan("0 2 2 0 0 1 1 - -"));
-    let day = boxes(6, "p[1,6)2 p[0,6)2 p[1,2)1");
-    assert_eq!(asked(Call::Plan, &day).1.plan, plan("1 2 0 0 1 -"));
+    gives(Call::Plan, 9, "p[0,9)3 p[0,9)2 p[1,4)2", "1 2 2 1 0 0 0 - -");
+    gives(Call::Plan, 6, "p[1,6)2 p[0,6)2 p[1,2)1", "1 2 1 0 0 -");
+    gives(Call::Plan, 6, "p[0,6)3 p[1,6)1 p[1,2)1", "0 2 1 0 0 -");
+    gives(Call::Plan, 6, "p[1,6)2 p[0,6)3 p[1,2)1", "1 2 0 0 1 1");
 }
 
-/// The same rule in an early plan: an equal d does not interrupt, and one that was interrupted does not go on.
+/// The same rule in an early plan: the fewest minutes left begin; an equal d does not interrupt, though it has fewer;
+/// and one that was interrupted does not go on.
 #[test]
 fn the_tie_rule_of_an_early_plan() {
-    assert_eq!(asked(Call::Early(2), &boxes(4, "p[2,4)1 p[0,4)2 p[0,1)1")).1.plan, plan("2 1 1 0"));
-    assert_eq!(asked(Call::Early(1), &boxes(4, "p[1,4)1 p[1,2)1 p[0,4)2")).1.plan, plan("2 1 0 2"));
+    gives(Call::Early(2), 4, "p[0,4)2 p[0,4)1 p[0,1)1", "2 1 0 0");
+    gives(Call::Early(2), 4, "p[2,4)1 p[0,4)2 p[0,1)1", "2 1 1 0");
+    gives(Call::Early(2), 5, "p[2,5)1 p[0,5)3 p[0,1)1", "2 1 1 1 0");
+    gives(Call::Early(1), 4, "p[1,4)1 p[1,2)1 p[0,4)2", "2 1 0 2");
 }
 
-/// In a late plan the rule is that of the mirrored day: the entry that has the minute after goes on, and the
-/// lowest place among equals is taken from the last minute back.
+/// In a late plan the rule is that of the mirrored day: the entry that has the minute after goes on, and the fewest
+/// minutes left are those not yet placed from the last minute back.
 #[test]
 fn the_tie_rule_of_a_late_plan_is_that_of_the_mirror() {
-    let day = boxes(4, "w[1,4)2 w[1,4)1 w[0,1)1");
-    assert_eq!(asked(Call::Late(2), &day).1.plan, plan("2 1 0 0"));
-    let day = boxes(6, "p[0,5)2 p[0,6)3 p[0,1)1");
-    assert_eq!(asked(Call::Late(2), &day).1.plan, plan("2 0 0 1 1 1"), "an equal d does not interrupt");
-    let day = boxes(4, "p[0,2)1 p[0,4)2 p[0,3)1");
-    assert_eq!(asked(Call::Late(2), &day).1.plan, plan("1 0 2 1"), "place 1 was interrupted");
+    gives(Call::Late(2), 4, "w[1,4)2 w[1,4)1 w[0,1)1", "2 0 0 1");
+    gives(Call::Late(2), 4, "w[1,4)1 w[1,4)2 w[0,1)1", "2 1 1 0");
+    gives(Call::Late(2), 3, "p[1,3)1 p[1,3)1 p[0,1)1", "2 1 0");
+    // an equal d does not interrupt
+    gives(Call::Late(2), 6, "p[0,5)2 p[0,6)3 p[0,1)1", "2 0 0 1 1 1");
+    gives(Call::Late(2), 6, "p[0,5)1 p[0,6)3 p[0,1)1", "2 - 0 1 1 1");
+    // place 1 was interrupted, and has as many minutes left as place 0, or fewer
+    gives(Call::Late(2), 4, "p[0,2)1 p[0,4)2 p[0,3)1", "1 0 2 1");
+    gives(Call::Late(2), 6, "p[0,5)2 p[0,6)2 p[4,5)1", "- 0 0 1 2 1");
+}
+
+/// The nearly finished box first breaks place 0 of the first day, which the lowest place first would not; and it keeps
+/// place 1 of the second day in one piece, which the lowest place first would break.
+#[test]
+fn the_tie_rule_and_broken_entries() {
+    let windows = "w[0,5)2 w[0,5)1 w[2,4)1";
+    let (ends, starts) = (&[2, 1, 3], &[3, 4, 3]);
+    planned(&boxes(5, windows), Says { windows, moves: 0, broken: 1, ends, starts, plan: "1 0 2 0 -" });
+    let windows = "w[1,3)1 w[0,4)2 w[0,4)1";
+    let (ends, starts) = (&[2, 2, 1], &[2, 2, 3]);
+    planned(&boxes(4, windows), Says { windows, moves: 0, broken: 0, ends, starts, plan: "2 0 1 1" });
 }
 
 /// "A plan may break a whole entry", though another plan would not.

@@ -9,4 +9,5 @@ mod ignored;
 mod limits;
 mod places;
 mod random_days;
+mod rule;
 mod value;

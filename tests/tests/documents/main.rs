@@ -1,9 +1,13 @@
-//! What the documents say: the pages of this repository, and document 01's traps.
+//! What the documents say: the pages of this repository, what its files import, the traps of document 01, wrong
+//! readings of document 02's tie rule, and the smallest days that it changes.
 
 mod format;
+mod imports;
 mod pages;
 mod picture;
 mod refusals;
+mod smallest_days;
+mod tie_traps;
 mod traps;
 
 use dock_tests::cases::root;

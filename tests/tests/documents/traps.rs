@@ -2,12 +2,13 @@
 //! entries by serial; letting an equal d interrupt; stopping after one round, which fails (a); taking the
 //! timetable rule of document 004, which gives least end 3 in (b); seeking the least start by halving".
 
+use crate::tie_traps::smallest_first;
 use dock_tests::abi::{self, Call};
 use dock_tests::check::planned;
 use dock_tests::check_bounds::asked;
 use dock_tests::check_narrow::{by_trying_everything, rounds_leave, settled};
 use dock_tests::check_report::report;
-use dock_tests::day::{Day, Entry, IDLE};
+use dock_tests::day::{Day, Entry};
 use dock_tests::samples::{boxes, plan, windows, with_serials};
 use dock_tests::settled::{windows_of, Plans};
 use dock_tests::{brute, flat, mirror, narrow, writer};
@@ -41,21 +42,14 @@ fn keying_entries_by_serial() {
     assert_eq!(keyed_by_serial(&differ), differ, "serials that differ would not tell");
 }
 
-/// Each minute goes to the smallest d, the lowest place among equals, whoever had the minute before.
+/// Each minute goes to the smallest d, of equals to the one with the fewest minutes left, then the lowest place
+/// (document 02), whoever had the minute before.
 fn interrupted_by_an_equal_d(day: &Day) -> Vec<u8> {
-    let mut left: Vec<u16> = day.entries.iter().map(|entry| entry.p).collect();
-    let minute = |minute: u16| {
-        let ready = |&place: &usize| day.entries[place].r <= minute && left[place] > 0;
-        let taken = (0..left.len()).filter(ready).min_by_key(|&place| day.entries[place].d);
-        taken.map_or(IDLE, |place| {
-            left[place] -= 1;
-            place as u8
-        })
-    };
-    (0..day.h).map(minute).collect()
+    smallest_first(day, |ready| (ready.entry.d, ready.left, ready.place))
 }
 
-/// Example (f), and a day in which two entries of lower places come one after the other.
+/// Example (f), where the equal d has a lower place and as many minutes left, and a day in which two entries with fewer
+/// minutes left come one after the other.
 #[test]
 fn letting_an_equal_d_interrupt() {
     let day = windows(6, &[(1, 6, 2), (0, 6, 3)]);

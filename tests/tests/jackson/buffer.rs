@@ -59,7 +59,7 @@ fn any_byte_after_h_is_kept() {
 #[test]
 fn whatever_the_buffer_held_the_plan_is_the_same() {
     let day = windows(9, &[(0, 9, 3), (0, 9, 2), (1, 4, 2)]);
-    let wanted = plan("0 2 2 0 0 1 1 - -");
+    let wanted = plan("1 2 2 1 0 0 0 - -");
     for before in ["1 1 0 2 2 0 0 - -", "- - - - - - - - -", "0 0 0 0 0 0 0 0 0", "2 2 2 2 2 2 2 2 2"] {
         let mut bytes = plan(before);
         assert_eq!(abi::schedule_into(&flat::of_day(&day), &mut bytes).number, 0);

@@ -13,11 +13,11 @@ fn example_c_with_p_2_twice_is_overloaded() {
     assert_eq!(overloaded(&day), Interval { a: 2, b: 5, work: 4 });
 }
 
-/// "(c) .. With p 2 and 1: accepted."
+/// "(c) .. With p 2 and 1: accepted." The shorter one goes first (document 02).
 #[test]
 fn example_c_with_p_2_and_1_is_accepted() {
     let day = windows(10, &[(2, 5, 2), (2, 5, 1)]);
-    assert_eq!(planned(&day), [IDLE, IDLE, 0, 0, 1, IDLE, IDLE, IDLE, IDLE, IDLE]);
+    assert_eq!(planned(&day), [IDLE, IDLE, 1, 0, 0, IDLE, IDLE, IDLE, IDLE, IDLE]);
 }
 
 /// "(d) H 4, [0,4) p 2, [2,4) p 2, [2,4) p 1: 9, from 2 to 4, work 3." [0,4) with work 5 is overloaded too.

@@ -146,6 +146,6 @@ fn a_whole_entry_is_interrupted_too() {
 /// narrowing would refuse has its plan.
 #[test]
 fn windows_of_whole_entries_are_not_narrowed() {
-    assert_eq!(planned(&all_whole(windows(5, &[(1, 5, 2), (1, 3, 1), (0, 5, 2)]))), plan("2 1 0 0 2"));
+    assert_eq!(planned(&all_whole(windows(5, &[(1, 5, 2), (1, 3, 1), (0, 5, 2)]))), plan("2 1 2 0 0"));
     assert_eq!(planned(&all_whole(windows(3, &[(0, 3, 2), (1, 2, 1)]))), plan("0 1 0"));
 }

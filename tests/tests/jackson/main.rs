@@ -7,6 +7,7 @@ mod ignored;
 mod limits;
 mod overload_interval;
 mod random_days;
+mod rule;
 mod serials;
 mod ties;
 mod value;

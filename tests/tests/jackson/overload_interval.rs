@@ -47,7 +47,7 @@ fn entries_far_inside_count_too() {
 /// "it is overloaded if the work exceeds b - a": as much work as minutes is not too much.
 #[test]
 fn as_much_work_as_minutes_is_not_overloaded() {
-    assert_eq!(planned(&windows(9, &[(2, 5, 2), (2, 5, 1)])), plan("- - 0 0 1 - - - -"));
+    assert_eq!(planned(&windows(9, &[(2, 5, 2), (2, 5, 1)])), plan("- - 1 0 0 - - - -"));
     assert_eq!(shown(&windows(9, &[(2, 5, 2), (2, 5, 2)])), (2, 5, 4));
     assert_eq!(planned(&windows(3, &[(0, 3, 1), (0, 2, 1), (0, 1, 1)])), plan("2 1 0"));
 }

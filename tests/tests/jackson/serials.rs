@@ -56,10 +56,11 @@ fn one_serial_with_windows_that_share_a_minute_is_turned_back() {
 
 #[test]
 fn between_two_of_one_serial_the_tie_rule_is_the_same() {
-    let entries = [(1, 6, 2), (0, 6, 2), (1, 2, 1)];
     for serials in [[7, 8, 9], [9, 8, 7], [8, 7, 9]] {
-        let day = with_serials(windows(6, &entries), &serials);
-        assert_eq!(planned(&day), plan("1 2 0 0 1 -"));
+        let day = with_serials(windows(6, &[(1, 6, 2), (0, 6, 2), (1, 2, 1)]), &serials);
+        assert_eq!(planned(&day), plan("1 2 1 0 0 -"), "one minute left and two");
+        let day = with_serials(windows(6, &[(1, 6, 2), (0, 6, 3), (1, 2, 1)]), &serials);
+        assert_eq!(planned(&day), plan("1 2 0 0 1 1"), "two minutes left each");
     }
     let entries = [(3, 9, 2), (3, 9, 2), (1, 3, 2), (0, 1, 1)];
     for serials in [[8, 9, 7, 6], [8, 7, 7, 7], [7, 8, 7, 8], [7, 8, 8, 8], [8, 7, 8, 7]] {
@@ -69,7 +70,7 @@ fn between_two_of_one_serial_the_tie_rule_is_the_same() {
 }
 
 /// "The entry that had the minute before .. goes on": the next entry of its serial is another one. At minute 3 places
-/// 0 and 1 have the same d, and 0 is lower, though 1 has the serial that had minute 2.
+/// 0 and 1 have the same d and as many minutes left, and 0 is lower, though 1 has the serial that had minute 2.
 #[test]
 fn an_entry_does_not_go_on_in_the_next_of_its_serial() {
     let day = with_serials(windows(9, &[(3, 9, 2), (3, 9, 2), (1, 3, 2)]), &[8, 7, 7]);
@@ -134,7 +135,7 @@ fn two_depots(later: u16) -> (Day, Vec<u32>) {
 fn two_depots_with_the_same_serials_in_one_list() {
     let (day, serials) = two_depots(0);
     let bytes = planned(&day);
-    assert_eq!(bytes, plan("0 5 5 1 1 6 1 2 2 0 0 0 3 4 4 4 7 7 - -"));
+    assert_eq!(bytes, plan("4 5 5 1 1 6 1 2 2 4 4 3 7 7 0 0 0 0 - -"));
     every_entry_is_kept(&day, &bytes);
     turned_back(&with_serials(day, &serials), 4);
 }

@@ -40,7 +40,7 @@ fn example_b() {
     says(&boxes(4, "w[0,3)2 p[0,4)2"), &lines);
 }
 
-/// "(c) H 10, [2,5) p 2 twice: 9, from 2 to 5, work 4. With p 2 and 1: accepted."
+/// "(c) H 10, [2,5) p 2 twice: 9, from 2 to 5, work 4. With p 2 and 1: accepted." The shorter one goes first.
 #[test]
 fn example_c() {
     says(&boxes(10, "p[2,5)2 p[2,5)2"), &["refused 9 from 2 to 5 work 4"]);
@@ -48,8 +48,8 @@ fn example_c() {
         "day 10 entries 2 moves 0 broken 0",
         "0 101 - pause 2 5 2 4 3",
         "1 102 - pause 2 5 1 3 4",
-        "2 4 0",
-        "4 5 1",
+        "2 3 1",
+        "3 5 0",
     ];
     says(&boxes(10, "p[2,5)2 p[2,5)1"), &lines);
 }

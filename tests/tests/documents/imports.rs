@@ -1,0 +1,179 @@
+//! What the definitions, proofs and code under crates/ import, file by file. "Settled windows, least ends and greatest
+//! starts keep their values" (document 02): what defines them never reaches the file in which Jackson's minute, its tie
+//! rule and the schedule are defined; nor do the steps of the law that a plan exists exactly when no interval is
+//! overloaded, so that a rule for ties leaves them as they are.
+
+use crate::page;
+use dock_tests::cases::{names, root};
+use std::collections::BTreeMap;
+
+/// Where Jackson's minute, its tie rule and the schedule are defined.
+const MINUTES: &str = "crates/jackson/specs/Minutes.antt";
+
+/// The files that are met from one on, each with the one that imports it.
+type Met = BTreeMap<String, String>;
+
+/// All that a file imports, and what that imports, and so on.
+fn met(from: &str, imports: impl Fn(&str) -> Vec<String>) -> Met {
+    let mut met = Met::from([(from.to_string(), String::new())]);
+    let mut waiting = vec![from.to_string()];
+    while let Some(file) = waiting.pop() {
+        for import in imports(&file) {
+            if !met.contains_key(&import) {
+                met.insert(import.clone(), file.clone());
+                waiting.push(import);
+            }
+        }
+    }
+    met
+}
+
+/// The files between one that was met and the one from which all were.
+fn way(met: &Met, file: &str) -> String {
+    match &met[file][..] {
+        "" => file.to_string(),
+        by => format!("{} -> {file}", way(met, by)),
+    }
+}
+
+/// The files of a folder that have this ending.
+fn files(folder: &str, ending: &str) -> Vec<String> {
+    names(&root().join(folder), ending).iter().map(|name| format!("{folder}/{name}.{ending}")).collect()
+}
+
+/// The definitions and proofs that a file imports, by lines "use Rattle.jackson.specs.Windows.{Windows}" and
+/// "ghost use ..". There is no other way to name another file, and each such line must lead to one. Modules of
+/// `specs.declared` are made from the code's types and import nothing.
+#[track_caller]
+fn definitions(file: &str) -> Vec<String> {
+    let text = page(file);
+    let lines = text.lines().filter(|line| line.contains("Rattle·"));
+    let modules = lines.map(|line| {
+        let line = line.trim_start();
+        let module = line.strip_prefix("ghost ").unwrap_or(line).strip_prefix("use Rattle·");
+        module.unwrap_or_else(|| panic!("{file}: {line} is no import"))
+    });
+    modules.filter_map(|module| definition(file, module)).collect()
+}
+
+/// The file of a module "jackson·specs.specs.Windows.{Windows}".
+#[track_caller]
+fn definition(file: &str, import: &str) -> Option<String> {
+    let module = import.split(".{").next().and_then(|part| part.split(" as ").next()).expect("a module");
+    let (owner, path) = module.split_once('.').expect("a crate and a path");
+    if path.starts_with("specs.declared.") {
+        return None;
+    }
+    let name = owner.split('·').next().expect("a crate");
+    let found = format!("crates/{name}/{}.antt", path.replace('.', "/"));
+    assert!(root().join(&found).is_file(), "{file}: {import} leads to no file");
+    Some(found)
+}
+
+/// The code that a file imports, by lines "use crate::search::Found;", "use list::types::Verdict;", "use
+/// jackson::mirrored;" and, in lib.rt, "pub use mirror::mirrored;".
+#[track_caller]
+fn code(file: &str) -> Vec<String> {
+    let own = file.split('/').nth(1).expect("a crate");
+    let text = page(file);
+    let lines = text.lines().filter_map(|line| {
+        let line = line.trim_start();
+        let found = line.strip_prefix("pub use ").map(|path| format!("crate::{path}"));
+        found.or(line.strip_prefix("use ").map(String::from))
+    });
+    lines.map(|import| source(file, own, import.trim_end_matches(';'))).collect()
+}
+
+/// The file that declares "crate::search::Found", "list::types::Verdict" or "jackson::mirrored".
+#[track_caller]
+fn source(file: &str, own: &str, import: &str) -> String {
+    let parts: Vec<&str> = import.split("::").collect();
+    let name = if parts[0] == "crate" { own } else { parts[0] };
+    let module = match parts[1..] {
+        [module, _] => module.to_string(),
+        [item] => exporting(name, item),
+        _ => panic!("{file}: {import} is not understood"),
+    };
+    let found = format!("crates/{name}/src/{module}.rt");
+    assert!(root().join(&found).is_file(), "{file}: {import} leads to no file");
+    found
+}
+
+/// The module from which a crate exports an item: "pub use mirror::mirrored;".
+#[track_caller]
+fn exporting(name: &str, item: &str) -> String {
+    let text = page(&format!("crates/{name}/src/lib.rt"));
+    let mut exports = text.lines().filter_map(|line| line.strip_prefix("pub use ")?.split_once("::"));
+    let found = exports.find(|(_, exported)| exported.trim_end_matches(';') == item);
+    found.unwrap_or_else(|| panic!("{name} exports no {item}")).0.to_string()
+}
+
+/// None of these files leads to the tie rule. Gives how many files were met from all of them.
+#[track_caller]
+fn never_reach_minutes(from: &[String]) -> usize {
+    let mut all = Met::new();
+    for file in from {
+        let met = met(file, definitions);
+        assert!(!met.contains_key(MINUTES), "{}", way(&met, MINUTES));
+        all.extend(met);
+    }
+    all.len()
+}
+
+/// Every definition of narrowing, those of steps, rounds and settled windows among them.
+#[test]
+fn narrowing_is_defined_without_the_tie_rule() {
+    let specs = files("crates/narrow/specs", "antt");
+    assert!(specs.len() > 5, "{specs:?}");
+    assert!(never_reach_minutes(&specs) > 12);
+}
+
+#[test]
+fn bounds_are_defined_without_the_tie_rule() {
+    assert!(never_reach_minutes(&["crates/bounds/specs/Ends.antt".to_string()]) > 4);
+}
+
+/// What the contracts of narrowing's code say.
+#[test]
+fn narrowings_code_promises_nothing_of_the_tie_rule() {
+    let sources = files("crates/narrow/src", "rt");
+    assert!(sources.len() > 3, "{sources:?}");
+    assert!(never_reach_minutes(&sources) > 12);
+}
+
+/// "the narrower uses only the planner's promise that a plan exists exactly without overload": the code that narrows,
+/// and that finds least ends and greatest starts, never calls Jackson's minute, nor the schedule that is made of it.
+#[test]
+fn code_of_windows_and_bounds_does_not_call_jacksons_minute() {
+    let bounds = "crates/bounds/src/ends.rt".to_string();
+    for file in files("crates/narrow/src", "rt").into_iter().chain([bounds]) {
+        let met = met(&file, code);
+        for planner in ["crates/jackson/src/minute.rt", "crates/jackson/src/fill.rt"] {
+            assert!(!met.contains_key(planner), "{}", way(&met, planner));
+        }
+        let has_days = met.keys().find(|file| page(file).contains("::types::Day;"));
+        assert_eq!(has_days, None, "a day's methods are Jackson's minute");
+    }
+}
+
+/// The steps of the law that a plan exists exactly when no interval is overloaded: they hold for every rule that takes
+/// the smallest d, whatever it does with ties.
+#[test]
+fn the_law_of_plans_is_proved_without_the_tie_rule() {
+    let steps = ["PlanWork", "OneMinute", "RunningDays", "Endpoints", "IntervalWork", "ShownInterval"];
+    let files = steps.map(|name| format!("crates/jackson/proofs/{name}.antt"));
+    assert!(never_reach_minutes(&files) > 10);
+}
+
+/// The search is not blind: what speaks of plans leads to the tie rule, and their code calls Jackson's minute.
+#[test]
+fn plans_are_defined_proved_and_coded_with_the_tie_rule() {
+    for file in ["crates/bounds/specs/ShownPlans.antt", "crates/jackson/proofs/Schedules.antt"] {
+        let met = met(file, definitions);
+        assert!(met.contains_key(MINUTES), "{file} leads to {met:?}");
+    }
+    let met = met("crates/bounds/src/shown.rt", code);
+    assert!(met.contains_key("crates/jackson/src/fill.rt"), "{met:?}");
+    assert!(page("crates/jackson/src/fill.rt").contains("use crate::types::Day;"));
+    assert!(code("crates/narrow/src/rounds.rt").contains(&"crates/jackson/src/interval.rt".to_string()));
+}
