@@ -6,6 +6,7 @@ use Prim.Native.Nat.{ℕ, _+_, _-_, _<_, _≤_}
 use native.Mathlib.Omega.{arith}
 use Rattle.jackson.specs.Windows.{Windows, withD, fixedAt, Formed}
 use Rattle.jackson.specs.Plans.{Plan, IsEnd, endOf, placesIn, PlanBytes, Plannable, Consecutive}
+use Rattle.jackson.specs.Laws.{ScheduleLaw}
 use Rattle.base.proofs.Sums.{le-or-lt}
 use Rattle.jackson.proofs.PlanFacts.{minutes-within, other-windows, plan-end, end-due}
 use Rattle.jackson.proofs.Law.{schedule-law}
@@ -88,16 +89,26 @@ module _ {test : Test} (planner : Planner test) (whole : ℕ → Bool) (w : Wind
             (λ l. let e : least ≡ w .d k = omega (arith, first .due) in rw (e, own-deadline w k) (settled .plan))
             (λ l. deadline-exact w formed k place planner least (first .room) (first .due) .0 (first .passes l))
 
-    -- so the early plan is a plan with that d
-    deadline-bytes : PlanBytes (withD w k least) (earlyPlan w k least)
-    deadline-bytes =
+    early-law : ScheduleLaw (withD w k least)
+    early-law =
         let range = least-end-range test whole w formed k place in
         let there = deadline-formed w formed k place least (range .0) (range .1) in
-        schedule-law (withD w k least) (formed-roomy _ there) (there .few) .plan .0 least-plan
+        schedule-law (withD w k least) (formed-roomy _ there) (there .few)
+
+    -- so the early plan is a plan with that d
+    deadline-bytes : PlanBytes (withD w k least) (earlyPlan w k least)
+    deadline-bytes = early-law .plan .0 least-plan
 
     -- which is a plan of the windows, in one piece if k is whole, with the least end
     pub early-is : IsEarly whole w k least (earlyPlan w k least)
-    early-is = record { rule = refl; plan = bytes; keeping = record { plan = bytes .plan; unbroken = unbroken }; end = end }
+    early-is =
+        record {
+          rule = refl;
+          takes = early-law .takes;
+          plan = bytes;
+          keeping = record { plan = bytes .plan; unbroken = unbroken };
+          end = end;
+        }
       where
         m : ℕ → ℕ
         m = placesIn (earlyPlan w k least)

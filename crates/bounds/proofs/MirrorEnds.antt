@@ -47,8 +47,12 @@ module _ {test : Test} (planner : Planner test) (w : Windows) (formed : Formed w
       go true j = omega (arith, in-mirror w formed k place)
       go false j = omega (arith, in-mirror w formed k place)
 
-pub late-by-mirror : (w : Windows) (k : ℕ) → k < w .n → (e : ℕ) → e ≤ w .h
-    → latePlan w k (w .h - e) ≡ mirrorBytes (w .h) (earlyPlan (mirror w) k e)
-late-by-mirror w k place e in-day =
-    let back : w .h - (w .h - e) ≡ e = omega arith in
-    ap (λ v. mirrorBytes (w .h) (schedule v)) (sym (with-r-mirror w k place (w .h - e)) ∙ ap (withD (mirror w) k) back)
+module _ (w : Windows) (k : ℕ) (place : k < w .n) (e : ℕ) (in-day : e ≤ w .h) where
+  -- the windows of a late plan
+  pub late-windows : mirror (withR w k (w .h - e)) ≡ withD (mirror w) k e
+  late-windows =
+      let back : w .h - (w .h - e) ≡ e = omega arith in
+      sym (with-r-mirror w k place (w .h - e)) ∙ ap (withD (mirror w) k) back
+
+  pub late-by-mirror : latePlan w k (w .h - e) ≡ mirrorBytes (w .h) (earlyPlan (mirror w) k e)
+  late-by-mirror = ap (λ v. mirrorBytes (w .h) (schedule v)) late-windows

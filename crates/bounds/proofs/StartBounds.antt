@@ -13,10 +13,11 @@ use Rattle.narrow.specs.Searching.{Test}
 use Rattle.narrow.specs.Settling.{Settled}
 use Rattle.narrow.proofs.Planners.{Planner}
 use Rattle.jackson.proofs.MirrorWindows.{formed-mirror, mirror-back}
+use Rattle.jackson.proofs.OneSchedule.{follows-same}
 use Rattle.narrow.proofs.MirrorSettled.{consecutive-mirror, settled-mirror}
 use Rattle.bounds.specs.Ends.{leastEnd, greatestStart, Keeping}
 use Rattle.bounds.specs.ShownPlans.{earlyPlan, latePlan, IsEarly, IsLate}
-use Rattle.bounds.proofs.MirrorEnds.{start-by-mirror, late-by-mirror}
+use Rattle.bounds.proofs.MirrorEnds.{start-by-mirror, late-windows, late-by-mirror}
 use Rattle.bounds.proofs.EndBounds.{end-least, early-is}
 
 -- a start is an end in the mirror
@@ -88,6 +89,7 @@ module _ {test : Test} (planner : Planner test) (whole : ℕ → Bool) (w : Wind
       rw (start-by-mirror planner w formed k place whole, late-by-mirror w k place least (early .end .within))
       (record {
         rule = sym (late-by-mirror w k place least (early .end .within));
+        takes = rw (late-windows w k place least (early .end .within)) (follows-same _ (placesIn bs) _ turned-back (early .takes));
         plan = rw (mirror-back w formed) at (mirror-bytes (mirror w) bs (early .plan));
         keeping = rw (mirror-back w formed) at (keeping-mirror whole (mirror w) there k place bs (early .plan) (early .keeping));
         start = end-mirror (w .h) bs k least (early .end);
@@ -98,6 +100,11 @@ module _ {test : Test} (planner : Planner test) (whole : ℕ → Bool) (w : Wind
 
       bs : List ℕ
       bs = earlyPlan (mirror w) k least
+
+      turned-back : (t : ℕ) → t < w .h → mirrorPlan (w .h) (placesIn (mirrorBytes (w .h) bs)) t ≡ placesIn bs t
+      turned-back t below =
+          let e : w .h - suc (w .h - suc t) ≡ t = omega arith in
+          mirror-at (w .h) bs (w .h - suc t) (omega arith) ∙ ap (placesIn bs) e
 
       early : IsEarly whole (mirror w) k least bs
       early = early-is planner whole (mirror w) there k place (settled-mirror whole w formed settled)

@@ -5,9 +5,9 @@ use mathlib.Core.Bool.{Bool}
 use mathlib.Core.List.{List}
 use Rattle.jackson.specs.Windows.{Windows, withR, withD}
 use Rattle.jackson.specs.Plans.{IsEnd, IsStart, placesIn, PlanBytes}
-use Rattle.jackson.specs.Mirrors.{mirror, mirrorBytes}
+use Rattle.jackson.specs.Mirrors.{mirror, mirrorPlan, mirrorBytes}
 use Rattle.jackson.specs.Intervals.{overloadOf}
-use Rattle.jackson.specs.Minutes.{schedule}
+use Rattle.jackson.specs.Minutes.{schedule, FollowsJackson}
 use Rattle.bounds.specs.Ends.{leastEnd, greatestStart, Keeping}
 use Rattle.bounds.specs.declared.types.Shown.{Shown}
 use Rattle.bounds.specs.declared.types.Shown.the-variants.{Early, Late}
@@ -29,16 +29,20 @@ abbrev pub shownPlan : Shown → (ℕ → Bool) → ℕ → Windows → List ℕ
 shownPlan Early whole k w = earlyPlan w k (leastEnd overloadOf whole w k)
 shownPlan Late whole k w = latePlan w k (greatestStart overloadOf whole w k)
 
--- the early plan of entry k: document 01's, a plan in the windows w that keeps entry k in one piece if it is whole, with the end e
+-- the early plan of entry k: document 01's, which follows Jackson's rule; a plan in the windows w that keeps entry k in one piece if it is
+-- whole, with the end e
 pub record IsEarly (whole : ℕ → Bool) (w : Windows) (k e : ℕ) (bytes : List ℕ) : Type 0 where
   pub rule : bytes ≡ earlyPlan w k e
+  pub takes : FollowsJackson (withD w k e) (placesIn bytes)
   pub plan : PlanBytes w bytes
   pub keeping : Keeping whole w k (placesIn bytes)
   pub end : IsEnd (w .h) (placesIn bytes) k e
 
--- the late plan likewise, with the start s
+-- the late plan likewise, with the start s: it follows the rule in the mirror, so from the day's end back, where the minutes left are those
+-- not yet placed and the minute before is the one after
 pub record IsLate (whole : ℕ → Bool) (w : Windows) (k s : ℕ) (bytes : List ℕ) : Type 0 where
   pub rule : bytes ≡ latePlan w k s
+  pub takes : FollowsJackson (mirror (withR w k s)) (mirrorPlan (w .h) (placesIn bytes))
   pub plan : PlanBytes w bytes
   pub keeping : Keeping whole w k (placesIn bytes)
   pub start : IsStart (w .h) (placesIn bytes) k s

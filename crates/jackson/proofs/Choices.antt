@@ -42,6 +42,7 @@ module _ (s : State) where
     scan-some i h = best-some idle (isReady s) (comesBefore s) comes-before-ranks (s .windows .n) few i (h .place) (to-test i h)
 
     module _ (i : ℕ) (h : Ready (s .windows) (s .t) i) where
+      -- no ready place comes before the one found
       unbeaten : (s .windows .d (earliestDeadline s) ≤ s .windows .d i)
           × (s .windows .d i ≡ s .windows .d (earliestDeadline s) → s .windows .p (earliestDeadline s) ≤ s .windows .p i)
       unbeaten = not-smaller-then (s .windows .d) (s .windows .p) i _ (scan-some i h .unbeaten i (h .place) (to-test i h))
@@ -63,8 +64,8 @@ module _ (s : State) where
                 none = λ i h _. omega arith;
               };
           goes-on = λ _ _. refl;
-          fewest = λ i _ alone _. absurd (alone (record { ready = z .0; deadline = refl }));
-          lowest = λ i _ alone _ _. absurd (alone (record { ready = z .0; deadline = refl }));
+          fewest = λ i apart _. absurd (apart (record { ready = z .0; deadline = refl }));
+          lowest = λ i apart _ _. absurd (apart (record { ready = z .0; deadline = refl }));
           idles = λ h. absurd (omega arith);
         }
 
@@ -81,8 +82,8 @@ module _ (s : State) where
                 none = λ i _ h. empty i (h .place) (to-test i h);
               };
           goes-on = λ h _. absurd (empty (s .last) (h .place) (to-test (s .last) h));
-          fewest = λ i h _ _. absurd (omega arith);
-          lowest = λ i h _ _ _. absurd (omega arith);
+          fewest = λ i _ tied. absurd (empty i (tied .ready .place) (to-test i (tied .ready)));
+          lowest = λ i _ tied _. absurd (empty i (tied .ready .place) (to-test i (tied .ready)));
           idles = λ _. q;
         })
         (λ b.
@@ -95,9 +96,9 @@ module _ (s : State) where
                 none = λ i h _. omega (arith, b .below);
               };
           goes-on = λ h alone. absurd (true≢false (sym (to-goes-on h (omega (arith, alone (earliestDeadline s) first))) ∙ e));
-          fewest = λ i _ _ tied. unbeaten i (tied .ready) .1 (tied .deadline);
+          fewest = λ i _ tied. unbeaten i (tied .ready) .1 (tied .deadline);
           lowest =
-              λ i _ _ tied q.
+              λ i _ tied q.
               let above : i < earliestDeadline s → ⊥ = λ l. omega (arith, more-below i (tied .ready) l (tied .deadline)) in
               omega arith;
           idles = λ h. absurd (omega (arith, b .below));
@@ -128,11 +129,12 @@ not-above s j k a b = go (decLt j (s .windows .n)) (decLt k (s .windows .n)) (�
         let x = a .deadline .taken h in
         let y = b .deadline .taken l in
         let e : s .windows .d k ≡ s .windows .d j = omega (arith, a .deadline .least k h y, b .deadline .least j l x) in
-        let alone : Tied s j (s .last) → ⊥ = λ tied. q (last-taken s j a h tied) in
-        let fewer = b .fewest j l (λ tied. alone (record { ready = tied .ready; deadline = tied .deadline ∙ e }))
+        let apart : Tied s j (s .last) → ⊥ = λ tied. q (last-taken s j a h tied) in
+        let fewer =
+        b .fewest j (λ tied. apart (record { ready = tied .ready; deadline = tied .deadline ∙ e }))
         (record { ready = x; deadline = sym e }) in
         let tied : Tied s j k = record { ready = y; deadline = e } in
-        a .lowest k h alone tied (omega (arith, a .fewest k h alone tied, fewer))
+        a .lowest k apart tied (omega (arith, a .fewest k apart tied, fewer))
     go (yes h) (no l) q = omega arith
     go (no h) (yes l) q = absurd (a .deadline .none k (omega arith) (b .deadline .taken l))
     go (no h) (no l) q = omega (arith, a .idles (omega arith), b .idles (omega arith))

@@ -1,4 +1,5 @@
--- The law: a plan exists exactly when no interval is overloaded, and then Jackson's preemptive schedule is one.
+-- The law: a plan exists exactly when no interval is overloaded, and then every rule of earliest deadline makes one, Jackson's preemptive
+-- schedule among them.
 -- Assumes nothing.
 use mathlib.Core.Path.{_≡_, refl}
 use Prim.Native.Nat.{ℕ, _≤_}
@@ -14,9 +15,10 @@ use Rattle.jackson.proofs.PlanWork.{plan-fits}
 use Rattle.jackson.proofs.RunningDays.{rest-of-day, run-plan}
 use Rattle.jackson.proofs.Endpoints.{fits-none, none-fits}
 use Rattle.jackson.proofs.ShownInterval.{accepted-none, none-accepted, refused-shown}
-use Rattle.jackson.proofs.Schedules.{schedule-bytes, schedule-takes}
+use Rattle.jackson.proofs.Schedules.{schedule-bytes}
+use Rattle.jackson.proofs.OneSchedule.{schedule-follows, one-follows}
 
--- a plan leaves no interval with more work than minutes, so every rule of earliest deadline makes one
+-- a plan leaves no interval with more work than minutes, so every rule of earliest deadline makes a plan
 pub rule-law : (w : Windows) → Roomy w → RuleLaw w
 rule-law w roomy = record { plan = λ m left run. (made m left run, λ plan. (m, plan)) }
   where
@@ -69,5 +71,6 @@ module _ (w : Windows) (roomy : Roomy w) (few : w .n ≤ 255) where
   schedule-law =
       record {
         plan = (λ planned. bytes-of-none (none-of-plan planned), plan-of-bytes);
-        takes = schedule-takes w few;
+        takes = schedule-follows w few;
+        one = λ m follows. one-follows w m (placesIn (schedule w)) follows (schedule-follows w few);
       }

@@ -15,6 +15,7 @@ mod Endpoints
 pub mod Choices
 pub mod ShownInterval
 pub mod Schedules
+pub mod OneSchedule
 pub mod Law
 pub mod ListLaws
 -- Lists that are planned alike.

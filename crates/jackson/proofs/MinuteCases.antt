@@ -29,11 +29,11 @@ module _ (t r left : ℕ) where
   pub unreleased : t < r → false ≡ leb r t && ltb 0 left
   unreleased h = rw (lt-leb r t h) refl
 
-module _ (di dk pi pk : ℕ) where
-  pub equal-deadlines : di ≡ dk → ltb pi pk ≡ ltb di dk || (eqb di dk && ltb pi pk)
+module _ (di dk li lk : ℕ) where
+  pub equal-deadlines : di ≡ dk → ltb li lk ≡ ltb di dk || (eqb di dk && ltb li lk)
   equal-deadlines h = rw (eq-eqb di dk h, le-ltb di dk (omega arith)) refl
 
-  pub other-deadlines : (di ≡ dk → ⊥) → ltb di dk ≡ ltb di dk || (eqb di dk && ltb pi pk)
+  pub other-deadlines : (di ≡ dk → ⊥) → ltb di dk ≡ ltb di dk || (eqb di dk && ltb li lk)
   other-deadlines h = rw (ne-eqb di dk h) (sym (or-false _))
 
 -- the better of place i and the best so far: b says whether i is ready
@@ -61,8 +61,8 @@ module _ (i k t : ℕ) (r d left : List ℕ) (b : Bool) (says : b ≡ leb (getD 
     pub ready-after : c ≡ false → k ≡ betterReady held i k
     ready-after h = stays idle passes order i k z (sym compares ∙ h)
 
--- the choice: k is the ready place with the smallest d of the n that the arrays hold, b says whether the entry that had the minute before
--- is ready
+-- the choice: k is the place that the scan finds among the n that the arrays hold, b says whether the entry that had the minute before is
+-- ready
 module _ (s : WindowSet) (n : ℕ) (holds : n ≡ min (s .n) 64) (t last k : ℕ)
     (first : k ≡ earliestDeadline (stateAt n t (s .r) (s .d) (s .p))) where
   abbrev now : State

@@ -44,6 +44,9 @@ module _ (s : State) where
     minute-left : (i : ℕ) → minuteOf s .next .windows .p i ≡ s .windows .p i - same (minuteOf s .place) i
     minute-left i = rw (minute-on s on)
 
+    minute-last : minuteOf s .next .last ≡ minuteOf s .place
+    minute-last = rw (minute-on s on)
+
     minute-takes : s .windows .n ≤ 255 → Takes s (minuteOf s .place)
     minute-takes few = rw (minute-on s on) (chosen-takes s few)
 
@@ -79,6 +82,11 @@ module _ (s : State) where
     pub later-left : (i : ℕ) → later (suc k) s .windows .p i ≡ later k s .windows .p i - same (placeAt s k) i
     unfolding later
     later-left = minute-left (later k s) running
+
+    -- it is the one that had the minute before the next
+    pub later-last : later (suc k) s .last ≡ placeAt s k
+    unfolding later
+    later-last = minute-last (later k s) running
 
     -- it is the place that the rule takes
     pub later-takes : s .windows .n ≤ 255 → Takes (later k s) (placeAt s k)

@@ -5,10 +5,10 @@ use mathlib.Core.Path.{_≡_}
 use mathlib.Core.Logic.{_↔_}
 use Rattle.base.specs.Outcomes.{Code, answered, refused}
 use Rattle.jackson.specs.Windows.{Windows}
-use Rattle.jackson.specs.Plans.{Plan, Plannable, PlanBytes}
+use Rattle.jackson.specs.Plans.{Plan, Plannable, placesIn, PlanBytes}
 use Rattle.jackson.specs.Intervals.{Fits, NoOverload, ShowsOverload, overloadOf}
 use Rattle.jackson.specs.Rules.{Follows}
-use Rattle.jackson.specs.Minutes.{Takes, dayStart, later, placeAt, schedule}
+use Rattle.jackson.specs.Minutes.{schedule, FollowsJackson}
 
 -- the law of at most 255 windows that have room (`Roomy`); its last field holds of all windows
 pub record PlanLaw (w : Windows) : Type 0 where
@@ -28,8 +28,9 @@ pub record PlanLaw (w : Windows) : Type 0 where
 pub record RuleLaw (w : Windows) : Type 0 where
   pub plan : (m : ℕ → ℕ) (left : ℕ → ℕ → ℕ) → Follows w 0 m left → Plannable w ↔ Plan w m
 
--- the law of Jackson's preemptive schedule, for at most 255 windows that have room: it is a plan exactly if there is one, and each of
--- its minutes has the place that the rule takes
+-- the law of Jackson's preemptive schedule, for at most 255 windows that have room: it is a plan exactly if there is one; each of its
+-- minutes has the place that the rule takes, and of no other plan this holds
 pub record ScheduleLaw (w : Windows) : Type 0 where
   pub plan : Plannable w ↔ PlanBytes w (schedule w)
-  pub takes : (t : ℕ) → t < w .h → Takes (later t (dayStart w)) (placeAt (dayStart w) t)
+  pub takes : FollowsJackson w (placesIn (schedule w))
+  pub one : (m : ℕ → ℕ) → FollowsJackson w m → (t : ℕ) → t < w .h → m t ≡ placesIn (schedule w) t

@@ -1,4 +1,4 @@
--- Jackson's minute, as an algorithm (`chosen`) and as facts (`Takes`), and Jackson's preemptive schedule.
+-- Jackson's minute and Jackson's preemptive schedule, as an algorithm (`chosen`, `schedule`) and as facts (`Takes`, `FollowsJackson`).
 use Prim.Native.Nat.{ℕ, zero, suc, _+_, _-_, _<_, _≤_}
 use mathlib.Core.Path.{_≡_}
 use mathlib.Core.Bool.{Bool, cond, not, _&&_}
@@ -6,7 +6,7 @@ use mathlib.Core.List.{List}
 use lib.Dec.{leb, ltb}
 use Rattle.base.specs.Counting.{same, best, smallerThen, listOf}
 use Rattle.jackson.specs.Windows.{Windows, withLeft, windowsIn}
-use Rattle.jackson.specs.Plans.{idle}
+use Rattle.jackson.specs.Plans.{minutesOf, idle}
 use Rattle.jackson.specs.Rules.{Ready, EarliestDeadlineFirst}
 use Rattle.jackson.specs.declared.types.Day.{Day}
 
@@ -34,7 +34,7 @@ module _ (s : State) where
   abbrev pub comesBefore : ℕ → ℕ → Bool
   comesBefore = smallerThen (s .windows .d) (s .windows .p)
 
-  -- the ready place that comes before the others, "then the lowest place"; idle if there is none
+  -- the ready place before which no other comes, of several "the lowest place"; idle if there is none
   abbrev pub earliestDeadline : ℕ
   earliestDeadline = best idle (s .windows .n) isReady comesBefore
 
@@ -63,9 +63,9 @@ module _ (s : State) where
         → k ≡ s .last
     -- document 02: "When several boxes share the smallest latest minute and the running box is not among them, take the one with the
     -- fewest minutes left". The running box is the entry that had the minute before, if it is ready.
-    pub fewest : (i : ℕ) → k < s .windows .n → (Tied k (s .last) → ⊥) → Tied k i → s .windows .p k ≤ s .windows .p i
+    pub fewest : (i : ℕ) → (Tied k (s .last) → ⊥) → Tied k i → s .windows .p k ≤ s .windows .p i
     -- "then the lowest place."
-    pub lowest : (i : ℕ) → k < s .windows .n → (Tied k (s .last) → ⊥) → Tied k i → s .windows .p i ≡ s .windows .p k → k ≤ i
+    pub lowest : (i : ℕ) → (Tied k (s .last) → ⊥) → Tied k i → s .windows .p i ≡ s .windows .p k → k ≤ i
     -- idle is the one value that stands for no place
     pub idles : s .windows .n ≤ k → k ≡ idle
 
@@ -99,3 +99,18 @@ placeAt s k = minuteOf (later k s) .place
 -- Jackson's preemptive schedule of a day, as the bytes of a plan
 unfoldable pub schedule : Windows → List ℕ
 schedule w = listOf (w .h) (placeAt (dayStart w))
+
+-- The same of a plan's own minutes.
+
+-- the entry that had the minute before minute t in m, idle for none
+abbrev pub hadBefore : (ℕ → ℕ) → ℕ → ℕ
+hadBefore m zero = idle
+hadBefore m (suc t) = m t
+
+-- the state after the first t minutes of m: each entry has left what m did not give it
+abbrev pub stateAfter : Windows → (ℕ → ℕ) → ℕ → State
+stateAfter w m t = record { windows = withLeft w (λ i. w .p i - minutesOf t m i); t = t; last = hadBefore m t }
+
+-- each minute of m has the place that the rule takes; this leaves one m, and the schedule is that one (`ScheduleLaw` of Laws.antt)
+abbrev pub FollowsJackson : Windows → (ℕ → ℕ) → Type 0
+FollowsJackson w m = (t : ℕ) → t < w .h → Takes (stateAfter w m t) (m t)

@@ -23,14 +23,14 @@ fn is_ready(t: u16, r: u16, left: u16) -> bool
 }
 
 // Place i comes before place k: its d is smaller, or as small and it has fewer minutes left.
-fn comes_before(di: u16, dk: u16, pi: u16, pk: u16) -> bool
-    ensures { λ b. ⌜ b ≡ ltb di dk || (eqb di dk && ltb pi pk) ⌝ }
+fn comes_before(di: u16, dk: u16, li: u16, lk: u16) -> bool
+    ensures { λ b. ⌜ b ≡ ltb di dk || (eqb di dk && ltb li lk) ⌝ }
 {
-    if di == dk { pi < pk } else { di < dk }
+    if di == dk { li < lk } else { di < dk }
 }
 
 // The better of place i and the best so far k, 255 for none: i if it is ready and comes before k.
-fn sooner(
+fn better_ready(
     i: usize,
     k: u8,
     t: u16,
@@ -68,7 +68,7 @@ fn earliest_deadline(
     let mut k: u8 = 255;
     let mut i: usize = 0;
     while i < count {
-        k = sooner(i, k, t, r, d, left);
+        k = better_ready(i, k, t, r, d, left);
         i += 1;
     }
     k

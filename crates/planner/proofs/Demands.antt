@@ -9,6 +9,7 @@ use Rattle.jackson.specs.Windows.{Windows, Formed}
 use Rattle.jackson.specs.Plans.{placesIn, PlanBytes, Plannable}
 use Rattle.jackson.specs.Intervals.{overloadOf}
 use Rattle.jackson.specs.Minutes.{schedule}
+use Rattle.jackson.specs.Laws.{ScheduleLaw}
 use Rattle.jackson.proofs.Law.{schedule-law}
 use Rattle.narrow.specs.Settling.{Widest}
 use Rattle.narrow.specs.Rounds.{Narrowed, narrowing}
@@ -87,6 +88,7 @@ pub plans-windows : (whole : ℕ → Bool) (w : Windows) → Formed w → Planna
 plans-windows whole w formed planned =
     record {
       minutes = refl;
+      takes = law .takes;
       plan = bytes;
       count = refl;
       broken-is =
@@ -94,5 +96,8 @@ plans-windows whole w formed planned =
           broken-exactly (w .h) (placesIn (schedule w)) i (omega (arith, bytes .plan .exact i place, formed .minutes i place)) whole;
     }
   where
+    law : ScheduleLaw w
+    law = schedule-law w (formed-roomy w formed) (formed .few)
+
     bytes : PlanBytes w (schedule w)
-    bytes = schedule-law w (formed-roomy w formed) (formed .few) .plan .0 planned
+    bytes = law .plan .0 planned

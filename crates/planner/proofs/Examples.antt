@@ -147,6 +147,7 @@ tie-examples =
       more-broken = record { plan = refl; broken = refl };
       fewer-broken = record { plan = refl; broken = refl };
       lowest-place = refl;
+      late-lowest = refl;
       running = refl;
       interrupted = refl;
       left-not-needed = refl;

@@ -143,14 +143,15 @@ pub record PlannedAs (l : DayList) (bytes : List ℕ) (count : ℕ) : Type 0 whe
   pub broken : brokenOf (wholeIn l) (planning l) ≡ count
 
 -- "When several boxes share the smallest latest minute and the running box is not among them, take the one with the fewest minutes left,
--- then the lowest place." The first five are of the smallest days on which this and the rule before it, the lowest place among equals,
--- differ: in the plan, in an early and in a late plan, and in the broken entries, which may be more or fewer.
+-- then the lowest place." The first five are of the smallest days, by minutes and then by entries, on which this and the rule before
+-- it, the lowest place among equals, differ: in the plan, in an early and in a late plan, and in the broken entries, which may be more or
+-- fewer.
 pub record TieExamples : Type 0 where
   -- before: 0 0 1
   pub fewest-left : plannedBytes (day 3 (pauseEntry 1 0 3 2 ∷ pauseEntry 2 0 3 1 ∷ [])) ≡ 1 ∷ 0 ∷ 0 ∷ []
   -- place 2's early plan; before: 2 0 0 1
   pub early : shownBytes Early (day 4 (wholeEntry 1 0 4 2 ∷ wholeEntry 2 0 4 1 ∷ wholeEntry 3 0 4 1 ∷ [])) 2 ≡ 2 ∷ 1 ∷ 0 ∷ 0 ∷ []
-  -- place 2's late plan, from the day's end back; before: 2 1 0 0
+  -- place 2's late plan: from the day's end back, place 1 has the fewest minutes not yet placed; before: 2 1 0 0
   pub late : shownBytes Late (day 4 (wholeEntry 1 1 4 2 ∷ wholeEntry 2 1 4 1 ∷ wholeEntry 3 0 1 1 ∷ [])) 2 ≡ 2 ∷ 0 ∷ 0 ∷ 1 ∷ []
   -- before: 0 0 2 1 255, broken 0
   pub more-broken : PlannedAs (day 5 (wholeEntry 1 0 5 2 ∷ wholeEntry 2 0 5 1 ∷ wholeEntry 3 2 4 1 ∷ [])) (1 ∷ 0 ∷ 2 ∷ 0 ∷ 255 ∷ []) 1
@@ -158,6 +159,8 @@ pub record TieExamples : Type 0 where
   pub fewer-broken : PlannedAs (day 4 (wholeEntry 1 1 3 1 ∷ wholeEntry 2 0 4 2 ∷ wholeEntry 3 0 4 1 ∷ [])) (2 ∷ 0 ∷ 1 ∷ 1 ∷ []) 0
   -- of equally many minutes left, the lowest place
   pub lowest-place : plannedBytes (day 2 (pauseEntry 1 0 2 1 ∷ pauseEntry 2 0 2 1 ∷ [])) ≡ 0 ∷ 1 ∷ []
+  -- and so from the day's end back
+  pub late-lowest : shownBytes Late (day 3 (pauseEntry 1 1 3 1 ∷ pauseEntry 2 1 3 1 ∷ pauseEntry 3 0 1 1 ∷ [])) 2 ≡ 2 ∷ 1 ∷ 0 ∷ []
   -- the running box goes on, though another has the same d and fewer minutes left
   pub running : plannedBytes (day 4 (pauseEntry 1 1 4 1 ∷ pauseEntry 2 0 4 3 ∷ [])) ≡ 1 ∷ 1 ∷ 1 ∷ 0 ∷ []
   -- place 1 was interrupted and is not the running box: of places 0 and 1, with 1 and 2 minutes left, place 0 is taken

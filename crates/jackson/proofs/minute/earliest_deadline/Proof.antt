@@ -20,8 +20,8 @@ abbrev μ-loop : tie.MeasureT-loop
 loop-holds : tie.Need-loop-holds Inv-loop μ-loop
 loop-holds c = search-start (c .pre)
 
-sooner-requires : tie.Need-sooner-requires Inv-loop μ-loop
-sooner-requires c κs =
+better-ready-requires : tie.Need-better-ready-requires Inv-loop μ-loop
+better-ready-requires c κs =
     let loop = c .before .loop in
     let args = c .before .before .args in
     let s = stateAt (args .count) (args .t) (args .r .now) (args .d .now) (args .left .now) in (
@@ -40,7 +40,7 @@ loop-less : tie.Need-loop-less Inv-loop μ-loop
 loop-less c = search needs
 
 loop-again : tie.Need-loop-again Inv-loop μ-loop
-loop-again c = search-next _ (c .before .before .loop .inv) (c .before .loop-test .taken) (c .sooner .ensures)
+loop-again c = search-next _ (c .before .before .loop .inv) (c .before .loop-test .taken) (c .better-ready .ensures)
 
 returns : tie.Need-returns Inv-loop μ-loop
 returns c = search-done (c .before .loop .inv) (c .loop-test .left)
@@ -48,4 +48,4 @@ returns c = search-done (c .before .loop .inv) (c .loop-test .left)
 pub earliest-deadline-spec : {M : Type 1} → statement M
 earliest-deadline-spec =
     tie.close
-    (tie.spec Inv-loop μ-loop loop-holds sooner-requires add-i loop-less loop-again returns)
+    (tie.spec Inv-loop μ-loop loop-holds better-ready-requires add-i loop-less loop-again returns)

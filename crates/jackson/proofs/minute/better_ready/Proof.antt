@@ -2,8 +2,8 @@
 -- Assumes nothing.
 use borrow.Author.Needs.{needs}
 use Rattle.jackson.proofs.MinuteCases.{not-ready, first-ready, ready-before, ready-after}
-use Rattle.jackson.proofs.minute.sooner.Statement.{statement}
-use Rattle.jackson.proofs.minute.sooner.Tie as tie
+use Rattle.jackson.proofs.minute.better_ready.Statement.{statement}
+use Rattle.jackson.proofs.minute.better_ready.Tie as tie
 
 mul-is-ready : tie.Need-mul-is-ready
 mul-is-ready c = search needs
@@ -86,8 +86,8 @@ returns-4 c =
     ready-after (args .i) (args .k) (args .t) (args .r .now) (args .d .now) (args .left .now) (is-ready .result) (is-ready .ensures)
     (comes-before .result) (comes-before .ensures) (tests .if2 .left) (c .if3 .left)
 
-pub sooner-spec : {M : Type 1} → statement M
-sooner-spec =
+pub better-ready-spec : {M : Type 1} → statement M
+better-ready-spec =
     tie.close
     (tie.spec
     mul-is-ready
