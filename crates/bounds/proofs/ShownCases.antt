@@ -24,7 +24,8 @@ use Rattle.jackson.specs.declared.types.WindowSet.{WindowSet}
 use Rattle.base.proofs.Sums.{le-or-lt, same-cases}
 use Rattle.base.proofs.Listed.{list-same, list-length}
 use Rattle.jackson.proofs.Room.{passes-formed}
-use Rattle.jackson.proofs.StoredPlans.{schedule-long, filled-with}
+use Rattle.jackson.proofs.Schedules.{schedule-long}
+use Rattle.jackson.proofs.StoredPlans.{filled-with}
 use Rattle.jackson.proofs.PlanFacts.{place-read, mirror-at}
 use Rattle.narrow.proofs.OverloadPlanner.{overload-planner}
 use Rattle.jackson.proofs.MirrorWindows.{formed-mirror}

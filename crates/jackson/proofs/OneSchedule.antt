@@ -5,12 +5,11 @@ use Prim.Native.Nat.{ℕ, zero, suc, _-_, _<_, _≤_}
 use native.Mathlib.Omega.{arith}
 use Rattle.base.specs.Counting.{sum, same}
 use Rattle.jackson.specs.Windows.{Windows, withLeft}
-use Rattle.jackson.specs.Plans.{minutesOf, idle, placesIn}
+use Rattle.jackson.specs.Plans.{minutesOf, placesIn}
 use Rattle.jackson.specs.Minutes.{dayStart, later, placeAt, schedule, hadBefore, stateAfter, FollowsJackson}
 use Rattle.base.proofs.Sums.{below-suc, sum-cong}
-use Rattle.base.proofs.Listed.{list-at}
 use Rattle.jackson.proofs.Choices.{takes-one}
-use Rattle.jackson.proofs.Schedules.{later-keeps, later-time, later-left, later-last, schedule-takes}
+use Rattle.jackson.proofs.Schedules.{later-keeps, later-time, later-left, later-last, schedule-at, schedule-takes}
 
 -- two that agree in their first minutes lead to the same state
 states-agree : (w : Windows) (m x : ℕ → ℕ) (t : ℕ) → ((j : ℕ) → j < t → m j ≡ x j) → stateAfter w m t ≡ stateAfter w x t
@@ -55,14 +54,9 @@ module _ (w : Windows) where
         last = last-is t h j;
       }
 
-  -- the bytes of the schedule are its minutes
-  bytes-are : (t : ℕ) → t < w .h → placesIn (schedule w) t ≡ places t
-  unfolding schedule
-  bytes-are t h = list-at (w .h) places idle t h
-
   pub schedule-follows : w .n ≤ 255 → FollowsJackson w (placesIn (schedule w))
   schedule-follows few =
-      follows-same w places (placesIn (schedule w)) bytes-are (λ t h. rw (← later-is t (omega arith)) (schedule-takes w few t h))
+      follows-same w places (placesIn (schedule w)) (schedule-at w) (λ t h. rw (← later-is t (omega arith)) (schedule-takes w few t h))
 
 -- the rule leaves one schedule: two that follow it agree in all minutes
 module _ (w : Windows) (m x : ℕ → ℕ) (follows : FollowsJackson w m) (also : FollowsJackson w x) where

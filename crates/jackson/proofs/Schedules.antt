@@ -8,7 +8,8 @@ use Prim.Native.Nat.{ℕ, zero, suc, _+_, _-_, _<_, _≤_}
 use native.Mathlib.Omega.{arith}
 use borrow.Author.Tests.{lt-ltb, le-ltb}
 use lib.Dec.{ltb}
-use Rattle.base.specs.Counting.{same, listOf}
+use lib.ListN.{length}
+use Rattle.base.specs.Counting.{same}
 use Rattle.jackson.specs.Windows.{Windows, withLeft, restFrom}
 use Rattle.jackson.specs.Plans.{Plan, PlanBytes, idle, placesIn}
 use Rattle.jackson.specs.Rules.{EarliestDeadlineFirst, Follows}
@@ -139,6 +140,17 @@ module _ (s : State) where
 
 -- The day's schedule.
 
+module _ (w : Windows) where
+  -- it has a byte for each minute
+  pub schedule-long : length (schedule w) ≡ w .h
+  unfolding schedule
+  schedule-long = list-length (w .h) _
+
+  -- the place that has it
+  pub schedule-at : (t : ℕ) → t < w .h → placesIn (schedule w) t ≡ placeAt (dayStart w) t
+  unfolding schedule
+  schedule-at = list-at (w .h) (placeAt (dayStart w)) idle
+
 module _ (w : Windows) (few : w .n ≤ 255) where
   -- each minute's place is the one that the rule takes
   pub schedule-takes : (t : ℕ) → t < w .h → Takes (later t (dayStart w)) (placeAt (dayStart w) t)
@@ -153,18 +165,17 @@ module _ (w : Windows) (few : w .n ≤ 255) where
 
   -- the schedule is a plan, if the day fits
   pub schedule-bytes : ((i : ℕ) → i < w .n → 1 ≤ w .p i → w .d i ≤ w .h) → Fits w → PlanBytes w (schedule w)
-  unfolding schedule
   schedule-bytes in-day fits =
       record {
-        long = list-length (w .h) (placeAt (dayStart w));
-        places = λ t h. rw (list-at (w .h) (placeAt (dayStart w)) idle t h) (schedule-places t h);
+        long = schedule-long w;
+        places = λ t h. rw (schedule-at w t h) (schedule-places t h);
         plan = plan-same w (runPlace (dayStart w)) _ each (rw (rest-of-day w) at run);
       }
     where
       run : Plan (restFrom 0 w) (runPlace (dayStart w))
       run = run-plans (dayStart w) few (omega arith) in-day (rw (rest-of-day w) fits)
 
-      each : (t : ℕ) → t < w .h → placesIn (listOf (w .h) (placeAt (dayStart w))) t ≡ runPlace (dayStart w) t
+      each : (t : ℕ) → t < w .h → placesIn (schedule w) t ≡ runPlace (dayStart w) t
       each t h =
           let z : t - 0 ≡ t = omega arith in
-          rw (list-at (w .h) (placeAt (dayStart w)) idle t h, run-at (dayStart w) t (omega arith), z)
+          rw (schedule-at w t h, run-at (dayStart w) t (omega arith), z)

@@ -6,7 +6,6 @@ use Prim.Native.Nat.{ℕ, _≤_}
 use borrow.Author.Tests.{le-ltb}
 use lib.ListN.{length, drop}
 use lib.Seq.{length-take-le, length-front}
-use Rattle.base.proofs.Listed.{list-length}
 use Rattle.list.specs.declared.types.Verdict.{Verdict}
 use Rattle.jackson.specs.Windows.{Windows}
 use Rattle.jackson.specs.Minutes.{schedule}
@@ -15,11 +14,6 @@ use Rattle.jackson.specs.Calls.{FillsWindows}
 -- a buffer in which a plan of h bytes was stored is as long as before
 pub stored-long : (h : ℕ) (xs old new : List ℕ) → new ≡ xs ++ drop h old → length xs ≡ h → h ≤ length old → length new ≡ length old
 stored-long h xs old new e long room = rw e (length-front old xs h (long ∙ sym (length-take-le h old room)))
-
--- a schedule has a byte for each minute
-pub schedule-long : (w : Windows) → length (schedule w) ≡ w .h
-unfolding schedule
-schedule-long w = list-length (w .h) _
 
 -- a plan buffer that is long enough holds the schedule
 pub filled-with : (w : Windows) (old : List ℕ) (v : Verdict) (new : List ℕ) → FillsWindows w old v new → w .h ≤ length old

@@ -35,7 +35,7 @@ use Rattle.bounds.specs.declared.types.Shown.the-variants.{Early, Late}
 use Rattle.bounds.specs.declared.types.Bounds.{Bounds}
 use Rattle.bounds.specs.declared.types.BoundAnswer.{BoundAnswer}
 use Rattle.bounds.proofs.ByPlace.{by-place}
-use Rattle.jackson.proofs.StoredPlans.{schedule-long}
+use Rattle.jackson.proofs.Schedules.{schedule-long}
 use Rattle.bounds.proofs.ShownFacts.{shown-long}
 use Rattle.planner.specs.BrokenEntries.{brokenIn}
 use Rattle.planner.specs.Demand2.{PlansWindows}

@@ -43,7 +43,8 @@ use Rattle.bounds.specs.declared.types.Shown.{Shown}
 use Rattle.bounds.specs.declared.types.Bounds.{Bounds}
 use Rattle.bounds.specs.declared.types.BoundAnswer.{BoundAnswer}
 use Rattle.bounds.proofs.ShownFacts.{bound-kind, plan-kind}
-use Rattle.jackson.proofs.StoredPlans.{stored-long, filled-with, schedule-long}
+use Rattle.jackson.proofs.Schedules.{schedule-long}
+use Rattle.jackson.proofs.StoredPlans.{stored-long, filled-with}
 use Rattle.planner.specs.BrokenEntries.{brokenIn}
 use Rattle.planner.specs.Demand2.{PlansWindows}
 use Rattle.planner.specs.Calls.{beforeNine, planChecks, shownChecks, narrowAfter, settledOr, planned, endsOf, startsOf, brokenOf}
