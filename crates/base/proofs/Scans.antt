@@ -6,7 +6,7 @@ use Prim.Native.Nat.{ℕ, zero, suc, _<_, _≤_}
 use native.Mathlib.Omega.{arith}
 use borrow.Author.Tests.{ltb-true, ltb-false, lt-ltb, le-ltb, eqb-true, eq-eqb, ne-eqb}
 use lib.Dec.{eqb, ltb}
-use Rattle.base.specs.Counting.{best, smaller, larger, smallerThen}
+use Rattle.base.specs.Counting.{best, smaller, larger, lexSmaller}
 use Rattle.base.proofs.Sums.{le-or-lt, below-suc}
 
 -- a test that does not pass
@@ -38,8 +38,8 @@ larger-ranks f =
 
 -- the first value is smaller, or they are equal and the second is smaller
 module _ (f g : ℕ → ℕ) (i k : ℕ) where
-  pub of-smaller-then : smallerThen f g i k ≡ true → (f i ≤ f k) × (f i ≡ f k → g i < g k)
-  of-smaller-then h = go (ltb (f i) (f k)) (eqb (f i) (f k)) refl refl h
+  pub of-lex-smaller : lexSmaller f g i k ≡ true → (f i ≤ f k) × (f i ≡ f k → g i < g k)
+  of-lex-smaller h = go (ltb (f i) (f k)) (eqb (f i) (f k)) refl refl h
     where
       go : (a b : Bool) → ltb (f i) (f k) ≡ a → eqb (f i) (f k) ≡ b → a || (b && ltb (g i) (g k)) ≡ true
           → (f i ≤ f k) × (f i ≡ f k → g i < g k)
@@ -47,32 +47,32 @@ module _ (f g : ℕ → ℕ) (i k : ℕ) where
       go false true p q h = let e = eqb-true (f i) (f k) q in (omega arith, λ _. ltb-true (g i) (g k) h)
       go false false p q h = absurd (true≢false (sym h))
 
-  to-smaller-then : f i ≤ f k → (f i ≡ f k → g i < g k) → smallerThen f g i k ≡ true
-  to-smaller-then h less =
+  to-lex-smaller : f i ≤ f k → (f i ≡ f k → g i < g k) → lexSmaller f g i k ≡ true
+  to-lex-smaller h less =
       le-or-lt (f k) (f i)
       (λ l. let e : f i ≡ f k = omega arith in simp (le-ltb (f i) (f k) l, eq-eqb (f i) (f k) e, lt-ltb (g i) (g k) (less e)))
       (λ l. simp (lt-ltb (f i) (f k) l))
 
-  pub not-smaller-then : (smallerThen f g i k ≡ true → ⊥) → (f k ≤ f i) × (f i ≡ f k → g k ≤ g i)
-  not-smaller-then h = (
-    le-or-lt (f k) (f i) (λ l. l) (λ l. absurd (h (to-smaller-then (omega arith) (λ e. absurd (omega arith))))),
-    λ e. le-or-lt (g k) (g i) (λ l. l) (λ l. absurd (h (to-smaller-then (omega arith) (λ _. l)))),
+  pub not-lex-smaller : (lexSmaller f g i k ≡ true → ⊥) → (f k ≤ f i) × (f i ≡ f k → g k ≤ g i)
+  not-lex-smaller h = (
+    le-or-lt (f k) (f i) (λ l. l) (λ l. absurd (h (to-lex-smaller (omega arith) (λ e. absurd (omega arith))))),
+    λ e. le-or-lt (g k) (g i) (λ l. l) (λ l. absurd (h (to-lex-smaller (omega arith) (λ _. l)))),
   )
 
-pub smaller-then-ranks : (f g : ℕ → ℕ) → Ranks (smallerThen f g)
-smaller-then-ranks f g =
+pub lex-smaller-ranks : (f g : ℕ → ℕ) → Ranks (lexSmaller f g)
+lex-smaller-ranks f g =
     record {
       asym =
           λ i k a b.
-          let x = of-smaller-then f g i k a in
-          let y = of-smaller-then f g k i b in
+          let x = of-lex-smaller f g i k a in
+          let y = of-lex-smaller f g k i b in
           let e : f i ≡ f k = omega (arith, x .0, y .0) in
           omega (arith, x .1 e, y .1 (sym e));
       over =
           λ i j k a b.
-          let x = of-smaller-then f g i k a in
-          let y = not-smaller-then f g j k b in
-          to-smaller-then f g i j (omega (arith, x .0, y .0))
+          let x = of-lex-smaller f g i k a in
+          let y = not-lex-smaller f g j k b in
+          to-lex-smaller f g i j (omega (arith, x .0, y .0))
           (λ e. omega (arith, x .1 (omega (arith, x .0, y .0, e)), y .1 (omega (arith, x .0, y .0, e))));
     }
 

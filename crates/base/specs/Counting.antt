@@ -39,9 +39,9 @@ smaller f i k = ltb (f i) (f k)
 abbrev pub larger : (ℕ → ℕ) → ℕ → ℕ → Bool
 larger f i k = ltb (f k) (f i)
 
--- smaller values of f are better, and of equal ones smaller values of g
-abbrev pub smallerThen : (ℕ → ℕ) → (ℕ → ℕ) → ℕ → ℕ → Bool
-smallerThen f g i k = ltb (f i) (f k) || (eqb (f i) (f k) && ltb (g i) (g k))
+-- smaller values of f are better, and of equal ones smaller values of g: the lexicographic order
+abbrev pub lexSmaller : (ℕ → ℕ) → (ℕ → ℕ) → ℕ → ℕ → Bool
+lexSmaller f g i k = ltb (f i) (f k) || (eqb (f i) (f k) && ltb (g i) (g k))
 
 -- the list f 0, .., f (n - 1)
 unfoldable pub listOf : ℕ → (ℕ → ℕ) → List ℕ

@@ -104,7 +104,7 @@ module _ {test : Test} (planner : Planner test) (whole : ℕ → Bool) (w : Wind
     early-is =
         record {
           rule = refl;
-          takes = early-law .takes;
+          follows = early-law .follows;
           plan = bytes;
           keeping = record { plan = bytes .plan; unbroken = unbroken };
           end = end;

@@ -8,7 +8,7 @@ use native.Mathlib.Omega.{arith}
 use Rattle.jackson.specs.Windows.{Windows, Formed}
 use Rattle.jackson.specs.Plans.{IsStart, IsEnd, placesIn, PlanBytes, Consecutive}
 use Rattle.jackson.specs.Mirrors.{mirror, mirrorPlan, mirrorBytes}
-use Rattle.jackson.proofs.PlanFacts.{minutes-within, mirror-plan, mirror-at, mirror-bytes}
+use Rattle.jackson.proofs.PlanFacts.{minutes-within, mirror-plan, mirror-twice, mirror-at, mirror-bytes}
 use Rattle.narrow.specs.Searching.{Test}
 use Rattle.narrow.specs.Settling.{Settled}
 use Rattle.narrow.proofs.Planners.{Planner}
@@ -89,7 +89,7 @@ module _ {test : Test} (planner : Planner test) (whole : ℕ → Bool) (w : Wind
       rw (start-by-mirror planner w formed k place whole, late-by-mirror w k place least (early .end .within))
       (record {
         rule = sym (late-by-mirror w k place least (early .end .within));
-        takes = rw (late-windows w k place least (early .end .within)) (follows-same _ (placesIn bs) _ turned-back (early .takes));
+        follows = rw (late-windows w k place least (early .end .within)) (follows-same _ (placesIn bs) _ twice (early .follows));
         plan = rw (mirror-back w formed) at (mirror-bytes (mirror w) bs (early .plan));
         keeping = rw (mirror-back w formed) at (keeping-mirror whole (mirror w) there k place bs (early .plan) (early .keeping));
         start = end-mirror (w .h) bs k least (early .end);
@@ -101,10 +101,8 @@ module _ {test : Test} (planner : Planner test) (whole : ℕ → Bool) (w : Wind
       bs : List ℕ
       bs = earlyPlan (mirror w) k least
 
-      turned-back : (t : ℕ) → t < w .h → mirrorPlan (w .h) (placesIn (mirrorBytes (w .h) bs)) t ≡ placesIn bs t
-      turned-back t below =
-          let e : w .h - suc (w .h - suc t) ≡ t = omega arith in
-          mirror-at (w .h) bs (w .h - suc t) (omega arith) ∙ ap (placesIn bs) e
+      twice : (t : ℕ) → t < w .h → mirrorPlan (w .h) (placesIn (mirrorBytes (w .h) bs)) t ≡ placesIn bs t
+      twice t below = mirror-at (w .h) bs (w .h - suc t) (omega arith) ∙ mirror-twice (w .h) (placesIn bs) t below
 
       early : IsEarly whole (mirror w) k least bs
       early = early-is planner whole (mirror w) there k place (settled-mirror whole w formed settled)

@@ -33,7 +33,7 @@ shownPlan Late whole k w = latePlan w k (greatestStart overloadOf whole w k)
 -- whole, with the end e
 pub record IsEarly (whole : ℕ → Bool) (w : Windows) (k e : ℕ) (bytes : List ℕ) : Type 0 where
   pub rule : bytes ≡ earlyPlan w k e
-  pub takes : FollowsJackson (withD w k e) (placesIn bytes)
+  pub follows : FollowsJackson (withD w k e) (placesIn bytes)
   pub plan : PlanBytes w bytes
   pub keeping : Keeping whole w k (placesIn bytes)
   pub end : IsEnd (w .h) (placesIn bytes) k e
@@ -42,7 +42,7 @@ pub record IsEarly (whole : ℕ → Bool) (w : Windows) (k e : ℕ) (bytes : Lis
 -- not yet placed and the minute before is the one after
 pub record IsLate (whole : ℕ → Bool) (w : Windows) (k s : ℕ) (bytes : List ℕ) : Type 0 where
   pub rule : bytes ≡ latePlan w k s
-  pub takes : FollowsJackson (mirror (withR w k s)) (mirrorPlan (w .h) (placesIn bytes))
+  pub follows : FollowsJackson (mirror (withR w k s)) (mirrorPlan (w .h) (placesIn bytes))
   pub plan : PlanBytes w bytes
   pub keeping : Keeping whole w k (placesIn bytes)
   pub start : IsStart (w .h) (placesIn bytes) k s

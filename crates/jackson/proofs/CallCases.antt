@@ -22,13 +22,13 @@ use Rattle.base.specs.Counting.{listOf}
 use Rattle.jackson.specs.Windows.{Windows, windowsOf, windowsIn}
 use Rattle.jackson.specs.Minutes.{State, stateIn, dayStart, chosen, minuteOf, later, placeAt, schedule}
 use Rattle.jackson.specs.Intervals.{overloadOf}
-use Rattle.jackson.specs.Plans.{PlanBytes}
 use Rattle.jackson.specs.Calls.{Holds, Tests, testOf, Advances, Starts, Fills, FillsWindows, listBeside, fillOf, planAfter}
 use Rattle.jackson.specs.Internal.{IsAfter}
 use Rattle.jackson.specs.declared.types.WindowSet.{WindowSet}
 use Rattle.jackson.specs.declared.types.Day.{Day}
 use Rattle.jackson.specs.declared.types.DayAnswer.{DayAnswer}
 use Rattle.base.proofs.Listed.{list-length}
+use Rattle.jackson.proofs.Choices.{chosen-takes}
 use Rattle.jackson.proofs.Schedules.{minute-on, minute-over}
 use Rattle.jackson.proofs.ListLaws.{test-decides, fill-decides, fill-plans}
 
@@ -37,13 +37,18 @@ module _ (day : Day) where
   pub advances-over : day .windows .h ≤ day .t → Advances day (record { place = 255; day = day })
   advances-over h =
       let e = minute-over (stateIn day) h in
-      record { place = rw e refl; next = rw e refl; n = refl }
+      record { place = rw e refl; takes = λ on. absurd (omega arith); next = rw e refl; n = refl }
 
   pub advances-on : (next : Day) (k : ℕ) → day .t < day .windows .h → k ≡ chosen (stateIn day) → IsAfter day k next
       → Advances day (record { place = k; day = next })
   advances-on next k h place step =
       let e = minute-on (stateIn day) h in
-      record { place = rw e place; next = rw e (rw (← place) (step .state)); n = step .n }
+      record {
+        place = rw e place;
+        takes = λ _. rw place (chosen-takes (stateIn day) (omega arith));
+        next = rw e (rw (← place) (step .state));
+        n = step .n;
+      }
 
 -- starting a day with these windows
 module _ (l : DayList) (v : Verdict) (checked : verdictOf v ≡ checkOf l) (w : WindowSet) (day : Day)
@@ -123,7 +128,13 @@ fills-of : (l : DayList) (old : List ℕ) (v : Verdict) (new : List ℕ) → ver
     → new ≡ planAfter (fillOf l (length old)) (windowsOf l) old → Fills l old v new
 unfolding schedule
 fills-of l old v new e b =
-    record { outcome = e; buffer = b; decides = rw e (fill-decides l (length old)); plan = λ done. bytes (sym e ∙ done) }
+    record {
+      outcome = e;
+      buffer = b;
+      decides = rw e (fill-decides l (length old));
+      plan = λ done. rw (bytes (sym e ∙ done)) (fill-plans l (length old) (sym e ∙ done) .0);
+      follows = λ done. rw (bytes (sym e ∙ done)) (fill-plans l (length old) (sym e ∙ done) .1);
+    }
   where
     h : ℕ
     h = l .frame .h
@@ -131,8 +142,8 @@ fills-of l old v new e b =
     front : take h (schedule (windowsOf l) ++ drop h old) ≡ schedule (windowsOf l)
     front = take-at (schedule (windowsOf l)) (drop h old) h (list-length h (placeAt (dayStart (windowsOf l))))
 
-    bytes : fillOf l (length old) ≡ answered tt → PlanBytes (windowsOf l) (take h new)
-    bytes z = rw (b, z, front) (fill-plans l (length old) z)
+    bytes : fillOf l (length old) ≡ answered tt → take h new ≡ schedule (windowsOf l)
+    bytes z = rw (b, z) front
 
 -- filling a plan buffer
 module _ (l : DayList) (old : List ℕ) (a : DayAnswer) (starts : Starts l a) where

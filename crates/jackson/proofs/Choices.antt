@@ -11,7 +11,7 @@ use lib.Dec.{leb, ltb}
 use Rattle.jackson.specs.Plans.{idle}
 use Rattle.jackson.specs.Rules.{Ready}
 use Rattle.jackson.specs.Minutes.{State, isReady, comesBefore, earliestDeadline, goesOn, chosen, Tied, Takes}
-use Rattle.base.proofs.Scans.{Ranks, Best, smaller-then-ranks, of-smaller-then, not-smaller-then, best-cases, best-some}
+use Rattle.base.proofs.Scans.{Ranks, Best, lex-smaller-ranks, of-lex-smaller, not-lex-smaller, best-cases, best-some}
 
 module _ (s : State) where
   -- the algorithm's test of a place, and the rule's words for it
@@ -34,7 +34,7 @@ module _ (s : State) where
   to-goes-on h l = simp (lt-ltb _ _ (h .place), le-leb _ _ (h .released), lt-ltb _ _ (h .unfinished), le-ltb _ _ l)
 
   pub comes-before-ranks : Ranks (comesBefore s)
-  comes-before-ranks = smaller-then-ranks (s .windows .d) (s .windows .p)
+  comes-before-ranks = lex-smaller-ranks (s .windows .d) (s .windows .p)
 
   module _ (few : s .windows .n ≤ 255) where
     -- the scan finds a ready entry's place, if there is one
@@ -42,15 +42,20 @@ module _ (s : State) where
     scan-some i h = best-some idle (isReady s) (comesBefore s) comes-before-ranks (s .windows .n) few i (h .place) (to-test i h)
 
     module _ (i : ℕ) (h : Ready (s .windows) (s .t) i) where
-      -- no ready place comes before the one found
-      unbeaten : (s .windows .d (earliestDeadline s) ≤ s .windows .d i)
-          × (s .windows .d i ≡ s .windows .d (earliestDeadline s) → s .windows .p (earliestDeadline s) ≤ s .windows .p i)
-      unbeaten = not-smaller-then (s .windows .d) (s .windows .p) i _ (scan-some i h .unbeaten i (h .place) (to-test i h))
+      -- it does not come before the one found
+      not-before : comesBefore s i (earliestDeadline s) ≡ true → ⊥
+      not-before = scan-some i h .unbeaten i (h .place) (to-test i h)
+
+      least-found : s .windows .d (earliestDeadline s) ≤ s .windows .d i
+      least-found = not-lex-smaller (s .windows .d) (s .windows .p) i _ not-before .0
+
+      fewest-found : s .windows .d i ≡ s .windows .d (earliestDeadline s) → s .windows .p (earliestDeadline s) ≤ s .windows .p i
+      fewest-found = not-lex-smaller (s .windows .d) (s .windows .p) i _ not-before .1
 
       -- below the one found, ready places that share its d have more minutes left
       more-below : i < earliestDeadline s → s .windows .d i ≡ s .windows .d (earliestDeadline s)
           → s .windows .p (earliestDeadline s) < s .windows .p i
-      more-below l e = of-smaller-then (s .windows .d) (s .windows .p) _ i (scan-some i h .lowest i l (to-test i h)) .1 (sym e)
+      more-below l e = of-lex-smaller (s .windows .d) (s .windows .p) _ i (scan-some i h .lowest i l (to-test i h)) .1 (sym e)
 
     -- the entry that had the minute before
     takes-last : goesOn s ≡ true → Takes s (s .last)
@@ -60,12 +65,12 @@ module _ (s : State) where
           deadline =
               record {
                 taken = λ _. z .0;
-                least = λ i _ h. omega (arith, unbeaten i h .0);
+                least = λ i _ h. omega (arith, least-found i h);
                 none = λ i h _. omega arith;
               };
           goes-on = λ _ _. refl;
-          fewest = λ i apart _. absurd (apart (record { ready = z .0; deadline = refl }));
-          lowest = λ i apart _ _. absurd (apart (record { ready = z .0; deadline = refl }));
+          fewest = λ i not-tied _. absurd (not-tied (record { ready = z .0; deadline = refl }));
+          lowest = λ i not-tied _ _. absurd (not-tied (record { ready = z .0; deadline = refl }));
           idles = λ h. absurd (omega arith);
         }
 
@@ -92,11 +97,11 @@ module _ (s : State) where
           deadline =
               record {
                 taken = λ _. first;
-                least = λ i _ h. unbeaten i h .0;
+                least = λ i _ h. least-found i h;
                 none = λ i h _. omega (arith, b .below);
               };
           goes-on = λ h alone. absurd (true≢false (sym (to-goes-on h (omega (arith, alone (earliestDeadline s) first))) ∙ e));
-          fewest = λ i _ tied. unbeaten i (tied .ready) .1 (tied .deadline);
+          fewest = λ i _ tied. fewest-found i (tied .ready) (tied .deadline);
           lowest =
               λ i _ tied q.
               let above : i < earliestDeadline s → ⊥ = λ l. omega (arith, more-below i (tied .ready) l (tied .deadline)) in
@@ -129,12 +134,12 @@ not-above s j k a b = go (decLt j (s .windows .n)) (decLt k (s .windows .n)) (�
         let x = a .deadline .taken h in
         let y = b .deadline .taken l in
         let e : s .windows .d k ≡ s .windows .d j = omega (arith, a .deadline .least k h y, b .deadline .least j l x) in
-        let apart : Tied s j (s .last) → ⊥ = λ tied. q (last-taken s j a h tied) in
+        let not-tied : Tied s j (s .last) → ⊥ = λ tied. q (last-taken s j a h tied) in
         let fewer =
-        b .fewest j (λ tied. apart (record { ready = tied .ready; deadline = tied .deadline ∙ e }))
+        b .fewest j (λ tied. not-tied (record { ready = tied .ready; deadline = tied .deadline ∙ e }))
         (record { ready = x; deadline = sym e }) in
         let tied : Tied s j k = record { ready = y; deadline = e } in
-        a .lowest k apart tied (omega (arith, a .fewest k apart tied, fewer))
+        a .lowest k not-tied tied (omega (arith, a .fewest k not-tied tied, fewer))
     go (yes h) (no l) q = omega arith
     go (no h) (yes l) q = absurd (a .deadline .none k (omega arith) (b .deadline .taken l))
     go (no h) (no l) q = omega (arith, a .idles (omega arith), b .idles (omega arith))

@@ -1,5 +1,5 @@
--- The law: a plan exists exactly when no interval is overloaded, and then every rule of earliest deadline makes one, Jackson's preemptive
--- schedule among them.
+-- The law: a plan exists exactly when no interval is overloaded, and then every rule of earliest deadline makes one, Jackson's among them,
+-- whose schedule is the only one that follows it.
 -- Assumes nothing.
 use mathlib.Core.Path.{_≡_, refl}
 use Prim.Native.Nat.{ℕ, _≤_}
@@ -71,6 +71,6 @@ module _ (w : Windows) (roomy : Roomy w) (few : w .n ≤ 255) where
   schedule-law =
       record {
         plan = (λ planned. bytes-of-none (none-of-plan planned), plan-of-bytes);
-        takes = schedule-follows w few;
+        follows = schedule-follows w few;
         one = λ m follows. one-follows w m (placesIn (schedule w)) follows (schedule-follows w few);
       }

@@ -6,7 +6,7 @@ pub mod MirrorWindows
 pub mod PlanFacts
 pub mod StoredPlans
 -- The law that a plan exists exactly without overload: its steps, its form for windows and its form for lists. The crates above are to
--- cite Law and ListLaws, and RunningDays and Schedules for days that are running.
+-- cite Law and ListLaws, OneSchedule, and RunningDays and Schedules for days that are running.
 mod IntervalWork
 mod OneMinute
 mod PlanWork

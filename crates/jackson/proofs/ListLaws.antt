@@ -17,7 +17,7 @@ use Rattle.jackson.specs.Windows.{windowsOf, Formed}
 use Rattle.jackson.specs.Plans.{PlanBytes, placesIn, Plannable}
 use Rattle.jackson.specs.Intervals.{ShowsOverload, overloadOf}
 use Rattle.jackson.specs.Laws.{PlanLaw, ScheduleLaw}
-use Rattle.jackson.specs.Minutes.{schedule}
+use Rattle.jackson.specs.Minutes.{schedule, FollowsJackson}
 use Rattle.jackson.specs.Calls.{testOf, Decides, fillOf}
 use Rattle.jackson.proofs.Room.{formed-roomy}
 use Rattle.jackson.proofs.Law.{plan-law, schedule-law}
@@ -60,10 +60,14 @@ abbrev NotNine : Code → Type 0
 NotNine k = k .number ≡ 9 → ⊥
 
 module _ (l : DayList) where
-  -- by an answer the schedule is a plan, by row 9 there is none
+  -- the schedule is a plan and follows the rule
+  abbrev pub Planned : Type 0
+  Planned = PlanBytes (windowsOf l) (schedule (windowsOf l)) × FollowsJackson (windowsOf l) (placesIn (schedule (windowsOf l)))
+
+  -- by an answer it is, by row 9 there is no plan
   abbrev Tells : Outcome (Unit {0}) → Type 0
   Tells =
-      Says (λ _. PlanBytes (windowsOf l) (schedule (windowsOf l)))
+      Says (λ _. Planned)
       (λ k. k .number ≡ 9 → (Plannable (windowsOf l) → ⊥) × ShowsOverload (windowsOf l) k)
 
   tells-decides : (o : Outcome (Unit {0})) → Tells o → Decides l o
@@ -71,8 +75,8 @@ module _ (l : DayList) where
       record {
         planned =
             λ e.
-            let bytes : PlanBytes (windowsOf l) (schedule (windowsOf l)) = rw e at tells in
-            (placesIn (schedule (windowsOf l)), bytes .plan);
+            let so : Planned = rw e at tells in
+            (placesIn (schedule (windowsOf l)), so .0 .plan);
         unplanned = λ k e nine. (rw e at tells) nine .0;
         shown = λ k e nine. (rw e at tells) nine .1;
       }
@@ -82,7 +86,9 @@ module _ (l : DayList) where
   overload-tells formed = go (overloadOf (windowsOf l)) refl
     where
       go : (o : Outcome (Unit {0})) → overloadOf (windowsOf l) ≡ o → Tells o
-      go (answered t) e = list-schedule-law l formed .plan .0 (list-law l formed .accepted .1 e)
+      go (answered t) e =
+          let law = list-schedule-law l formed in
+          (law .plan .0 (list-law l formed .accepted .1 e), law .follows)
       go (refused k) e = λ _. (list-law l formed .turned-back .1 (k, e), list-law l formed .shown k e)
 
   -- and what tells it of well-formed lists does of all, once the value check comes first
@@ -107,5 +113,5 @@ module _ (l : DayList) where
   pub fill-decides : (room : ℕ) → Decides l (fillOf l room)
   fill-decides room = tells-decides (fillOf l room) (fill-tells room)
 
-  pub fill-plans : (room : ℕ) → fillOf l room ≡ answered tt → PlanBytes (windowsOf l) (schedule (windowsOf l))
+  pub fill-plans : (room : ℕ) → fillOf l room ≡ answered tt → Planned
   fill-plans room e = rw e at (fill-tells room)

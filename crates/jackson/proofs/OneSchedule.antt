@@ -3,11 +3,12 @@
 use mathlib.Core.Path.{_≡_, refl, _∙_, ap, fun-ext}
 use Prim.Native.Nat.{ℕ, zero, suc, _-_, _<_, _≤_}
 use native.Mathlib.Omega.{arith}
-use Rattle.base.specs.Counting.{sum, same}
+use Rattle.base.specs.Counting.{sum}
 use Rattle.jackson.specs.Windows.{Windows, withLeft}
 use Rattle.jackson.specs.Plans.{minutesOf, placesIn}
 use Rattle.jackson.specs.Minutes.{dayStart, later, placeAt, schedule, hadBefore, stateAfter, FollowsJackson}
-use Rattle.base.proofs.Sums.{below-suc, sum-cong}
+use Rattle.base.proofs.Sums.{below-suc}
+use Rattle.jackson.proofs.PlanFacts.{minutes-same}
 use Rattle.jackson.proofs.Choices.{takes-one}
 use Rattle.jackson.proofs.Schedules.{later-keeps, later-time, later-left, later-last, schedule-at, schedule-takes}
 
@@ -16,7 +17,7 @@ states-agree : (w : Windows) (m x : ℕ → ℕ) (t : ℕ) → ((j : ℕ) → j 
 states-agree w m x t agree = λ j. record { windows = withLeft w (left j); t = t; last = last t agree j }
   where
     left : _≡_ {A = ℕ → ℕ} (λ i. w .p i - minutesOf t m i) (λ i. w .p i - minutesOf t x i)
-    left = fun-ext (λ i. ap (λ (k : ℕ). w .p i - k) (sum-cong t _ _ (λ j l. ap (λ (k : ℕ). same k i) (agree j l))))
+    left = fun-ext (λ i. ap (λ (k : ℕ). w .p i - k) (minutes-same t m x i agree))
 
     last : (t : ℕ) → ((j : ℕ) → j < t → m j ≡ x j) → hadBefore m t ≡ hadBefore x t
     last zero agree = refl

@@ -121,11 +121,15 @@ start-to-end h m i s e start end t below q =
 
 -- Plans.
 
+-- two that agree in their first t minutes give an entry equally many of them
+pub minutes-same : (t : ℕ) (m x : ℕ → ℕ) (i : ℕ) → ((j : ℕ) → j < t → m j ≡ x j) → minutesOf t m i ≡ minutesOf t x i
+minutes-same t m x i agree = sum-cong t _ _ (λ j l. ap (λ (k : ℕ). same k i) (agree j l))
+
 -- what agrees with a plan in the day's minutes is one
 pub plan-same : (w : Windows) (m x : ℕ → ℕ) → ((t : ℕ) → t < w .h → x t ≡ m t) → Plan w m → Plan w x
 plan-same w m x agrees plan =
     record {
-      exact = λ i place. sum-cong (w .h) _ _ (λ t below. ap (λ (k : ℕ). same k i) (agrees t below)) ∙ plan .exact i place;
+      exact = λ i place. minutes-same (w .h) x m i agrees ∙ plan .exact i place;
       inside = λ i t place below e. plan .inside i t place below (sym (agrees t below) ∙ e);
     }
 

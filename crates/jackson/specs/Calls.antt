@@ -1,5 +1,5 @@
 -- What the public functions promise: the windows of a list, the overload test, a day's minutes, starting a day, and filling a plan buffer.
-use Prim.Native.Nat.{ℕ}
+use Prim.Native.Nat.{ℕ, _<_}
 use mathlib.Core.Path.{_≡_}
 use mathlib.Core.List.{List, [], _∷_, _++_}
 use lib.ListN.{length, take, drop}
@@ -11,9 +11,9 @@ use Rattle.list.specs.DayLists.{emptyList}
 use Rattle.list.specs.declared.types.DayList.{DayList}
 use Rattle.list.specs.declared.types.Verdict.{Verdict}
 use Rattle.jackson.specs.Windows.{Windows, windowsOf, windowsIn}
-use Rattle.jackson.specs.Plans.{Plannable, PlanBytes}
+use Rattle.jackson.specs.Plans.{Plannable, placesIn, PlanBytes}
 use Rattle.jackson.specs.Intervals.{ShowsOverload, overloadOf}
-use Rattle.jackson.specs.Minutes.{stateIn, dayStart, schedule, minuteOf}
+use Rattle.jackson.specs.Minutes.{stateIn, dayStart, schedule, Takes, minuteOf, FollowsJackson}
 use Rattle.jackson.specs.declared.types.WindowSet.{WindowSet}
 use Rattle.jackson.specs.declared.types.Day.{Day}
 use Rattle.jackson.specs.declared.types.Minute.{Minute}
@@ -39,9 +39,10 @@ pub record Tests (l : DayList) (v : Verdict) : Type 0 where
   pub outcome : verdictOf v ≡ testOf l
   pub decides : Decides l (verdictOf v)
 
--- what a minute gives: the place chosen together with the advanced day
+-- what a minute gives: the place chosen, which before the day's end is the one that the rule takes, together with the advanced day
 pub record Advances (day : Day) (m : Minute) : Type 0 where
   pub place : m .place ≡ minuteOf (stateIn day) .place
+  pub takes : day .t < day .windows .h → Takes (stateIn day) (m .place)
   pub next : stateIn (m .day) ≡ minuteOf (stateIn day) .next
   pub n : m .day .windows .n ≡ day .windows .n
 
@@ -75,6 +76,7 @@ pub record Fills (l : DayList) (old : List ℕ) (v : Verdict) (new : List ℕ) :
   pub buffer : new ≡ planAfter (fillOf l (length old)) (windowsOf l) old
   pub decides : Decides l (verdictOf v)
   pub plan : verdictOf v ≡ answered tt → PlanBytes (windowsOf l) (take (l .frame .h) new)
+  pub follows : verdictOf v ≡ answered tt → FollowsJackson (windowsOf l) (placesIn (take (l .frame .h) new))
 
 -- row 11 alone, for windows that are not tested
 abbrev pub bufferFault : ℕ → ℕ → Outcome (Unit {0})

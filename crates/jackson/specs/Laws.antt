@@ -29,8 +29,8 @@ pub record RuleLaw (w : Windows) : Type 0 where
   pub plan : (m : ℕ → ℕ) (left : ℕ → ℕ → ℕ) → Follows w 0 m left → Plannable w ↔ Plan w m
 
 -- the law of Jackson's preemptive schedule, for at most 255 windows that have room: it is a plan exactly if there is one; each of its
--- minutes has the place that the rule takes, and of no other plan this holds
+-- minutes has the place that the rule takes, and it is the only one of which this holds
 pub record ScheduleLaw (w : Windows) : Type 0 where
   pub plan : Plannable w ↔ PlanBytes w (schedule w)
-  pub takes : FollowsJackson w (placesIn (schedule w))
+  pub follows : FollowsJackson w (placesIn (schedule w))
   pub one : (m : ℕ → ℕ) → FollowsJackson w m → (t : ℕ) → t < w .h → m t ≡ placesIn (schedule w) t

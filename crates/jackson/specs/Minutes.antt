@@ -4,7 +4,7 @@ use mathlib.Core.Path.{_≡_}
 use mathlib.Core.Bool.{Bool, cond, not, _&&_}
 use mathlib.Core.List.{List}
 use lib.Dec.{leb, ltb}
-use Rattle.base.specs.Counting.{same, best, smallerThen, listOf}
+use Rattle.base.specs.Counting.{same, best, lexSmaller, listOf}
 use Rattle.jackson.specs.Windows.{Windows, withLeft, windowsIn}
 use Rattle.jackson.specs.Plans.{minutesOf, idle}
 use Rattle.jackson.specs.Rules.{Ready, EarliestDeadlineFirst}
@@ -32,7 +32,7 @@ module _ (s : State) where
 
   -- "take the smallest d", and of several that share it "the one with the fewest minutes left" (document 02): entry i comes before entry k
   abbrev pub comesBefore : ℕ → ℕ → Bool
-  comesBefore = smallerThen (s .windows .d) (s .windows .p)
+  comesBefore = lexSmaller (s .windows .d) (s .windows .p)
 
   -- the ready place before which no other comes, of several "the lowest place"; idle if there is none
   abbrev pub earliestDeadline : ℕ
@@ -100,7 +100,7 @@ placeAt s k = minuteOf (later k s) .place
 unfoldable pub schedule : Windows → List ℕ
 schedule w = listOf (w .h) (placeAt (dayStart w))
 
--- The same of a plan's own minutes.
+-- The same of minutes alone, a plan's or not.
 
 -- the entry that had the minute before minute t in m, idle for none
 abbrev pub hadBefore : (ℕ → ℕ) → ℕ → ℕ

@@ -1,4 +1,4 @@
--- Rules of earliest deadline first, whatever they do with ties. The law of plans is over these; Minutes.antt has Jackson's own.
+-- Rules of earliest deadline first, whatever they do with ties: `RuleLaw` of Laws.antt is over these. Minutes.antt has Jackson's own.
 use Prim.Native.Nat.{ℕ, suc, _-_, _<_, _≤_}
 use mathlib.Core.Path.{_≡_}
 use Rattle.base.specs.Counting.{same}

@@ -88,7 +88,7 @@ pub plans-windows : (whole : ℕ → Bool) (w : Windows) → Formed w → Planna
 plans-windows whole w formed planned =
     record {
       minutes = refl;
-      takes = law .takes;
+      follows = law .follows;
       plan = bytes;
       count = refl;
       broken-is =

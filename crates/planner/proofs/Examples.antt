@@ -148,7 +148,7 @@ tie-examples =
       fewer-broken = record { plan = refl; broken = refl };
       lowest-place = refl;
       late-lowest = refl;
-      running = refl;
+      goes-on = refl;
       interrupted = refl;
       left-not-needed = refl;
     }

@@ -13,7 +13,7 @@ use Rattle.planner.specs.BrokenEntries.{isBroken, brokenIn, Broken}
 -- place that the rule takes; they are a plan, and the entries counted as broken are the whole ones whose minutes are not consecutive
 pub record PlansWindows (whole : ℕ → Bool) (w : Windows) (bytes : List ℕ) (broken : ℕ) : Type 0 where
   pub minutes : bytes ≡ schedule w
-  pub takes : FollowsJackson w (placesIn bytes)
+  pub follows : FollowsJackson w (placesIn bytes)
   pub plan : PlanBytes w bytes
   pub count : broken ≡ brokenIn whole w (placesIn bytes)
   pub broken-is : (i : ℕ) → i < w .n → (isBroken whole (w .h) (placesIn bytes) i ≡ true) ↔ Broken whole (w .h) (placesIn bytes) i

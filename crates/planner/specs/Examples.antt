@@ -162,7 +162,7 @@ pub record TieExamples : Type 0 where
   -- and so from the day's end back
   pub late-lowest : shownBytes Late (day 3 (pauseEntry 1 1 3 1 ∷ pauseEntry 2 1 3 1 ∷ pauseEntry 3 0 1 1 ∷ [])) 2 ≡ 2 ∷ 1 ∷ 0 ∷ []
   -- the running box goes on, though another has the same d and fewer minutes left
-  pub running : plannedBytes (day 4 (pauseEntry 1 1 4 1 ∷ pauseEntry 2 0 4 3 ∷ [])) ≡ 1 ∷ 1 ∷ 1 ∷ 0 ∷ []
+  pub goes-on : plannedBytes (day 4 (pauseEntry 1 1 4 1 ∷ pauseEntry 2 0 4 3 ∷ [])) ≡ 1 ∷ 1 ∷ 1 ∷ 0 ∷ []
   -- place 1 was interrupted and is not the running box: of places 0 and 1, with 1 and 2 minutes left, place 0 is taken
   pub interrupted : plannedBytes (day 5 (pauseEntry 1 1 5 1 ∷ pauseEntry 2 0 5 3 ∷ pauseEntry 3 1 2 1 ∷ [])) ≡ 1 ∷ 2 ∷ 0 ∷ 1 ∷ 1 ∷ []
   -- minutes left, not p: after the interruption place 1 needs 3 minutes and has 1 left, place 0 has 2
