@@ -53,13 +53,15 @@ pub fn late_plan(settled: &Day, place: usize, greatest_start: u16) -> Vec<u8> {
     mirror::plan(&jackson::schedule(&mirrored))
 }
 
-fn with_end(day: &Day, place: usize, d: u16) -> Day {
+/// The day with this d at a place.
+pub fn with_end(day: &Day, place: usize, d: u16) -> Day {
     let mut day = day.clone();
     day.entries[place].d = d;
     day
 }
 
-fn with_start(day: &Day, place: usize, r: u16) -> Day {
+/// The day with this r at a place.
+pub fn with_start(day: &Day, place: usize, r: u16) -> Day {
     let mut day = day.clone();
     day.entries[place].r = r;
     day

@@ -72,9 +72,9 @@ impl Minute<'_> {
         place < self.left.len() && self.day.entries[place].r <= self.minute && self.left[place] > 0
     }
 
-    /// "The entry that had the minute before, if it has minutes left"
-    fn running(&self, place: usize) -> bool {
-        usize::from(self.before) == place && self.left[place] > 0
+    /// "The entry that had the minute before, if it has minutes left", which a ready place has.
+    fn running(&self, ready: usize) -> bool {
+        usize::from(self.before) == ready
     }
 
     /// Whether this byte has the minute by the rule.

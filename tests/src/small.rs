@@ -23,7 +23,12 @@ pub fn days(h: u16, n: u32) -> impl Iterator<Item = Day> {
     })
 }
 
-/// The same with each entry pause or whole, whatever the others are.
+/// Every day of at most `h` minutes and `n` entries, all pause.
+pub fn pause_days_up_to(h: u16, n: u32) -> impl Iterator<Item = Day> {
+    (1..=h).flat_map(move |h| (0..=n).flat_map(move |n| days(h, n)))
+}
+
+/// Every day of `h` minutes with `n` entries, each pause or whole, whatever the others are.
 pub fn days_of_both_kinds(h: u16, n: u32) -> impl Iterator<Item = Day> {
     days(h, n).flat_map(of_both_kinds)
 }

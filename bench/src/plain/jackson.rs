@@ -16,7 +16,7 @@ fn smallest_d(r: &Minutes, d: &Minutes, left: &Minutes, minute: u16) -> Option<u
     (0..MOST_ENTRIES).map(|place| d_if_ready(r, d, left, minute, place)).min().filter(|&d| d < NEVER)
 }
 
-/// The d of an entry that may have the minute.
+/// The d of an entry that may have the minute, NEVER of any other.
 #[inline(always)]
 fn d_if_ready(r: &Minutes, d: &Minutes, left: &Minutes, minute: u16, place: usize) -> u16 {
     if r[place] <= minute && left[place] > 0 {

@@ -9,7 +9,7 @@ use lib.Dec.{ltb}
 use lib.ListN.{getD}
 use Rattle.base.proofs.Sums.{le-or-lt}
 use Rattle.base.proofs.Listed.{list-same, list-at}
-use Rattle.bounds.specs.Calls.{byPlace}
+use Rattle.bounds.specs.Ends.{byPlace}
 
 -- the number at a place
 module _ (f : ℕ → ℕ) where

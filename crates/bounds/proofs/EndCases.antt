@@ -21,8 +21,8 @@ use Rattle.base.specs.Outcomes.{Outcome, answered, refused, accepts}
 use Rattle.jackson.proofs.Room.{passes-formed}
 use Rattle.narrow.proofs.OverloadPlanner.{overload-planner}
 use Rattle.jackson.proofs.MirrorWindows.{formed-mirror}
-use Rattle.bounds.specs.Ends.{leastEnd}
-use Rattle.bounds.specs.Calls.{byPlace, leastEnds, greatestStarts, HoldsBounds}
+use Rattle.bounds.specs.Ends.{leastEnd, byPlace, leastEnds, greatestStarts}
+use Rattle.bounds.specs.Calls.{HoldsBounds}
 use Rattle.bounds.proofs.ByPlace.{by-place-at, by-place, by-place-same}
 use Rattle.bounds.proofs.EndSearches.{deadline-mono, least-end-whole, least-end-found, least-end-range}
 use Rattle.bounds.proofs.MirrorEnds.{start-by-mirror}

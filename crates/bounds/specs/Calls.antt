@@ -4,30 +4,17 @@ use mathlib.Core.Path.{_≡_}
 use mathlib.Core.Bool.{Bool, cond}
 use mathlib.Core.List.{List, [], _∷_, _++_}
 use lib.ListN.{length, drop, replicate}
-use lib.Dec.{leb, ltb}
+use lib.Dec.{leb}
 use Rattle.base.specs.Outcomes.{Outcome, answered, Row, row, firstOf, andThen, accepts}
-use Rattle.base.specs.Counting.{listOf}
 use Rattle.list.specs.DayLists.{mostEntries}
 use Rattle.list.specs.Refusals.{verdictOf}
 use Rattle.jackson.specs.Windows.{Windows, roomFault}
-use Rattle.jackson.specs.Intervals.{overloadOf}
 use Rattle.jackson.specs.Calls.{bufferRow}
-use Rattle.bounds.specs.Ends.{leastEnd, greatestStart}
+use Rattle.bounds.specs.Ends.{leastEnds, greatestStarts}
 use Rattle.bounds.specs.ShownPlans.{boundOf, shownPlan}
 use Rattle.bounds.specs.declared.types.Shown.{Shown}
 use Rattle.bounds.specs.declared.types.Bounds.{Bounds}
 use Rattle.bounds.specs.declared.types.BoundAnswer.{BoundAnswer}
-
--- a number for each place below n; from n on 0
-abbrev pub byPlace : ℕ → (ℕ → ℕ) → List ℕ
-byPlace n f = listOf mostEntries (λ i. cond (ltb i n) (f i) 0)
-
--- the least ends and greatest starts of all places
-abbrev pub leastEnds : (ℕ → Bool) → Windows → List ℕ
-leastEnds whole w = byPlace (w .n) (leastEnd overloadOf whole w)
-
-abbrev pub greatestStarts : (ℕ → Bool) → Windows → List ℕ
-greatestStarts whole w = byPlace (w .n) (greatestStart overloadOf whole w)
 
 -- these numbers, or 0 for each place of windows without room
 abbrev pub inRoom : Windows → List ℕ → List ℕ

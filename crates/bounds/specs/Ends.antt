@@ -2,9 +2,13 @@
 use Prim.Native.Nat.{ℕ, _+_, _-_}
 use mathlib.Core.Path.{_≡_}
 use mathlib.Core.Bool.{Bool, true, cond}
-use Rattle.base.specs.Counting.{firstBelow}
+use mathlib.Core.List.{List}
+use lib.Dec.{ltb}
+use Rattle.base.specs.Counting.{firstBelow, listOf}
+use Rattle.list.specs.DayLists.{mostEntries}
 use Rattle.jackson.specs.Windows.{Windows, withR, withD}
 use Rattle.jackson.specs.Plans.{Plan, Consecutive}
+use Rattle.jackson.specs.Intervals.{overloadOf}
 use Rattle.narrow.specs.Searching.{Test}
 use Rattle.base.specs.Outcomes.{accepts}
 
@@ -29,6 +33,17 @@ leastEnd test whole w k = cond (whole k) (w .r k + w .p k) (w .r k + w .p k + fa
 -- "a pause entry has its .. greatest start over all plans. A whole entry has .. d - p": `start-bound` and `late-is`
 unfoldable pub greatestStart : Test → (ℕ → Bool) → Windows → ℕ → ℕ
 greatestStart test whole w k = cond (whole k) (w .d k - w .p k) (w .d k - w .p k - failedReleases test w k)
+
+-- a number for each place below n; from n on 0
+abbrev pub byPlace : ℕ → (ℕ → ℕ) → List ℕ
+byPlace n f = listOf mostEntries (λ i. cond (ltb i n) (f i) 0)
+
+-- the least ends and greatest starts of all places
+abbrev pub leastEnds : (ℕ → Bool) → Windows → List ℕ
+leastEnds whole w = byPlace (w .n) (leastEnd overloadOf whole w)
+
+abbrev pub greatestStarts : (ℕ → Bool) → Windows → List ℕ
+greatestStarts whole w = byPlace (w .n) (greatestStart overloadOf whole w)
 
 -- a plan in the windows w that keeps entry k itself in one piece if it is whole
 pub record Keeping (whole : ℕ → Bool) (w : Windows) (k : ℕ) (m : ℕ → ℕ) : Type 0 where

@@ -14,8 +14,8 @@ ghost use Rattle.base.specs.Outcomes.{accepts};
 ghost use Rattle.list.specs.DayLists.{marked, mostEntries};
 ghost use Rattle.jackson.specs.Windows.{windowsIn, withD, Formed, Searchable};
 ghost use Rattle.jackson.specs.Intervals.{overloadOf};
-ghost use Rattle.bounds.specs.Ends.{leastEnd};
-ghost use Rattle.bounds.specs.Calls.{leastEnds, greatestStarts, HoldsBounds};
+ghost use Rattle.bounds.specs.Ends.{leastEnd, leastEnds, greatestStarts};
+ghost use Rattle.bounds.specs.Calls.{HoldsBounds};
 
 // Whether a plan exists when entry k's d is e.
 fn has_plan_by(windows: WindowSet, k: usize, e: u16) -> bool

@@ -27,9 +27,9 @@ use Rattle.narrow.specs.declared.types.WindowsAnswer.{WindowsAnswer}
 use Rattle.narrow.specs.Calls.{narrowedOf, narrowedIn}
 use Rattle.narrow.specs.declared.types.NarrowAnswer.{NarrowAnswer}
 use Rattle.jackson.proofs.ListLaws.{list-formed}
-use Rattle.bounds.specs.Ends.{leastEnd, greatestStart}
+use Rattle.bounds.specs.Ends.{leastEnd, greatestStart, byPlace}
 use Rattle.bounds.specs.ShownPlans.{earlyPlan, latePlan, boundOf, shownPlan}
-use Rattle.bounds.specs.Calls.{byPlace, HoldsBounds, StoresPlan}
+use Rattle.bounds.specs.Calls.{HoldsBounds, StoresPlan}
 use Rattle.bounds.specs.declared.types.Shown.{Shown}
 use Rattle.bounds.specs.declared.types.Shown.the-variants.{Early, Late}
 use Rattle.bounds.specs.declared.types.Bounds.{Bounds}

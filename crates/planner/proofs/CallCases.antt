@@ -38,7 +38,8 @@ use Rattle.narrow.proofs.StepsKeep.{Keeps}
 use Rattle.narrow.proofs.NarrowLaws.{narrow-law}
 use Rattle.narrow.proofs.ListAnswers.{answers-refused, settle-keeps, holds-answer}
 use Rattle.bounds.specs.ShownPlans.{boundOf, shownPlan}
-use Rattle.bounds.specs.Calls.{leastEnds, greatestStarts, inRoom, HoldsBounds, placeRow, showRows, StoresPlan}
+use Rattle.bounds.specs.Ends.{leastEnds, greatestStarts}
+use Rattle.bounds.specs.Calls.{inRoom, HoldsBounds, placeRow, showRows, StoresPlan}
 use Rattle.bounds.specs.declared.types.Shown.{Shown}
 use Rattle.bounds.specs.declared.types.Bounds.{Bounds}
 use Rattle.bounds.specs.declared.types.BoundAnswer.{BoundAnswer}

@@ -17,8 +17,9 @@ use Rattle.jackson.specs.Minutes.{schedule}
 use Rattle.jackson.specs.Calls.{bufferRow}
 use Rattle.narrow.specs.Rounds.{Narrowed, narrowing}
 use Rattle.narrow.specs.Calls.{narrowedIn, AnswersAs, HoldsAnswer}
+use Rattle.bounds.specs.Ends.{leastEnds, greatestStarts}
 use Rattle.bounds.specs.ShownPlans.{earlyPlan, latePlan, boundOf, shownPlan}
-use Rattle.bounds.specs.Calls.{leastEnds, greatestStarts, placeRow}
+use Rattle.bounds.specs.Calls.{placeRow}
 use Rattle.bounds.specs.declared.types.Shown.{Shown}
 use Rattle.bounds.specs.declared.types.Shown.the-variants.{Early, Late}
 use Rattle.planner.specs.BrokenEntries.{brokenIn}

@@ -7,8 +7,8 @@ use dock_tests::check_bounds::calls;
 use dock_tests::day::{Day, MOST_ENTRIES};
 use dock_tests::random::{self, Random};
 use dock_tests::rule::{follows, Ties};
-use dock_tests::small::{days, of_both_kinds, SETTLED};
-use dock_tests::{brute, flat, mirror, overload};
+use dock_tests::small::{of_both_kinds, pause_days_up_to, SETTLED};
+use dock_tests::{bounds, brute, flat, mirror, overload};
 
 /// The ties of the plan that the library gives, in which every minute must follow the rule; none of a refusal. Windows
 /// and bounds are those that it answers.
@@ -19,18 +19,14 @@ fn ties(call: Call, day: &Day) -> Option<Ties> {
         return None;
     }
     let entries = flat::value(&lent.narrowed).places[..day.entries.len()].to_vec();
-    let mut windows = Day { h: day.h, entries };
+    let settled = Day { h: day.h, entries };
     let bound = answer.values[1] as u16;
-    let plan = match call {
-        Call::Plan => lent.plan,
-        Call::Early(place) => {
-            windows.entries[place as usize].d = bound;
-            lent.plan
-        }
+    let (windows, plan) = match call {
+        Call::Plan => (settled, lent.plan),
+        Call::Early(place) => (bounds::with_end(&settled, place as usize, bound), lent.plan),
         Call::Late(place) => {
-            windows.entries[place as usize].r = bound;
-            windows = mirror::day(&windows);
-            mirror::plan(&lent.plan)
+            let windows = bounds::with_start(&settled, place as usize, bound);
+            (mirror::day(&windows), mirror::plan(&lent.plan))
         }
     };
     assert!(brute::is_plan(&windows, &plan), "{plan:?}, {call:?} of {day:?}");
@@ -50,8 +46,10 @@ impl Seen {
     /// Makes these calls for a day, all of which are refused or none.
     #[track_caller]
     fn count(&mut self, day: &Day, calls: &[Call]) {
-        for &call in calls {
-            let Some(ties) = ties(call, day) else { return };
+        let all: Vec<Option<Ties>> = calls.iter().map(|&call| ties(call, day)).collect();
+        let planned = all.iter().flatten().count();
+        assert!(planned == 0 || planned == calls.len(), "{planned} of {} calls plan {day:?}", calls.len());
+        for (&call, ties) in calls.iter().zip(all.into_iter().flatten()) {
             let seen = match call {
                 Call::Plan => &mut self.plans,
                 Call::Early(_) => &mut self.early,
@@ -72,8 +70,7 @@ impl Seen {
 #[test]
 fn every_small_days_plans_follow_the_rule() {
     let mut seen = Seen::default();
-    let all = (1..=4).flat_map(|h| (0..=3).flat_map(move |n| days(h, n)));
-    for day in all.filter(|day| overload::shown(day).is_none()).flat_map(of_both_kinds) {
+    for day in pause_days_up_to(4, 3).filter(|day| overload::shown(day).is_none()).flat_map(of_both_kinds) {
         seen.count(&day, &calls(day.entries.len()));
     }
     assert_eq!(seen.days, SETTLED);

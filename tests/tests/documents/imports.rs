@@ -1,7 +1,7 @@
-//! What the definitions, proofs and code under crates/ import, file by file. "Settled windows, least ends and greatest
-//! starts keep their values" (document 02): what defines them never reaches the file in which Jackson's minute, its tie
-//! rule and the schedule are defined; nor do the steps of the law that a plan exists exactly when no interval is
-//! overloaded, so that a rule for ties leaves them as they are.
+//! What the definitions, proofs and code under crates/ import and name, file by file. "Settled windows, least ends and
+//! greatest starts keep their values" (document 02): the files that define them never reach the one in which Jackson's
+//! minute, its tie rule and the schedule are defined; nor do the steps of the law that a plan exists exactly when no
+//! interval is overloaded, so that a rule for ties leaves them as they are.
 
 use crate::page;
 use dock_tests::cases::{names, root};
@@ -50,6 +50,7 @@ fn definitions(file: &str) -> Vec<String> {
     let lines = text.lines().filter(|line| line.contains("Rattle·"));
     let modules = lines.map(|line| {
         let line = line.trim_start();
+        assert_eq!(line.matches("Rattle·").count(), 1, "{file}: {line} is more than an import");
         let module = line.strip_prefix("ghost ").unwrap_or(line).strip_prefix("use Rattle·");
         module.unwrap_or_else(|| panic!("{file}: {line} is no import"))
     });
@@ -70,18 +71,29 @@ fn definition(file: &str, import: &str) -> Option<String> {
     Some(found)
 }
 
-/// The code that a file imports, by lines "use crate::search::Found;", "use list::types::Verdict;", "use
-/// jackson::mirrored;" and, in lib.rt, "pub use mirror::mirrored;".
+/// The code that a file names: by lines "use crate::search::Found;", "use list::types::Verdict;", "use
+/// jackson::mirrored;" and, in lib.rt, "pub use mirror::mirrored;", and where it is called, "list::check(list)".
 #[track_caller]
 fn code(file: &str) -> Vec<String> {
     let own = file.split('/').nth(1).expect("a crate");
     let text = page(file);
-    let lines = text.lines().filter_map(|line| {
-        let line = line.trim_start();
-        let found = line.strip_prefix("pub use ").map(|path| format!("crate::{path}"));
-        found.or(line.strip_prefix("use ").map(String::from))
+    let lines = text.lines().map(str::trim_start);
+    let lines = lines.filter(|line| !line.starts_with("//") && !line.starts_with("ghost "));
+    let named = lines.flat_map(|line| match line.strip_prefix("pub use ") {
+        Some(path) => vec![format!("crate::{path}")],
+        None => paths(line),
     });
-    lines.map(|import| source(file, own, import.trim_end_matches(';'))).collect()
+    named.map(|path| source(file, own, path.trim_end_matches(';'))).collect()
+}
+
+/// The paths in a line, "list::check" in "let verdict = list::check(list);". Crates and modules begin with a small
+/// letter, types do not: "Verdict::Accepted" is none.
+fn paths(line: &str) -> Vec<String> {
+    let words = line.split(|letter: char| !(letter.is_alphanumeric() || letter == '_' || letter == ':'));
+    words
+        .filter(|word| word.starts_with(char::is_lowercase) && word.contains("::"))
+        .map(String::from)
+        .collect()
 }
 
 /// The file that declares "crate::search::Found", "list::types::Verdict" or "jackson::mirrored".
@@ -151,15 +163,16 @@ fn code_of_windows_and_bounds_does_not_call_jacksons_minute() {
         for planner in ["crates/jackson/src/minute.rt", "crates/jackson/src/fill.rt"] {
             assert!(!met.contains_key(planner), "{}", way(&met, planner));
         }
-        let has_days = met.keys().find(|file| page(file).contains("::types::Day;"));
-        assert_eq!(has_days, None, "a day's methods are Jackson's minute");
+        let calls =
+            met.keys().find(|file| [".minute(", "::minute("].iter().any(|call| page(file).contains(call)));
+        assert_eq!(calls, None, "the method of a day is Jackson's minute");
     }
 }
 
 /// The steps of the law that a plan exists exactly when no interval is overloaded: they hold for every rule that takes
 /// the smallest d, whatever it does with ties.
 #[test]
-fn the_law_of_plans_is_proved_without_the_tie_rule() {
+fn the_steps_of_the_law_of_plans_know_no_tie_rule() {
     let steps = ["PlanWork", "OneMinute", "RunningDays", "Endpoints", "IntervalWork", "ShownInterval"];
     let files = steps.map(|name| format!("crates/jackson/proofs/{name}.antt"));
     assert!(never_reach_minutes(&files) > 10);

@@ -16,16 +16,15 @@ type Rule = fn(&Day) -> Vec<u8>;
 
 /// The schedule of settled windows that a call gives, by either rule. Bounds are those of both.
 fn answered(rule: Rule, call: Call, settled: &Day) -> Vec<u8> {
-    let mut day = settled.clone();
     match call {
-        Call::Plan => rule(&day),
+        Call::Plan => rule(settled),
         Call::Early(place) => {
-            day.entries[place as usize].d = bounds::least_end(settled, place as usize);
-            rule(&day)
+            let end = bounds::least_end(settled, place as usize);
+            rule(&bounds::with_end(settled, place as usize, end))
         }
         Call::Late(place) => {
-            day.entries[place as usize].r = bounds::greatest_start(settled, place as usize);
-            mirror::plan(&rule(&mirror::day(&day)))
+            let start = bounds::greatest_start(settled, place as usize);
+            mirror::plan(&rule(&mirror::day(&bounds::with_start(settled, place as usize, start))))
         }
     }
 }
@@ -106,33 +105,32 @@ fn another_plan() {
     becomes(3, "w[0,3)2 w[0,3)1", Call::Plan, "0 0 1", "1 0 0");
 }
 
-/// Whether the early plan of a place is another one.
-fn early(settled: &Day) -> bool {
-    (0..settled.entries.len() as u64).any(|place| changed(Call::Early(place), settled))
+/// Whether a place has another early plan, or another late one.
+fn shown_changed(shown: fn(u64) -> Call, settled: &Day) -> bool {
+    (0..settled.entries.len() as u64).any(|place| changed(shown(place), settled))
 }
 
-/// Whether the late plan of a place is another one.
-fn late(settled: &Day) -> bool {
-    (0..settled.entries.len() as u64).any(|place| changed(Call::Late(place), settled))
-}
-
-/// A third box is shown, and the tie is between the two others.
+/// A third box is shown, and the tie is between the two others. There are 580 such days of this size.
 #[test]
 fn another_early_plan() {
-    let (size, days) = smallest(early);
+    let (size, days) = smallest(|settled| shown_changed(Call::Early, settled));
     assert_eq!((size, days.len()), ((4, 3), 580));
-    assert!(days.contains(&boxes(4, "p[0,4)2 p[0,4)1 p[0,1)1")));
-    becomes(4, "p[0,4)2 p[0,4)1 p[0,1)1", Call::Early(2), "2 0 0 1", "2 1 0 0");
+    for text in ["p[0,4)2 p[0,4)1 p[0,1)1", "w[0,4)2 w[0,4)1 w[0,4)1"] {
+        assert!(days.contains(&boxes(4, text)), "{text}");
+        becomes(4, text, Call::Early(2), "2 0 0 1", "2 1 0 0");
+    }
 }
 
-/// The same from the last minute back, where the minutes left are those not yet placed.
+/// The same from the last minute back, where the minutes left are those not yet placed. A day has another early plan
+/// exactly if its mirror has another late one, so that there are as many.
 #[test]
 fn another_late_plan() {
-    let (size, days) = smallest(late);
+    let (size, days) = smallest(|settled| shown_changed(Call::Late, settled));
     assert_eq!((size, days.len()), ((4, 3), 580));
-    assert!(days.contains(&boxes(4, "w[1,4)2 w[1,4)1 w[0,1)1")));
-    becomes(4, "p[0,4)2 p[0,4)1 p[0,1)1", Call::Late(2), "2 1 0 0", "2 0 0 1");
-    becomes(4, "w[1,4)2 w[1,4)1 w[0,1)1", Call::Late(2), "2 1 0 0", "2 0 0 1");
+    for text in ["p[0,4)2 p[0,4)1 p[0,1)1", "w[1,4)2 w[1,4)1 w[0,1)1"] {
+        assert!(days.contains(&boxes(4, text)), "{text}");
+        becomes(4, text, Call::Late(2), "2 1 0 0", "2 0 0 1");
+    }
 }
 
 /// The short box goes first, so that the long one is not done when a third box interrupts it.
@@ -140,7 +138,7 @@ fn another_late_plan() {
 fn more_entries_are_broken() {
     let (size, days) = smallest(|settled| broken(settled).0 < broken(settled).1);
     assert_eq!(size, (5, 3));
-    let either_end = [
+    let wanted = [
         "?[2,3)1 w[0,5)2 ?[0,5)1",
         "w[0,5)2 ?[2,3)1 ?[0,5)1",
         "w[0,5)2 ?[0,5)1 ?[2,3)1",
@@ -148,7 +146,7 @@ fn more_entries_are_broken() {
         "w[0,5)2 ?[2,4)1 ?[0,5)1",
         "w[0,5)2 ?[0,5)1 ?[2,4)1",
     ];
-    are(&days, 5, &either_end);
+    are(&days, 5, &wanted);
     becomes(5, "w[0,5)2 w[0,5)1 w[2,4)1", Call::Plan, "0 0 2 1 -", "1 0 2 0 -");
     assert_eq!(broken(&boxes(5, "w[0,5)2 w[0,5)1 w[2,4)1")), (0, 1));
 }
@@ -167,7 +165,7 @@ fn fewer_entries_are_broken() {
 #[test]
 fn by_either_rule_the_schedule_is_a_plan_exactly_if_one_exists() {
     let mut other = 0;
-    for day in (1..=4).flat_map(|h| (0..=3).flat_map(move |n| small::days(h, n))).chain(small::days(5, 3)) {
+    for day in small::pause_days_up_to(4, 3).chain(small::days(5, 3)) {
         let [former, now] = [lowest_place(&day), jackson::schedule(&day)];
         let exists = brute::has_plan(&day);
         assert_eq!(brute::is_plan(&day, &former), exists, "{former:?} of {day:?}");

@@ -55,7 +55,7 @@ fn differs(h: u16, entries: &str, right: &str, trap: impl Fn(&Day) -> Vec<u8>, w
 /// With the key that is right this form gives the rule's schedule, so that only its key makes a trap.
 #[test]
 fn only_the_key_makes_a_trap() {
-    for day in (1..=4).flat_map(|h| (0..=3).flat_map(move |n| small::days(h, n))) {
+    for day in small::pause_days_up_to(4, 3) {
         let right = smallest_first(&day, |ready| (ready.entry.d, !ready.running, ready.left, ready.place));
         assert_eq!(right, jackson::schedule(&day), "{day:?}");
     }

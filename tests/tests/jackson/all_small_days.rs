@@ -1,7 +1,7 @@
 //! Every day of at most 4 minutes and 3 entries, held against all its plans and all its intervals.
 
 use dock_tests::day::{Day, Interval, IDLE};
-use dock_tests::small::{days, entries};
+use dock_tests::small::{days, entries, pause_days_up_to};
 use dock_tests::{abi, brute, check, flat, jackson, overload};
 use std::collections::HashSet;
 
@@ -11,7 +11,7 @@ const OVERLOADED: usize = 7_281;
 
 /// Every day of at most 4 minutes and 3 entries.
 fn small_days() -> impl Iterator<Item = Day> {
-    (1..=4).flat_map(|h| (0..=3).flat_map(move |n| days(h, n)))
+    pause_days_up_to(4, 3)
 }
 
 /// A day of h minutes can have h (h + 1) (h + 2) / 6 different entries: 1, 4, 10 and 20. With 0 to 3 of them

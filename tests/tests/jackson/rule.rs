@@ -5,7 +5,7 @@ use dock_tests::day::{Day, IDLE, LONGEST_DAY, MOST_ENTRIES};
 use dock_tests::random::{self, Random};
 use dock_tests::rule::{follows, Ties};
 use dock_tests::samples::{boxes, plan};
-use dock_tests::small::days;
+use dock_tests::small::{days, pause_days_up_to};
 use dock_tests::{abi, brute, flat, jackson, overload};
 
 /// The ties of the library's plan of a list that has one, in which every minute must follow the rule.
@@ -17,45 +17,39 @@ fn ties(day: &Day) -> Ties {
     follows(day, &bytes).unwrap_or_else(|broken| panic!("{broken}, {bytes:?} of {day:?}"))
 }
 
-/// The ties of all these days that have a plan.
+/// How many of these days have a plan, and the ties of all of them.
 #[track_caller]
-fn all_ties(days: impl Iterator<Item = Day>) -> Ties {
-    let mut all = Ties::default();
-    days.filter(|day| overload::shown(day).is_none()).for_each(|day| all += ties(&day));
-    all
+fn all_ties(days: impl Iterator<Item = Day>) -> (usize, Ties) {
+    let (mut planned, mut all) = (0, Ties::default());
+    for day in days.filter(|day| overload::shown(day).is_none()) {
+        planned += 1;
+        all += ties(&day);
+    }
+    (planned, all)
 }
 
 /// Every day of at most 4 minutes and 3 entries, those of 5 minutes and 3 entries and of 4 minutes and 4 entries.
 #[test]
 fn every_small_days_plan_follows_the_rule() {
-    let small = (1..=4).flat_map(|h| (0..=3).flat_map(move |n| days(h, n)));
-    all_ties(small.chain(days(5, 3)).chain(days(4, 4))).more_than(50);
+    all_ties(pause_days_up_to(4, 3).chain(days(5, 3)).chain(days(4, 4))).1.more_than(50);
 }
 
 #[test]
 fn random_days_plans_follow_the_rule() {
     let mut random = Random::new(19);
-    all_ties((0..20_000).map(|_| random::small_day(&mut random))).more_than(50);
+    all_ties((0..20_000).map(|_| random::small_day(&mut random))).1.more_than(50);
     let grids = [&[60, 240, 720, 1440][..], &[1, 5, 15, 60]];
     let full = |turn: usize| {
         random::planned_day(&mut random, LONGEST_DAY, MOST_ENTRIES, [4, 0][turn % 2], grids[turn % 2])
     };
-    all_ties((0..100).map(full)).more_than(100);
+    all_ties((0..100).map(full)).1.more_than(100);
 }
 
 /// 1,440 minutes, 64 entries and few different d.
 #[test]
 fn full_days_with_many_equal_d_follow_the_rule() {
     let mut random = Random::new(20);
-    let mut planned = 0;
-    let mut all = Ties::default();
-    for _ in 0..200 {
-        let day = random::crowded_day(&mut random);
-        if overload::shown(&day).is_none() {
-            all += ties(&day);
-            planned += 1;
-        }
-    }
+    let (planned, all) = all_ties((0..200).map(|_| random::crowded_day(&mut random)));
     assert!(planned > 100, "{planned} days with a plan");
     all.more_than(500);
 }
@@ -64,7 +58,7 @@ fn full_days_with_many_equal_d_follow_the_rule() {
 /// not the day has a plan.
 #[test]
 fn the_facts_leave_one_string() {
-    for day in (1..=4).flat_map(|h| (0..=3).flat_map(move |n| days(h, n))) {
+    for day in pause_days_up_to(4, 3) {
         let bytes: Vec<u8> = (0..day.entries.len() as u8).chain([IDLE]).collect();
         let string = |number: usize| -> Vec<u8> {
             let byte = |minute| bytes[number / bytes.len().pow(minute) % bytes.len()];

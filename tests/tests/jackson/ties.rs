@@ -157,7 +157,8 @@ fn an_interruption_that_was_interrupted_does_not_go_on_either() {
     planned(9, &[(2, 9, 1), (2, 6, 2), (0, 9, 2), (1, 6, 2), (2, 3, 1)], "2 3 4 3 1 1 0 2 -");
 }
 
-/// "The entry that had the minute before": after an idle minute, or none at all, nobody goes on.
+/// "The entry that had the minute before": after an idle minute, or none at all, there is none, and whoever had one
+/// earlier is done.
 #[test]
 fn after_an_idle_minute_the_fewest_minutes_left_are_taken_then_the_lowest_place() {
     planned(9, &[(3, 9, 1), (0, 9, 1), (3, 9, 2)], "1 - - 0 2 2 - - -");

@@ -51,7 +51,7 @@ fn every_day_is_narrowed_as_the_second_narrowing_says() {
 /// plan.
 #[test]
 fn the_second_narrowings_test_is_whether_there_is_a_plan() {
-    for day in (1..=5).flat_map(|h| (0..=3).flat_map(move |n| small::days(h, n))) {
+    for day in small::pause_days_up_to(5, 3) {
         let schedule = jackson::schedule(&day);
         assert_eq!(jackson::is_plan(&day), brute::is_plan(&day, &schedule), "schedule of {day:?}");
         assert_eq!(jackson::is_plan(&day), brute::has_plan(&day), "plans of {day:?}");
