@@ -11,6 +11,11 @@ pub fn windows(h: u16) -> Vec<Window> {
     (0..h).flat_map(|r| (r + 1..=h).map(move |d| (r, d))).collect()
 }
 
+/// Whether two windows of at most `h` share one of its minutes, by looking at each.
+pub fn share_a_minute(h: u16, one: Window, other: Window) -> bool {
+    (0..h).any(|t| one.0 <= t && t < one.1 && other.0 <= t && t < other.1)
+}
+
 /// A day of `h` minutes with an entry of a minute for each serial and window, pause and whole in turn.
 pub fn day(h: u16, entries: &[(u32, Window)]) -> Day {
     let entry = |(place, &(serial, (r, d)))| Entry { serial, seal: None, r, d, p: 1, whole: place % 2 == 1 };

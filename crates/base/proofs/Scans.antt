@@ -1,12 +1,13 @@
 -- The best number below a bound, and the lowest of equals: what the scan `best` answers.
 -- Assumes nothing.
 use mathlib.Core.Path.{_≡_, refl, sym, _∙_}
-use mathlib.Core.Bool.{Bool, true, false, cond, _&&_, _||_, true≢false}
+use mathlib.Core.Bool.{Bool, true, false, cond, _&&_, _||_, true≢false, or-false}
 use Prim.Native.Nat.{ℕ, zero, suc, _<_, _≤_}
 use native.Mathlib.Omega.{arith}
-use borrow.Author.Tests.{ltb-true, ltb-false, lt-ltb, le-ltb, eqb-true, eq-eqb, ne-eqb}
+use native.Mathlib.Decide.{ℕ-discrete}
+use borrow.Author.Tests.{ltb-true, ltb-false, lt-ltb, le-ltb, eq-eqb, ne-eqb}
 use lib.Dec.{eqb, ltb}
-use Rattle.base.specs.Counting.{best, smaller, larger, lexSmaller}
+use Rattle.base.specs.Counting.{best, smaller, larger, lexLess, lexSmaller}
 use Rattle.base.proofs.Sums.{le-or-lt, below-suc}
 
 -- a test that does not pass
@@ -36,22 +37,29 @@ larger-ranks f =
       over = λ i j k a b. lt-ltb (f j) (f i) (omega (arith, ltb-true (f k) (f i) a, not-ltb (f k) (f j) b));
     }
 
+-- the lexicographic order of equal first numbers, and of others
+module _ (a b c d : ℕ) where
+  pub lex-equal : a ≡ b → ltb c d ≡ lexLess a b c d
+  lex-equal e = rw (eq-eqb a b e, le-ltb a b (omega arith)) refl
+
+  pub lex-other : (a ≡ b → ⊥) → ltb a b ≡ lexLess a b c d
+  lex-other e = rw (ne-eqb a b e) (sym (or-false _))
+
 -- the first value is smaller, or they are equal and the second is smaller
 module _ (f g : ℕ → ℕ) (i k : ℕ) where
   pub of-lex-smaller : lexSmaller f g i k ≡ true → (f i ≤ f k) × (f i ≡ f k → g i < g k)
-  of-lex-smaller h = go (ltb (f i) (f k)) (eqb (f i) (f k)) refl refl h
+  of-lex-smaller h = go (ℕ-discrete (f i) (f k))
     where
-      go : (a b : Bool) → ltb (f i) (f k) ≡ a → eqb (f i) (f k) ≡ b → a || (b && ltb (g i) (g k)) ≡ true
-          → (f i ≤ f k) × (f i ≡ f k → g i < g k)
-      go true b p q h = let l = ltb-true (f i) (f k) p in (omega arith, λ e. absurd (omega arith))
-      go false true p q h = let e = eqb-true (f i) (f k) q in (omega arith, λ _. ltb-true (g i) (g k) h)
-      go false false p q h = absurd (true≢false (sym h))
+      go : Dec (f i ≡ f k) → (f i ≤ f k) × (f i ≡ f k → g i < g k)
+      go (yes e) = (omega (arith, e), λ _. ltb-true (g i) (g k) (lex-equal (f i) (f k) (g i) (g k) e ∙ h))
+      go (no e) = let l = ltb-true (f i) (f k) (lex-other (f i) (f k) (g i) (g k) e ∙ h) in (omega arith, λ q. absurd (e q))
 
   to-lex-smaller : f i ≤ f k → (f i ≡ f k → g i < g k) → lexSmaller f g i k ≡ true
-  to-lex-smaller h less =
-      le-or-lt (f k) (f i)
-      (λ l. let e : f i ≡ f k = omega arith in simp (le-ltb (f i) (f k) l, eq-eqb (f i) (f k) e, lt-ltb (g i) (g k) (less e)))
-      (λ l. simp (lt-ltb (f i) (f k) l))
+  to-lex-smaller l less = go (ℕ-discrete (f i) (f k))
+    where
+      go : Dec (f i ≡ f k) → lexSmaller f g i k ≡ true
+      go (yes e) = sym (lex-equal (f i) (f k) (g i) (g k) e) ∙ lt-ltb (g i) (g k) (less e)
+      go (no e) = sym (lex-other (f i) (f k) (g i) (g k) e) ∙ lt-ltb (f i) (f k) (omega (arith, e))
 
   pub not-lex-smaller : (lexSmaller f g i k ≡ true → ⊥) → (f k ≤ f i) × (f i ≡ f k → g k ≤ g i)
   not-lex-smaller h = (

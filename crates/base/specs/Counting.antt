@@ -39,9 +39,13 @@ smaller f i k = ltb (f i) (f k)
 abbrev pub larger : (ℕ → ℕ) → ℕ → ℕ → Bool
 larger f i k = ltb (f k) (f i)
 
--- smaller values of f are better, and of equal ones smaller values of g: the lexicographic order
+-- a is below b, or they are equal and c is below d: (a, c) comes before (b, d) in the lexicographic order
+abbrev pub lexLess : ℕ → ℕ → ℕ → ℕ → Bool
+lexLess a b c d = ltb a b || (eqb a b && ltb c d)
+
+-- smaller values of f are better, and of equal ones smaller values of g
 abbrev pub lexSmaller : (ℕ → ℕ) → (ℕ → ℕ) → ℕ → ℕ → Bool
-lexSmaller f g i k = ltb (f i) (f k) || (eqb (f i) (f k) && ltb (g i) (g k))
+lexSmaller f g i k = lexLess (f i) (f k) (g i) (g k)
 
 -- the list f 0, .., f (n - 1)
 unfoldable pub listOf : ℕ → (ℕ → ℕ) → List ℕ

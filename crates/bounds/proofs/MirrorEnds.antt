@@ -1,6 +1,6 @@
 -- Greatest starts and late plans are the least ends and early plans of the mirrored windows, mirrored.
 -- Assumes nothing.
-use mathlib.Core.Path.{_≡_, sym, ap, _∙_}
+use mathlib.Core.Path.{_≡_, sym, ap}
 use mathlib.Core.Bool.{Bool, true, false, cond}
 use Prim.Native.Nat.{ℕ, _+_, _-_, _<_, _≤_}
 use native.Mathlib.Omega.{arith}
@@ -11,7 +11,7 @@ use Rattle.base.proofs.Searches.{first-cong}
 use Rattle.narrow.specs.Searching.{Test}
 use Rattle.base.specs.Outcomes.{accepts}
 use Rattle.narrow.proofs.Planners.{Planner}
-use Rattle.jackson.proofs.MirrorWindows.{with-r-mirror}
+use Rattle.jackson.proofs.MirrorWindows.{with-r-mirror, with-d-mirror}
 use Rattle.narrow.proofs.MirrorSearches.{planner-in-mirror}
 use Rattle.narrow.proofs.StepsKeep.{keeps-r}
 use Rattle.narrow.proofs.Exact.{in-mirror}
@@ -47,12 +47,6 @@ module _ {test : Test} (planner : Planner test) (w : Windows) (formed : Formed w
       go true j = omega (arith, in-mirror w formed k place)
       go false j = omega (arith, in-mirror w formed k place)
 
-module _ (w : Windows) (k : ℕ) (place : k < w .n) (e : ℕ) (in-day : e ≤ w .h) where
-  -- the windows of a late plan
-  pub late-windows : mirror (withR w k (w .h - e)) ≡ withD (mirror w) k e
-  late-windows =
-      let back : w .h - (w .h - e) ≡ e = omega arith in
-      sym (with-r-mirror w k place (w .h - e)) ∙ ap (withD (mirror w) k) back
-
-  pub late-by-mirror : latePlan w k (w .h - e) ≡ mirrorBytes (w .h) (earlyPlan (mirror w) k e)
-  late-by-mirror = ap (λ v. mirrorBytes (w .h) (schedule v)) late-windows
+pub late-by-mirror : (w : Windows) (k : ℕ) → k < w .n → (e : ℕ) → e ≤ w .h
+    → latePlan w k (w .h - e) ≡ mirrorBytes (w .h) (earlyPlan (mirror w) k e)
+late-by-mirror w k place e in-day = ap (λ v. mirrorBytes (w .h) (schedule v)) (with-d-mirror w k place e in-day)

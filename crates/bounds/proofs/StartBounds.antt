@@ -1,56 +1,25 @@
 -- In settled windows no plan has a start after the greatest start, and the late plan has that: the mirror of EndBounds.antt.
 -- Assumes nothing.
-use mathlib.Core.Path.{_≡_, sym, ap, _∙_}
+use mathlib.Core.Path.{_≡_, sym}
 use mathlib.Core.Bool.{Bool}
 use mathlib.Core.List.{List}
-use Prim.Native.Nat.{ℕ, suc, _+_, _-_, _<_, _≤_, min}
+use Prim.Native.Nat.{ℕ, _+_, _-_, _<_, _≤_, min}
 use native.Mathlib.Omega.{arith}
 use Rattle.jackson.specs.Windows.{Windows, Formed}
-use Rattle.jackson.specs.Plans.{IsStart, IsEnd, placesIn, PlanBytes, Consecutive}
-use Rattle.jackson.specs.Mirrors.{mirror, mirrorPlan, mirrorBytes}
-use Rattle.jackson.proofs.PlanFacts.{minutes-within, mirror-plan, mirror-twice, mirror-at, mirror-bytes}
+use Rattle.jackson.specs.Plans.{IsStart, placesIn, PlanBytes, Consecutive}
+use Rattle.jackson.specs.Mirrors.{mirror, mirrorBytes}
+use Rattle.jackson.proofs.PlanFacts.{minutes-within, mirror-plan, mirror-at, mirror-bytes}
 use Rattle.narrow.specs.Searching.{Test}
 use Rattle.narrow.specs.Settling.{Settled}
 use Rattle.narrow.proofs.Planners.{Planner}
-use Rattle.jackson.proofs.MirrorWindows.{formed-mirror, mirror-back}
+use Rattle.jackson.proofs.MirrorWindows.{formed-mirror, mirror-back, with-d-mirror}
+use Rattle.jackson.proofs.MirrorMinutes.{mirror-bytes-twice, start-in-mirror, end-in-mirror, consecutive-same, consecutive-mirror}
 use Rattle.jackson.proofs.OneSchedule.{follows-same}
-use Rattle.narrow.proofs.MirrorSettled.{consecutive-mirror, settled-mirror}
+use Rattle.narrow.proofs.MirrorSettled.{settled-mirror}
 use Rattle.bounds.specs.Ends.{leastEnd, greatestStart, Keeping}
 use Rattle.bounds.specs.ShownPlans.{earlyPlan, latePlan, IsEarly, IsLate}
-use Rattle.bounds.proofs.MirrorEnds.{start-by-mirror, late-windows, late-by-mirror}
+use Rattle.bounds.proofs.MirrorEnds.{start-by-mirror, late-by-mirror}
 use Rattle.bounds.proofs.EndBounds.{end-least, early-is}
-
--- a start is an end in the mirror
-start-mirror : (h : ℕ) (m : ℕ → ℕ) (k s : ℕ) → IsStart h m k s → IsEnd h (mirrorPlan h m) k (h - s)
-start-mirror h m k s start =
-    let below = start .below in
-    let e : h - suc (h - s - 1) ≡ s = omega arith in
-    record {
-      after-one = omega arith;
-      within = omega arith;
-      minute = ap m e ∙ start .minute;
-      none-after = λ t l u q. start .none-before (h - suc t) (omega arith) q;
-    }
-
--- an end is a start in the mirror of bytes
-end-mirror : (h : ℕ) (bs : List ℕ) (k e : ℕ) → IsEnd h (placesIn bs) k e → IsStart h (placesIn (mirrorBytes h bs)) k (h - e)
-end-mirror h bs k e end =
-    let one = end .after-one in
-    let within = end .within in
-    let last : h - suc (h - e) ≡ e - 1 = omega arith in
-    record {
-      below = omega arith;
-      minute = mirror-at h bs (h - e) (omega arith) ∙ ap (placesIn bs) last ∙ end .minute;
-      none-before = λ t l q. end .none-after (h - suc t) (omega arith) (omega arith) (sym (mirror-at h bs t (omega arith)) ∙ q);
-    }
-
--- what agrees in the day's minutes with consecutive minutes has them consecutive
-consecutive-same : (h : ℕ) (m x : ℕ → ℕ) (k s e : ℕ) → ((t : ℕ) → t < h → x t ≡ m t) → Consecutive h m k s e → Consecutive h x k s e
-consecutive-same h m x k s e agrees run =
-    record {
-      each = λ t below l u. agrees t below ∙ run .each t below l u;
-      only = λ t below q. run .only t below (sym (agrees t below) ∙ q);
-    }
 
 module _ (whole : ℕ → Bool) (w : Windows) (formed : Formed w) (k : ℕ) (place : k < w .n) (bs : List ℕ) where
   -- bytes whose minutes of k are in one piece have them so in the mirror
@@ -81,7 +50,7 @@ module _ {test : Test} (planner : Planner test) (whole : ℕ → Bool) (w : Wind
   start-bound m keeping s start =
       let there = formed-mirror w formed in
       let plan = mirror-plan w m (keeping .plan) in
-      let bound = end-least planner whole (mirror w) there k place _ plan _ (start-mirror (w .h) m k s start) in
+      let bound = end-least planner whole (mirror w) there k place _ plan _ (start-in-mirror (w .h) m k s start) in
       omega (arith, start .below, start-by-mirror planner w formed k place whole)
 
   pub late-is : Settled whole w → IsLate whole w k (greatestStart test whole w k) (latePlan w k (greatestStart test whole w k))
@@ -89,10 +58,12 @@ module _ {test : Test} (planner : Planner test) (whole : ℕ → Bool) (w : Wind
       rw (start-by-mirror planner w formed k place whole, late-by-mirror w k place least (early .end .within))
       (record {
         rule = sym (late-by-mirror w k place least (early .end .within));
-        follows = rw (late-windows w k place least (early .end .within)) (follows-same _ (placesIn bs) _ twice (early .follows));
+        follows =
+            rw (with-d-mirror w k place least (early .end .within))
+            (follows-same _ (placesIn bs) _ (mirror-bytes-twice (w .h) bs) (early .follows));
         plan = rw (mirror-back w formed) at (mirror-bytes (mirror w) bs (early .plan));
         keeping = rw (mirror-back w formed) at (keeping-mirror whole (mirror w) there k place bs (early .plan) (early .keeping));
-        start = end-mirror (w .h) bs k least (early .end);
+        start = end-in-mirror (w .h) bs k least (early .end);
       })
     where
       there : Formed (mirror w)
@@ -100,9 +71,6 @@ module _ {test : Test} (planner : Planner test) (whole : ℕ → Bool) (w : Wind
 
       bs : List ℕ
       bs = earlyPlan (mirror w) k least
-
-      twice : (t : ℕ) → t < w .h → mirrorPlan (w .h) (placesIn (mirrorBytes (w .h) bs)) t ≡ placesIn bs t
-      twice t below = mirror-at (w .h) bs (w .h - suc t) (omega arith) ∙ mirror-twice (w .h) (placesIn bs) t below
 
       early : IsEarly whole (mirror w) k least bs
       early = early-is planner whole (mirror w) there k place (settled-mirror whole w formed settled)

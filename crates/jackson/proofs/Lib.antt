@@ -4,6 +4,7 @@ pub mod Puts
 pub mod MirrorWindows
 -- Facts about plans alone: the mirror, other windows, room, starts and ends; and what a buffer holds in which a plan was stored.
 pub mod PlanFacts
+pub mod MirrorMinutes
 pub mod StoredPlans
 -- The law that a plan exists exactly without overload: its steps, its form for windows and its form for lists. The crates above are to
 -- cite Law and ListLaws, OneSchedule, and RunningDays and Schedules for days that are running.

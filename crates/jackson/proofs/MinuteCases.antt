@@ -1,12 +1,12 @@
 -- Jackson's minute in each case that the code meets.
 -- Assumes nothing.
 use mathlib.Core.Path.{_≡_, refl, sym, _∙_, ap, fun-ext}
-use mathlib.Core.Bool.{Bool, true, false, not, _&&_, _||_, or-false}
+use mathlib.Core.Bool.{Bool, true, false, not, _&&_}
 use mathlib.Core.List.{List}
 use Prim.Native.Nat.{ℕ, _+_, _-_, _<_, _≤_, min}
 use native.Mathlib.Omega.{arith}
-use borrow.Author.Tests.{le-leb, lt-leb, lt-ltb, le-ltb, eq-eqb, ne-eqb, not-true, not-false}
-use lib.Dec.{eqb, leb, ltb}
+use borrow.Author.Tests.{le-leb, lt-leb, lt-ltb, le-ltb, not-true, not-false}
+use lib.Dec.{leb, ltb}
 use lib.ListN.{length, getD, set, List·getD-eq-default}
 use lib.Seq.{set-out, getD-set-same, getD-set-other}
 use Rattle.base.specs.Counting.{same}
@@ -21,20 +21,12 @@ use Rattle.base.proofs.Scans.{best-some}
 use Rattle.jackson.proofs.Choices.{comes-before-ranks}
 use Rattle.jackson.proofs.ScanCases.{unfit, first, wins, stays}
 
--- the test of an entry, and of two
 module _ (t r left : ℕ) where
   pub released : r ≤ t → ltb 0 left ≡ leb r t && ltb 0 left
   released h = rw (le-leb r t h) refl
 
   pub unreleased : t < r → false ≡ leb r t && ltb 0 left
   unreleased h = rw (lt-leb r t h) refl
-
-module _ (di dk li lk : ℕ) where
-  pub equal-deadlines : di ≡ dk → ltb li lk ≡ ltb di dk || (eqb di dk && ltb li lk)
-  equal-deadlines h = rw (eq-eqb di dk h, le-ltb di dk (omega arith)) refl
-
-  pub other-deadlines : (di ≡ dk → ⊥) → ltb di dk ≡ ltb di dk || (eqb di dk && ltb li lk)
-  other-deadlines h = rw (ne-eqb di dk h) (sym (or-false _))
 
 -- the better of place i and the best so far: b says whether i is ready
 module _ (i k t : ℕ) (r d left : List ℕ) (b : Bool) (says : b ≡ leb (getD r i 0) t && ltb 0 (getD left i 0)) where

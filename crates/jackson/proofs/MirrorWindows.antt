@@ -68,3 +68,9 @@ module _ (w : Windows) (k : ℕ) (place : k < w .n) where
   pub with-r-mirror : (s : ℕ) → withD (mirror w) k (w .h - s) ≡ mirror (withR w k s)
   with-r-mirror s =
       sym (with-d (mirror w) k (w .h - s)) ∙ put-mirror s (w .d k) _ _ mirror-r refl ∙ ap mirror (with-r w k s)
+
+  -- and another d of the mirror is another r of k
+  pub with-d-mirror : (e : ℕ) → e ≤ w .h → mirror (withR w k (w .h - e)) ≡ withD (mirror w) k e
+  with-d-mirror e in-day =
+      let back : w .h - (w .h - e) ≡ e = omega arith in
+      sym (with-r-mirror (w .h - e)) ∙ ap (withD (mirror w) k) back

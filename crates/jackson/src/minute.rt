@@ -5,9 +5,10 @@ use crate::types::WindowSet;
 use list::places_held;
 use list::types::ENTRIES;
 ghost use mathlib.Core.Path.{_≡_};
-ghost use mathlib.Core.Bool.{_&&_, _||_};
+ghost use mathlib.Core.Bool.{_&&_};
 ghost use Prim.Native.Nat.{_-_, _<_, _≤_};
-ghost use lib.Dec.{eqb, leb, ltb};
+ghost use lib.Dec.{leb, ltb};
+ghost use Rattle.base.specs.Counting.{lexLess};
 ghost use Rattle.jackson.specs.Windows.{windowsIn};
 ghost use Rattle.jackson.specs.Plans.{idle};
 ghost use Rattle.jackson.specs.Minutes.{earliestDeadline, chosen};
@@ -24,7 +25,7 @@ fn is_ready(t: u16, r: u16, left: u16) -> bool
 
 // Place i comes before place k: its d is smaller, or as small and it has fewer minutes left.
 fn comes_before(di: u16, dk: u16, li: u16, lk: u16) -> bool
-    ensures { λ b. ⌜ b ≡ ltb di dk || (eqb di dk && ltb li lk) ⌝ }
+    ensures { λ b. ⌜ b ≡ lexLess di dk li lk ⌝ }
 {
     if di == dk { li < lk } else { di < dk }
 }

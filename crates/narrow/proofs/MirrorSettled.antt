@@ -2,15 +2,16 @@
 -- Assumes nothing.
 use mathlib.Core.Path.{_≡_, refl}
 use mathlib.Core.Bool.{Bool}
-use Prim.Native.Nat.{ℕ, suc, _+_, _-_, _<_}
+use Prim.Native.Nat.{ℕ, _+_, _-_, _<_}
 use native.Mathlib.Omega.{arith}
 use Rattle.jackson.specs.Windows.{Windows, withWindows, Formed}
 use Rattle.jackson.specs.Plans.{Plan, Consecutive}
-use Rattle.jackson.specs.Mirrors.{mirror, mirrorPlan}
+use Rattle.jackson.specs.Mirrors.{mirror}
 use Rattle.jackson.proofs.PlanFacts.{mirror-plan, plan-room}
 use Rattle.narrow.specs.Settling.{Settled, SettledInside}
 use Rattle.narrow.specs.Rounds.{Side, earliest, latest}
 use Rattle.jackson.proofs.MirrorWindows.{plannable-mirror, mirror-r, mirror-d}
+use Rattle.jackson.proofs.MirrorMinutes.{consecutive-mirror}
 use Rattle.jackson.proofs.Room.{formed-inside}
 use Rattle.narrow.proofs.StepsKeep.{inside-mirror}
 
@@ -18,14 +19,6 @@ use Rattle.narrow.proofs.StepsKeep.{inside-mirror}
 abbrev pub SidePlan : Side → Windows → ℕ → Type 0
 SidePlan earliest w k = (m : ℕ → ℕ) × Plan w m × Consecutive (w .h) m k (w .r k) (w .r k + w .p k)
 SidePlan latest w k = (m : ℕ → ℕ) × Plan w m × Consecutive (w .h) m k (w .d k - w .p k) (w .d k)
-
--- consecutive minutes are consecutive in the mirrored plan
-pub consecutive-mirror : (h : ℕ) (m : ℕ → ℕ) (k s e : ℕ) → Consecutive h m k s e → Consecutive h (mirrorPlan h m) k (h - e) (h - s)
-consecutive-mirror h m k s e run =
-    record {
-      each = λ t below l u. run .each (h - suc t) (omega arith) (omega arith) (omega arith);
-      only = λ t below q. let z = run .only (h - suc t) (omega arith) q in (omega arith, omega arith);
-    }
 
 module _ (w : Windows) (formed : Formed w) (k : ℕ) (place : k < w .n) where
   -- minutes from r on are minutes up to d in the mirror

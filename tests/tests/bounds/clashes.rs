@@ -33,7 +33,7 @@ fn every_pair_of_windows_of_one_serial() {
     let mut seen = [0; 2];
     for first in clashes::windows(5) {
         for second in clashes::windows(5) {
-            let shared = (0..5).any(|t| first.0 <= t && t < first.1 && second.0 <= t && t < second.1);
+            let shared = clashes::share_a_minute(5, first, second);
             let day = clashes::day(5, &[(7, first), (7, second)]);
             if shared {
                 turned_back(&day, 1);

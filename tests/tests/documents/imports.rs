@@ -120,37 +120,33 @@ fn exporting(name: &str, item: &str) -> String {
     found.unwrap_or_else(|| panic!("{name} exports no {item}")).0.to_string()
 }
 
-/// None of these files leads to the tie rule. Gives how many files were met from all of them.
+/// None of these files leads to the tie rule. More files than so many are met from all of them, their own among them.
 #[track_caller]
-fn never_reach_minutes(from: &[String]) -> usize {
+fn never_reach_minutes(from: &[String], more_than: usize) {
     let mut all = Met::new();
     for file in from {
         let met = met(file, definitions);
         assert!(!met.contains_key(MINUTES), "{}", way(&met, MINUTES));
         all.extend(met);
     }
-    all.len()
+    assert!(all.len() > more_than, "{all:?}");
 }
 
 /// Every definition of narrowing, those of steps, rounds and settled windows among them.
 #[test]
 fn narrowing_is_defined_without_the_tie_rule() {
-    let specs = files("crates/narrow/specs", "antt");
-    assert!(specs.len() > 5, "{specs:?}");
-    assert!(never_reach_minutes(&specs) > 12);
+    never_reach_minutes(&files("crates/narrow/specs", "antt"), 12);
 }
 
 #[test]
 fn bounds_are_defined_without_the_tie_rule() {
-    assert!(never_reach_minutes(&["crates/bounds/specs/Ends.antt".to_string()]) > 4);
+    never_reach_minutes(&["crates/bounds/specs/Ends.antt".to_string()], 4);
 }
 
 /// What the contracts of narrowing's code say.
 #[test]
 fn narrowings_code_promises_nothing_of_the_tie_rule() {
-    let sources = files("crates/narrow/src", "rt");
-    assert!(sources.len() > 3, "{sources:?}");
-    assert!(never_reach_minutes(&sources) > 12);
+    never_reach_minutes(&files("crates/narrow/src", "rt"), 12);
 }
 
 /// "the narrower uses only the planner's promise that a plan exists exactly without overload": the code that narrows,
@@ -175,7 +171,7 @@ fn code_of_windows_and_bounds_does_not_call_jacksons_minute() {
 fn the_steps_of_the_law_of_plans_know_no_tie_rule() {
     let steps = ["PlanWork", "OneMinute", "RunningDays", "Endpoints", "IntervalWork", "ShownInterval"];
     let files = steps.map(|name| format!("crates/jackson/proofs/{name}.antt"));
-    assert!(never_reach_minutes(&files) > 10);
+    never_reach_minutes(&files, 10);
 }
 
 /// The search is not blind: what speaks of plans leads to the tie rule, and their code calls Jackson's minute.

@@ -105,32 +105,30 @@ fn another_plan() {
     becomes(3, "w[0,3)2 w[0,3)1", Call::Plan, "0 0 1", "1 0 0");
 }
 
-/// Whether a place has another early plan, or another late one.
-fn shown_changed(shown: fn(u64) -> Call, settled: &Day) -> bool {
-    (0..settled.entries.len() as u64).any(|place| changed(shown(place), settled))
+/// The smallest days that have another early plan, or another late one, have 4 minutes and 3 entries, and there are 580
+/// of that size. These are among them, and the plan of place 2 becomes so.
+#[track_caller]
+fn another_shown(shown: fn(u64) -> Call, texts: [&str; 2], former: &str, now: &str) {
+    let places = |settled: &Day| 0..settled.entries.len() as u64;
+    let (size, days) = smallest(|settled| places(settled).any(|place| changed(shown(place), settled)));
+    assert_eq!((size, days.len()), ((4, 3), 580));
+    for text in texts {
+        assert!(days.contains(&boxes(4, text)), "{text}");
+        becomes(4, text, shown(2), former, now);
+    }
 }
 
-/// A third box is shown, and the tie is between the two others. There are 580 such days of this size.
+/// A third box is shown, and the tie is between the two others.
 #[test]
 fn another_early_plan() {
-    let (size, days) = smallest(|settled| shown_changed(Call::Early, settled));
-    assert_eq!((size, days.len()), ((4, 3), 580));
-    for text in ["p[0,4)2 p[0,4)1 p[0,1)1", "w[0,4)2 w[0,4)1 w[0,4)1"] {
-        assert!(days.contains(&boxes(4, text)), "{text}");
-        becomes(4, text, Call::Early(2), "2 0 0 1", "2 1 0 0");
-    }
+    another_shown(Call::Early, ["p[0,4)2 p[0,4)1 p[0,1)1", "w[0,4)2 w[0,4)1 w[0,4)1"], "2 0 0 1", "2 1 0 0");
 }
 
 /// The same from the last minute back, where the minutes left are those not yet placed. A day has another early plan
 /// exactly if its mirror has another late one, so that there are as many.
 #[test]
 fn another_late_plan() {
-    let (size, days) = smallest(|settled| shown_changed(Call::Late, settled));
-    assert_eq!((size, days.len()), ((4, 3), 580));
-    for text in ["p[0,4)2 p[0,4)1 p[0,1)1", "w[1,4)2 w[1,4)1 w[0,1)1"] {
-        assert!(days.contains(&boxes(4, text)), "{text}");
-        becomes(4, text, Call::Late(2), "2 1 0 0", "2 0 0 1");
-    }
+    another_shown(Call::Late, ["p[0,4)2 p[0,4)1 p[0,1)1", "w[1,4)2 w[1,4)1 w[0,1)1"], "2 1 0 0", "2 0 0 1");
 }
 
 /// The short box goes first, so that the long one is not done when a third box interrupts it.

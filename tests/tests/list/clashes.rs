@@ -39,7 +39,7 @@ fn every_pair_of_windows_of_one_serial() {
     let mut seen = [0; 2];
     for first in clashes::windows(6) {
         for second in clashes::windows(6) {
-            let shared = (0..6).any(|t| first.0 <= t && t < first.1 && second.0 <= t && t < second.1);
+            let shared = clashes::share_a_minute(6, first, second);
             told(&clashes::day(6, &[(7, first), (7, second)]), shared.then_some(1));
             seen[usize::from(shared)] += 1;
         }
