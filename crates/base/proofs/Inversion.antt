@@ -4,7 +4,7 @@ use mathlib.Core.Path.{_≡_, refl}
 use mathlib.Core.Bool.{Bool, true, false, cond, _&&_, _||_, true≢false, false≢true}
 use Prim.Native.Nat.{ℕ}
 use native.Mathlib.Omega.{arith}
-use Rattle.base.specs.Outcomes.{Code, Outcome, answered, refused, andThen}
+use Rattle.base.specs.Outcomes.{Code, Outcome, answered, refused, andThen, accepts}
 
 -- an outcome answers one thing or refuses by one code, and not both
 pub answered-same : {A : Type 0} {o : Outcome A} {a b : A} → o ≡ answered a → o ≡ answered b → a ≡ b
@@ -15,6 +15,11 @@ refused-same e f = cc (e, f)
 
 pub answered-refused : {A : Type 0} {o : Outcome A} {a : A} {x : Code} → o ≡ answered a → o ≡ refused x → ⊥
 answered-refused e f = let z : _≡_ {A = ℕ} 0 1 = cc (e, f) in omega arith
+
+-- a test that accepts has answered
+pub accepted-answered : (o : Outcome (Unit {0})) → accepts o ≡ true → o ≡ answered tt
+accepted-answered (answered _) e = refl
+accepted-answered (refused k) e = absurd (false≢true e)
 
 -- P of what is answered, R of a refusal
 abbrev pub Says : {A : Type 0} → (A → Type 0) → (Code → Type 0) → Outcome A → Type 0

@@ -1,7 +1,7 @@
 -- The searches for least ends, and numbers by place, as code makes them.
 -- Assumes nothing.
 use mathlib.Core.Path.{_≡_, refl, sym, ap, _∙_}
-use mathlib.Core.Bool.{Bool, true, false, cond, false≢true}
+use mathlib.Core.Bool.{Bool, true, false, cond}
 use mathlib.Core.List.{List}
 use Prim.Native.Nat.{ℕ, _+_, _-_, _/_, _<_, _≤_}
 use native.Mathlib.Omega.{arith}
@@ -17,7 +17,8 @@ use Rattle.jackson.specs.Intervals.{overloadOf}
 use Rattle.jackson.specs.declared.types.WindowSet.{WindowSet}
 use Rattle.base.proofs.Sums.{le-or-lt, same-cases}
 use Rattle.base.proofs.Listed.{list-is, list-length}
-use Rattle.base.specs.Outcomes.{Outcome, answered, refused, accepts}
+use Rattle.base.specs.Outcomes.{accepts}
+use Rattle.base.proofs.Inversion.{accepted-answered}
 use Rattle.jackson.proofs.Room.{passes-formed}
 use Rattle.narrow.proofs.OverloadPlanner.{overload-planner}
 use Rattle.jackson.proofs.MirrorWindows.{formed-mirror}
@@ -181,11 +182,7 @@ module _ (s : WindowSet) (v : Verdict) (says : verdictOf v ≡ roomFault (window
   has-room = is ∙ ap accepts says
 
   pub room-formed : b ≡ true → Formed (windowsIn s)
-  room-formed e = passes-formed (windowsIn s) (omega arith) (accepted (roomFault (windowsIn s)) (sym has-room ∙ e))
-    where
-      accepted : (o : Outcome (Unit {0})) → accepts o ≡ true → o ≡ answered tt
-      accepted (answered t) q = refl
-      accepted (refused k) q = absurd (false≢true q)
+  room-formed e = passes-formed (windowsIn s) (omega arith) (accepted-answered (roomFault (windowsIn s)) (sym has-room ∙ e))
 
   module _ (whole : ℕ → Bool) (ends starts : List ℕ) where
     pub bounds-none : b ≡ false → ends ≡ replicate 64 0 → starts ≡ replicate 64 0

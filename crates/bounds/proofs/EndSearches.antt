@@ -15,7 +15,7 @@ use Rattle.base.specs.Outcomes.{accepts}
 use Rattle.narrow.proofs.Planners.{Planner}
 use Rattle.jackson.proofs.Puts.{place-cases, put-back}
 use Rattle.jackson.proofs.Room.{formed-inside}
-use Rattle.narrow.proofs.Exact.{accepted-answered}
+use Rattle.base.proofs.Inversion.{accepted-answered}
 use Rattle.bounds.specs.Ends.{spare, failedDeadlines, leastEnd}
 
 -- Another d of one entry.

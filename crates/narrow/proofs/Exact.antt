@@ -2,14 +2,14 @@
 -- Assumes nothing.
 use mathlib.Core.Path.{_≡_, refl, ap}
 use mathlib.Core.Logic.{_↔_}
-use mathlib.Core.Bool.{true, false≢true}
+use mathlib.Core.Bool.{true}
 use mathlib.Core.List.{[], _∷_}
 use Prim.Native.Nat.{ℕ, _+_, _-_, _<_, _≤_}
 use native.Mathlib.Omega.{arith}
 use borrow.Author.Tests.{eqb-true, eqb-false}
 use lib.Dec.{eqb}
 use Rattle.base.specs.Outcomes.{code, Outcome, answered, refused, andThen, accepts}
-use Rattle.base.proofs.Inversion.{Says, by-row}
+use Rattle.base.proofs.Inversion.{accepted-answered, Says, by-row}
 use Rattle.jackson.specs.Windows.{Windows, fixedAt, fixedUpTo, Formed}
 use Rattle.jackson.specs.Plans.{Plannable}
 use Rattle.jackson.specs.Mirrors.{mirror}
@@ -63,10 +63,6 @@ module _ (w : Windows) (k : ℕ) where
   some-end e end none = none e (end .to-d) (end .room) (end .plan)
 
 -- Starts.
-
-pub accepted-answered : (o : Outcome (Unit {0})) → accepts o ≡ true → o ≡ answered tt
-accepted-answered (answered _) e = refl
-accepted-answered (refused x) e = absurd (false≢true e)
 
 module _ {test : Test} (planner : Planner test) (w : Windows) (formed : Formed w) (k : ℕ) (place : k < w .n) where
   module _ (s : ℕ) (room : s + w .p k ≤ w .d k) where
