@@ -3,6 +3,9 @@ pub mod Sums
 pub mod Listed
 pub mod Scans
 pub mod Searches
+-- Numbers listed each once, and sorting them by insertion.
+pub mod Permutations
+pub mod Insertion
 -- Walks over arrays, stores one after the other, and tests computed at every number below a bound.
 pub mod Walk
 pub mod Stores

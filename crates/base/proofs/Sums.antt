@@ -112,6 +112,15 @@ some-term (suc n) f some =
     (λ h. (n, omega arith, h))
     (λ h. let z = some-term n f (omega arith) in (z .0, omega (arith, z .1), z .2))
 
+-- the first terms are all of the sum where the rest are 0
+pub sum-rest : (n x : ℕ) (f : ℕ → ℕ) → x ≤ n → ((i : ℕ) → x ≤ i → i < n → f i ≡ 0) → sum x f ≡ sum n f
+unfolding sum
+sum-rest zero x f l rest = let z : x ≡ 0 = omega arith in rw z refl
+sum-rest (suc n) x f l rest =
+    le-or-lt x n
+    (λ h. omega (arith, sum-rest n x f h (λ i a b. rest i a (omega arith)), rest n h (omega arith)))
+    (λ h. let z : x ≡ suc n = omega arith in rw z refl)
+
 -- a test that all terms share, outside the sum
 pub sum-guard : (n : ℕ) (t : Bool) (f : ℕ → ℕ) → sum n (λ i. cond t (f i) 0) ≡ cond t (sum n f) 0
 sum-guard n true f = refl

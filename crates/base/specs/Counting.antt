@@ -1,5 +1,6 @@
 -- Sums, searches, scans and lists over the numbers below a bound.
-use Prim.Native.Nat.{ℕ, zero, suc, _+_}
+use Prim.Native.Nat.{ℕ, zero, suc, _+_, _<_}
+use mathlib.Core.Path.{_≡_}
 use mathlib.Core.Bool.{Bool, cond, _&&_, _||_}
 use mathlib.Core.List.{List, [], _∷_, _++_}
 use lib.Dec.{eqb, ltb}
@@ -12,6 +13,10 @@ sum (suc n) f = sum n f + f n
 -- 1 if the two are the same, else 0
 abbrev pub same : ℕ → ℕ → ℕ
 same a b = cond (eqb a b) 1 0
+
+-- the first n values of o have each number below n exactly once
+abbrev pub EachOnce : ℕ → (ℕ → ℕ) → Type 0
+EachOnce n o = (i : ℕ) → i < n → sum n (λ x. same (o x) i) ≡ 1
 
 -- the first number below n that passes the test, or n if none does
 unfoldable pub firstBelow : ℕ → (ℕ → Bool) → ℕ

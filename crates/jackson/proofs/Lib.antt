@@ -25,6 +25,8 @@ pub mod Alike
 pub mod ArrayCases
 mod ScanCases
 mod MinuteCases
+mod OrderCases
+mod RunningSums
 mod IntervalCases
 mod WindowSetCases
 mod RoomCases

@@ -1,27 +1,56 @@
 -- What private functions promise each other. No public promise cites these.
-use Prim.Native.Nat.{ℕ, _-_}
+use Prim.Native.Nat.{ℕ, _+_, _*_, _-_, _<_, _≤_}
 use mathlib.Core.Path.{_≡_}
-use mathlib.Core.Bool.{cond}
+use mathlib.Core.Bool.{true, cond}
 use mathlib.Core.List.{List}
-use lib.Dec.{ltb}
+use lib.Dec.{leb, ltb}
 use lib.ListN.{getD}
-use Rattle.base.specs.Counting.{better, smaller, larger}
+use Rattle.base.specs.Counting.{better, best, smaller}
 use Rattle.jackson.specs.Windows.{Windows, columns}
 use Rattle.jackson.specs.Plans.{idle}
-use Rattle.jackson.specs.Intervals.{leftOf, rightOf}
+use Rattle.jackson.specs.Intervals.{work, leftEnd, rightOf}
+use Rattle.jackson.specs.RunningSums.{AtLeftEnd}
 use Rattle.jackson.specs.Minutes.{State, stateIn, isReady, comesBefore, after}
 use Rattle.jackson.specs.declared.types.Day.{Day}
+use Rattle.jackson.specs.declared.running_sum.RunningSum.{RunningSum}
+use Rattle.jackson.specs.declared.interval.LeftEnd.{LeftEnd}
+use Rattle.jackson.specs.declared.interval.Shown.{Shown}
 
 -- the windows of n entries held in arrays: their work and their intervals ask for no H
 abbrev pub windowsHeld : ℕ → List ℕ → List ℕ → List ℕ → Windows
 windowsHeld n r d p = columns 0 n r d p
 
--- the better of place i and the best so far k, n for none, in the search for the left end with b, and in that for the right end
-abbrev pub betterLeft : Windows → ℕ → ℕ → ℕ → ℕ
-betterLeft w b i k = better (w .n) (leftOf w b) (larger (w .r)) i k
+-- the numbers that an array has for the places
+abbrev pub column : List ℕ → ℕ → ℕ
+column xs i = getD xs i 0
 
-abbrev pub betterRight : Windows → ℕ → ℕ → ℕ
-betterRight w i k = better (w .n) (rightOf w) (smaller (w .d)) i k
+-- one place more is passed, with this d and p: its box enters if d is at most b
+pub record Passes (b d p : ℕ) (s s′ : RunningSum) : Type 0 where
+  pub passed : s′ .passed ≡ s .passed + 1
+  pub kept : s′ .kept ≡ s .kept + cond (leb d b) p 0
+  pub additions : s′ .additions ≡ s .additions + cond (leb d b) 1 0
+  pub earlier : s′ .earlier ≡ s .earlier
+  pub small : p ≤ 65535
+
+-- the sum started anew for the next right end: the additions made are earlier ones now
+abbrev pub anew : RunningSum → RunningSum
+anew s = record { passed = 0; kept = 0; additions = 0; earlier = s .earlier + s .additions }
+
+-- what the walk for the right end b finds, after the sum s of the right end before: whether an overloaded interval ends at b, the largest left
+-- end of one, or else the last one reached, and the sum there
+pub record FindsLeft (w : Windows) (b : ℕ) (s : RunningSum) (e : LeftEnd) : Type 0 where
+  pub overloaded-is : e .overloaded ≡ ltb (leftEnd w b) (w .n)
+  pub a-is : e .overloaded ≡ true → e .a ≡ w .r (leftEnd w b)
+  pub reached : AtLeftEnd w (e .a) b (e .sum)
+  pub earlier : e .sum .earlier ≡ s .earlier + s .additions
+
+-- what the first i right ends have shown: the place of the smallest b of an overloaded interval, n for none, its a and its work; and no more
+-- than n additions were made for each
+pub record FindsRight (w : Windows) (i : ℕ) (f : Shown) : Type 0 where
+  pub place-is : f .place ≡ best (w .n) i (rightOf w) (smaller (w .d))
+  pub a-is : f .place < w .n → f .a ≡ w .r (leftEnd w (w .d (f .place)))
+  pub work-is : f .place < w .n → f .work ≡ work w (f .a) (w .d (f .place))
+  pub few : f .sum .earlier + f .sum .additions ≤ i * w .n
 
 -- the state at minute t of n entries held in arrays, nobody having had the minute before
 abbrev pub stateAt : ℕ → ℕ → List ℕ → List ℕ → List ℕ → State

@@ -1,4 +1,8 @@
 // Overloaded intervals.
+use crate::order::latest_release_first;
+use crate::running_sum::RunningSum;
+use crate::running_sum::start_anew;
+use crate::running_sum::walk_down;
 use crate::types::WindowSet;
 use crate::window_set::unchecked_windows;
 use list::places_held;
@@ -7,153 +11,149 @@ use list::types::ENTRIES;
 use list::types::Refusal;
 use list::types::Verdict;
 ghost use mathlib.Core.Path.{_≡_};
-ghost use mathlib.Core.Bool.{_&&_, cond};
-ghost use Prim.Native.Nat.{_<_, _≤_};
-ghost use lib.Dec.{leb};
+ghost use mathlib.Core.Bool.{_&&_};
+ghost use Prim.Native.Nat.{_+_, _*_, _-_, _<_, _≤_};
+ghost use lib.Dec.{ltb};
 ghost use Rattle.list.specs.Refusals.{verdictOf};
-ghost use Rattle.jackson.specs.Windows.{windowsIn};
-ghost use Rattle.jackson.specs.Intervals.{work, isOverloaded, leftEnd, rightEnd, overloadOf};
-ghost use Rattle.jackson.specs.Calls.{Tests};
-ghost use Rattle.jackson.specs.Internal.{windowsHeld, betterLeft, betterRight};
 ghost use Rattle.list.specs.DayLists.{mostEntries};
+ghost use Rattle.jackson.specs.Windows.{windowsIn};
+ghost use Rattle.jackson.specs.Intervals.{overloadOf};
+ghost use Rattle.jackson.specs.Orders.{LatestReleaseFirst, orderIn};
+ghost use Rattle.jackson.specs.Calls.{Tests};
+ghost use Rattle.jackson.specs.Internal.{windowsHeld, column, FindsLeft, FindsRight};
 
-// An entry's part in the work of [a, b).
-fn share(a: u16, b: u16, r: u16, d: u16, p: u16) -> u16
-    ensures { λ x. ⌜ x ≡ cond (leb a r && leb d b) p 0 ⌝ }
-{
-    if r < a {
-        return 0;
-    }
-    if b < d {
-        return 0;
-    }
-    p
+// Whether an overloaded interval ends at b, its left end, the largest, or else the last one reached, and the sum there.
+pub(crate) struct LeftEnd {
+    pub overloaded: bool,
+    pub a: u16,
+    pub sum: RunningSum,
 }
 
-// The work of [a, b).
-fn work_in(
-    count: usize,
-    r: &[u16; ENTRIES],
-    d: &[u16; ENTRIES],
-    p: &[u16; ENTRIES],
-    a: u16,
-    b: u16,
-) -> u32
-    requires { ⌜ count ≤ mostEntries ⌝ }
-    ensures { λ x. ⌜ x ≡ work (windowsHeld count (now (r .entry)) (now (d .entry)) (now (p .entry))) a b ⌝ }
-{
-    let mut sum: u32 = 0;
-    let mut i: usize = 0;
-    while i < count {
-        sum += share(a, b, r[i], d[i], p[i]) as u32;
-        i += 1;
-    }
-    sum
+// The overloaded interval with the smallest b so far: the place of its b, the number of entries for none, its a and its work; and the sum as
+// the right end before left it.
+pub(crate) struct Shown {
+    pub place: usize,
+    pub a: u16,
+    pub work: u32,
+    pub sum: RunningSum,
 }
 
 // Whether [a, b) is an interval with more work than minutes.
-fn is_overloaded(
-    count: usize,
-    r: &[u16; ENTRIES],
-    d: &[u16; ENTRIES],
-    p: &[u16; ENTRIES],
-    a: u16,
-    b: u16,
-) -> bool
-    requires { ⌜ count ≤ mostEntries ⌝ }
-    ensures { λ x. ⌜ x ≡ isOverloaded (windowsHeld count (now (r .entry)) (now (d .entry)) (now (p .entry))) a b ⌝ }
+fn is_overloaded(a: u16, b: u16, work: u32) -> bool
+    ensures { λ x. ⌜ x ≡ (ltb a b && ltb (b - a) work) ⌝ }
 {
     if b <= a {
         return false;
     }
-    ((b - a) as u32) < work_in(count, r, d, p, a, b)
+    ((b - a) as u32) < work
 }
 
-// The better of place i and the best so far k, count for none: i if an overloaded interval goes from its r to b and that r is larger.
-fn larger_left(
-    count: usize,
-    r: &[u16; ENTRIES],
-    d: &[u16; ENTRIES],
-    p: &[u16; ENTRIES],
-    b: u16,
-    i: usize,
-    k: usize,
-) -> usize
-    requires { ⌜ count ≤ mostEntries ⌝ }
-    requires { ⌜ i < count ⌝ }
-    requires { ⌜ k ≤ count ⌝ }
-    ensures { λ x. ⌜ x ≡ betterLeft (windowsHeld count (now (r .entry)) (now (d .entry)) (now (p .entry))) b i k ⌝ }
-{
-    if k < count {
-        if r[i] <= r[k] {
-            return k;
-        }
-    }
-    if is_overloaded(count, r, d, p, r[i], b) {
-        i
-    } else {
-        k
-    }
-}
-
-// The place whose r is the largest left end of an overloaded interval that ends at b, count for none.
+// The largest left end of an overloaded interval that ends at b: the first one met as the left end walks down.
 fn left_end(
     count: usize,
     r: &[u16; ENTRIES],
     d: &[u16; ENTRIES],
     p: &[u16; ENTRIES],
+    order: &[usize; ENTRIES],
     b: u16,
-) -> usize
+    before: RunningSum,
+) -> LeftEnd
     requires { ⌜ count ≤ mostEntries ⌝ }
-    ensures { λ k. ⌜ k ≡ leftEnd (windowsHeld count (now (r .entry)) (now (d .entry)) (now (p .entry))) b ⌝ }
+    requires { ⌜ LatestReleaseFirst count (column (now r)) (orderIn (now order)) ⌝ }
+    requires { ⌜ before .earlier + before .additions ≤ mostEntries * mostEntries ⌝ }
+    ensures { λ e. ⌜ FindsLeft (windowsHeld count (now (r .entry)) (now (d .entry)) (now (p .entry))) b before e ⌝ }
 {
-    let mut k: usize = count;
-    let mut i: usize = 0;
-    while i < count {
-        k = larger_left(count, r, d, p, b, i, k);
-        i += 1;
+    let mut a: u16 = 0;
+    let mut sum = start_anew(before);
+    while sum.passed < count {
+        let x = sum.passed;
+        let place = order[x];
+        a = r[place];
+        sum = walk_down(count, r, d, p, order, b, sum);
+        if is_overloaded(a, b, sum.kept) {
+            return LeftEnd {
+                overloaded: true,
+                a: a,
+                sum: sum,
+            };
+        }
     }
-    k
+    LeftEnd {
+        overloaded: false,
+        a: a,
+        sum: sum,
+    }
 }
 
-// The better of place i and the best so far k, count for none: i if an overloaded interval ends at its d and that d is smaller.
+// What the right ends up to that of place i show, if those before it showed this: the walk is made only for a smaller b.
 fn smaller_right(
     count: usize,
     r: &[u16; ENTRIES],
     d: &[u16; ENTRIES],
     p: &[u16; ENTRIES],
+    order: &[usize; ENTRIES],
     i: usize,
-    k: usize,
-) -> usize
+    shown: Shown,
+) -> Shown
     requires { ⌜ count ≤ mostEntries ⌝ }
+    requires { ⌜ LatestReleaseFirst count (column (now r)) (orderIn (now order)) ⌝ }
     requires { ⌜ i < count ⌝ }
-    requires { ⌜ k ≤ count ⌝ }
-    ensures { λ x. ⌜ x ≡ betterRight (windowsHeld count (now (r .entry)) (now (d .entry)) (now (p .entry))) i k ⌝ }
+    requires { ⌜ FindsRight (windowsHeld count (now r) (now d) (now p)) i shown ⌝ }
+    ensures { λ x. ⌜ FindsRight (windowsHeld count (now (r .entry)) (now (d .entry)) (now (p .entry))) (i + 1) x ⌝ }
 {
+    let k = shown.place;
     if k < count {
         if d[k] <= d[i] {
-            return k;
+            return shown;
         }
     }
-    if left_end(count, r, d, p, d[i]) < count {
-        i
-    } else {
-        k
+    let left = left_end(count, r, d, p, order, d[i], shown.sum);
+    let sum = left.sum;
+    if left.overloaded {
+        return Shown {
+            place: i,
+            a: left.a,
+            work: sum.kept,
+            sum: sum,
+        };
+    }
+    Shown {
+        place: k,
+        a: shown.a,
+        work: shown.work,
+        sum: sum,
     }
 }
 
-// The place whose d is the smallest right end of an overloaded interval, count for none.
-fn right_end(count: usize, r: &[u16; ENTRIES], d: &[u16; ENTRIES], p: &[u16; ENTRIES]) -> usize
+// The overloaded interval with the smallest b, and with it the largest a.
+fn right_end(
+    count: usize,
+    r: &[u16; ENTRIES],
+    d: &[u16; ENTRIES],
+    p: &[u16; ENTRIES],
+    order: &[usize; ENTRIES],
+) -> Shown
     requires { ⌜ count ≤ mostEntries ⌝ }
-    ensures { λ k. ⌜ k ≡ rightEnd (windowsHeld count (now (r .entry)) (now (d .entry)) (now (p .entry))) ⌝ }
+    requires { ⌜ LatestReleaseFirst count (column (now r)) (orderIn (now order)) ⌝ }
+    ensures { λ x. ⌜ FindsRight (windowsHeld count (now (r .entry)) (now (d .entry)) (now (p .entry))) count x ⌝ }
 {
-    let mut k: usize = count;
+    let mut shown = Shown {
+        place: count,
+        a: 0,
+        work: 0,
+        sum: RunningSum {
+            passed: 0,
+            kept: 0,
+            additions: 0,
+            earlier: 0,
+        },
+    };
     let mut i: usize = 0;
     while i < count {
-        k = smaller_right(count, r, d, p, i, k);
+        shown = smaller_right(count, r, d, p, order, i, shown);
         i += 1;
     }
-    k
+    shown
 }
 
 // Row 9 for windows, whatever they are: the overloaded interval with the smallest b, and with it the largest a, and its work.
@@ -164,15 +164,14 @@ pub fn unchecked_overload(windows: WindowSet) -> Verdict
     let r = windows.r;
     let d = windows.d;
     let p = windows.p;
-    let j = right_end(count, &r, &d, &p);
-    if count <= j {
+    let order = latest_release_first(windows);
+    let shown = right_end(count, &r, &d, &p, &order);
+    let place = shown.place;
+    if count <= place {
         return Verdict::Accepted;
     }
-    let b = d[j];
-    let i = left_end(count, &r, &d, &p, b);
-    let a = r[i];
-    let work = work_in(count, &r, &d, &p, a, b);
-    Verdict::Refused(Refusal::Overloaded(a, b, work))
+    let b = d[place];
+    Verdict::Refused(Refusal::Overloaded(shown.a, b, shown.work))
 }
 
 // The overload test of a list: the value check, then row 9.

@@ -8,6 +8,8 @@ mod fill;
 mod interval;
 mod minute;
 mod mirror;
+mod order;
+mod running_sum;
 pub mod types;
 mod window_set;
 
@@ -17,6 +19,7 @@ pub use fill::unchecked_schedule;
 pub use interval::overload;
 pub use interval::unchecked_overload;
 pub use mirror::mirrored;
+pub use order::latest_release_first;
 pub use window_set::room_fault;
 pub use window_set::unchecked_windows;
 pub use window_set::zeros;

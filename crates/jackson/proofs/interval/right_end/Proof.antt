@@ -1,30 +1,28 @@
--- The scan finds the definition's right end. The loop's invariant is the best so far, the measure what is left of the places.
+-- The right ends are met one after the other. The loop's invariant is what those so far show, the measure how many are left.
 -- Assumes nothing.
 use borrow.Author.Needs.{needs}
-use Prim.Native.Nat.{_-_}
-use Rattle.base.specs.Counting.{smaller}
-use Rattle.jackson.specs.Intervals.{rightOf, rightEnd}
-use Rattle.jackson.specs.Internal.{windowsHeld}
-use Rattle.base.proofs.Scans.{smaller-ranks}
-use Rattle.jackson.proofs.ScanCases.{Searched, search-start, search-next, search-done, search-in}
+use mathlib.Core.Path.{_≡_}
+use native.Mathlib.Omega.{arith}
+use Prim.Native.Nat.{_-_, _≤_}
+use Rattle.jackson.specs.Orders.{LatestReleaseFirst, orderIn}
+use Rattle.jackson.specs.Internal.{windowsHeld, column, FindsRight}
+use Rattle.jackson.proofs.IntervalCases.{RightSoFar, right-start, right-next, right-done}
 use Rattle.jackson.proofs.interval.right_end.Statement.{statement}
 use Rattle.jackson.proofs.interval.right_end.Tie as tie
 
 abbrev Inv-loop : tie.InvT-loop
-Inv-loop count r d p k₀ i₀ k i = let w = windowsHeld count r d p in Searched count (rightOf w) (smaller (w .d)) count k i
+Inv-loop count r d p order shown₀ i₀ shown i = RightSoFar (windowsHeld count r d p) (orderIn order) i shown
 
 abbrev μ-loop : tie.MeasureT-loop
-μ-loop count r d p k₀ i₀ k i = count - i
+μ-loop count r d p order shown₀ i₀ shown i = count - i
 
 loop-holds : tie.Need-loop-holds Inv-loop μ-loop
-loop-holds c = search-start (c .pre)
+loop-holds c = right-start _ _ (c .pre .0) (c .pre .1)
 
 smaller-right-requires : tie.Need-smaller-right-requires Inv-loop μ-loop
 smaller-right-requires c κs =
     let loop = c .before .loop in
-    let args = c .before .before .args in
-    let w = windowsHeld (args .count) (args .r .now) (args .d .now) (args .p .now) in
-    (loop .inv .held, (c .loop-test .taken, search-in (smaller-ranks (w .d)) (loop .inv)))
+    (loop .inv .few, (loop .inv .order, (c .loop-test .taken, loop .inv .shown)))
 
 add-i : tie.Need-add-i Inv-loop μ-loop
 add-i c = search needs
@@ -33,11 +31,10 @@ loop-less : tie.Need-loop-less Inv-loop μ-loop
 loop-less c = search needs
 
 loop-again : tie.Need-loop-again Inv-loop μ-loop
-loop-again c = search-next _ (c .before .before .loop .inv) (c .before .loop-test .taken) (c .smaller-right .ensures)
+loop-again c = right-next _ _ _ _ (c .before .before .loop .inv) (c .before .loop-test .taken) _ (c .smaller-right .ensures)
 
 returns : tie.Need-returns Inv-loop μ-loop
-unfolding rightEnd
-returns c = search-done (c .before .loop .inv) (c .loop-test .left)
+returns c = right-done _ _ _ _ (c .before .loop .inv) (c .loop-test .left)
 
 pub right-end-spec : {M : Type 1} → statement M
 right-end-spec =

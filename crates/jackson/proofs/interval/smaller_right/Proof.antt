@@ -1,8 +1,9 @@
--- The better of place i and the best so far is the definition's, in each case.
+-- What the right ends show with one more of them, in each case.
 -- Assumes nothing.
 use borrow.Author.Needs.{needs}
 use mathlib.Core.Logic.{⊎-elim}
-use Rattle.jackson.proofs.IntervalCases.{right-stays, right-smaller, right-first, right-unfit}
+use native.Mathlib.Omega.{arith}
+use Rattle.jackson.proofs.IntervalCases.{additions-most, right-stays, right-smaller, right-first, right-none}
 use Rattle.jackson.proofs.interval.smaller_right.Statement.{statement}
 use Rattle.jackson.proofs.interval.smaller_right.Tie as tie
 
@@ -20,9 +21,8 @@ element-copy-out-if2-2 c = search needs
 
 returns : tie.Need-returns
 returns c =
-    let args = c .before .before .before .before .args in
-    let if1 = c .before .before .before .if1 in
-    right-stays (args .count) (args .r .now) (args .d .now) (args .p .now) (args .i) (args .k) (if1 .taken) (c .if2 .taken)
+    let pre = c .before .before .before .before .pre in
+    right-stays _ _ _ (pre .1 .1 .1) (c .before .before .before .if1 .taken) (c .if2 .taken)
 
 mul-left-end : tie.Need-mul-left-end
 mul-left-end c = search needs
@@ -31,25 +31,23 @@ element-copy-out-left-end : tie.Need-element-copy-out-left-end
 element-copy-out-left-end c = search needs
 
 left-end-requires : tie.Need-left-end-requires
-left-end-requires c κs = search needs
+left-end-requires c κs =
+    let pre = c .before .before .pre in
+    (pre .0, (pre .1 .0, additions-most _ _ _ (pre .1 .1 .1) (omega (arith, pre .0, pre .1 .1 .0)) (pre .0)))
 
 returns-2 : tie.Need-returns-2
 returns-2 c =
-    let pre = c .before .before .before .before .pre in
-    let args = c .before .before .before .before .args in
-    let if1 = c .before .before .before .if1 in
-    let left-end = c .before .left-end in
-    ⊎-elim (λ w. right-smaller (args .count) (args .r .now) (args .d .now) (args .p .now) (args .i) (args .k) _ (left-end .ensures)
-    (c .if3 .taken) (w .0 .taken) (w .3 .left))
-    (λ w. right-first (args .count) (args .r .now) (args .d .now) (args .p .now) (args .i) (args .k) _ (left-end .ensures) (c .if3 .taken)
-    (pre .1 .1) (w .left))
+    let pre = c .before .before .before .before .before .pre in
+    let if1 = c .before .before .before .before .if1 in
+    let left-end = c .before .before .left-end in
+    ⊎-elim (λ w. right-smaller _ _ _ (pre .1 .1 .1) _ (left-end .ensures) (c .if3 .taken) (w .0 .taken) (w .3 .left))
+    (λ w. right-first _ _ _ (pre .1 .1 .1) _ (left-end .ensures) (c .if3 .taken) (omega (arith, pre .1 .1 .0)) (w .left))
     (if1 .came)
 
 returns-3 : tie.Need-returns-3
 returns-3 c =
-    let args = c .before .before .before .before .args in
-    right-unfit (args .count) (args .r .now) (args .d .now) (args .p .now) (args .i) (args .k) _ (c .before .left-end .ensures)
-    (c .if3 .left)
+    let pre = c .before .before .before .before .before .pre in
+    right-none _ _ _ (pre .1 .1 .1) _ (c .before .before .left-end .ensures) (c .if3 .left)
 
 pub smaller-right-spec : {M : Type 1} → statement M
 smaller-right-spec =

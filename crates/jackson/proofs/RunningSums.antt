@@ -1,0 +1,148 @@
+-- The walk of the left end for a fixed right end: the sum kept is the interval's work, and the first overloaded left end is the largest.
+-- Assumes nothing.
+use mathlib.Core.Path.{_≡_, refl, sym, ap, _∙_}
+use mathlib.Core.Bool.{Bool, true, false, cond, _&&_, true≢false}
+use Prim.Native.Nat.{ℕ, zero, suc, _+_, _*_, _≤_, _<_}
+use native.Mathlib.Numerals.{add-one}
+use native.Mathlib.Omega.{arith}
+use borrow.Author.Tests.{le-leb, lt-leb}
+use lib.Dec.{leb}
+use Rattle.base.specs.Counting.{sum}
+use Rattle.base.proofs.Sums.{le-or-lt, same-cases, sum-cong, sum-most, sum-rest}
+use Rattle.base.proofs.Permutations.{once-in, once-has, once-sum}
+use Rattle.base.proofs.Scans.{NonePasses, Best}
+use Rattle.jackson.specs.Windows.{Windows}
+use Rattle.jackson.specs.Intervals.{work, isOverloaded, leftOf}
+use Rattle.jackson.specs.Orders.{LatestReleaseFirst}
+use Rattle.jackson.specs.RunningSums.{boxes, entered, AtLeftEnd, SumSoFar, WalksDown}
+use Rattle.jackson.specs.Internal.{Passes}
+use Rattle.jackson.specs.declared.running_sum.RunningSum.{RunningSum}
+
+-- what is added only if a test passes is no more
+cond-le : (t : Bool) (x y : ℕ) → x ≤ y → cond t x 0 ≤ y
+cond-le true x y h = h
+cond-le false x y h = omega arith
+
+-- an interval has no more boxes than the day
+pub boxes-few : (w : Windows) (a b : ℕ) → boxes w a b ≤ w .n
+unfolding boxes
+boxes-few w a b = omega (arith, sum-most (w .n) 1 _ (λ i _. cond-le (leb a (w .r i) && leb (w .d i) b) 1 1 (omega arith)))
+
+-- Along the order the r falls.
+module _ (w : Windows) (o : ℕ → ℕ) (order : LatestReleaseFirst (w .n) (w .r) o) where
+  pub falls : (x y : ℕ) → x ≤ y → y < w .n → w .r (o y) ≤ w .r (o x)
+  falls x y l b = same-cases x y (λ e _. rw e (omega arith)) (λ ne _. order .sorted x y (omega (arith, ne)) b .release)
+
+  -- the boxes entered are those in [a, b), if a is at most the r of those passed and above the r of the rest
+  module _ (a b x : ℕ) (over : (y : ℕ) → y < x → a ≤ w .r (o y)) (under : (y : ℕ) → x ≤ y → y < w .n → w .r (o y) < a) where
+    entered-all : (f : ℕ → ℕ) → x ≤ w .n → entered w o b f x ≡ sum (w .n) (λ i. cond (leb a (w .r i) && leb (w .d i) b) (f i) 0)
+    entered-all f within =
+        let term : ℕ → ℕ = λ i. cond (leb a (w .r i) && leb (w .d i) b) (f i) 0 in
+        sum-cong x _ _ (λ y l. rw (le-leb a (w .r (o y)) (over y l)) refl)
+        ∙ (sum-rest (w .n) x (λ y. term (o y)) within (λ y l u. rw (lt-leb a (w .r (o y)) (under y l u)) refl)
+        ∙ once-sum (w .n) o (order .once) term)
+
+    at-left-end : (s : RunningSum) → s .passed ≡ x → SumSoFar w o b s → AtLeftEnd w a b s
+    unfolding work boxes
+    at-left-end s e so =
+        let within : x ≤ w .n = omega (arith, e, so .within) in
+        record {
+          kept-is = so .kept-is ∙ rw e (entered-all (w .p) within);
+          additions-are = so .additions-are ∙ rw e (entered-all (λ _. 1) within);
+        }
+
+module _ (w : Windows) (o : ℕ → ℕ) (b : ℕ) where
+  -- no more additions than places passed
+  pub additions-few : (s : RunningSum) → SumSoFar w o b s → s .additions ≤ s .passed
+  additions-few s so =
+      omega (
+        arith,
+        so .additions-are,
+        sum-most (s .passed) 1 (λ y. cond (leb (w .d (o y)) b) 1 0) (λ y _. cond-le (leb (w .d (o y)) b) 1 1 (omega arith)),
+      )
+
+  -- the sum started anew
+  pub sum-anew : (earlier : ℕ) → SumSoFar w o b (record { passed = 0; kept = 0; additions = 0; earlier = earlier })
+  unfolding sum
+  sum-anew earlier = record { within = omega arith; kept-is = refl; additions-are = refl; small = omega arith }
+
+  -- one place more
+  module _ (s s′ : RunningSum) (so : SumSoFar w o b s) (more : s .passed < w .n) where
+    abbrev i : ℕ
+    i = o (s .passed)
+
+    pub sum-passed : Passes b (w .d i) (w .p i) s s′ → SumSoFar w o b s′
+    unfolding sum
+    sum-passed t =
+        record {
+          within = omega (arith, t .passed);
+          kept-is = rw (t .passed, add-one) (t .kept ∙ ap (λ (z : ℕ). z + cond (leb (w .d i) b) (w .p i) 0) (so .kept-is));
+          additions-are = rw (t .passed, add-one) (t .additions ∙ ap (λ (z : ℕ). z + cond (leb (w .d i) b) 1 0) (so .additions-are));
+          small = omega (arith, t .passed, t .kept, so .small, cond-le (leb (w .d i) b) (w .p i) 65535 (t .small));
+        }
+
+-- Inside one left end, from s on: all places passed have an r of at least this one.
+pub record Walking (w : Windows) (o : ℕ → ℕ) (b : ℕ) (s s′ : RunningSum) : Type 0 where
+  pub few : w .n ≤ 64
+  pub order : LatestReleaseFirst (w .n) (w .r) o
+  pub more : s .passed < w .n
+  pub sum : SumSoFar w o b s′
+  pub over : (y : ℕ) → y < s′ .passed → w .r (o (s .passed)) ≤ w .r (o y)
+  pub started : s .passed ≤ s′ .passed
+  pub earlier : s′ .earlier ≡ s .earlier
+
+module _ (w : Windows) (o : ℕ → ℕ) (b : ℕ) (s : RunningSum) where
+  pub walking-start : w .n ≤ 64 → LatestReleaseFirst (w .n) (w .r) o → SumSoFar w o b s → s .passed < w .n → Walking w o b s s
+  walking-start few order so more =
+      record {
+        few = few;
+        order = order;
+        more = more;
+        sum = so;
+        over = λ y l. falls w o order y (s .passed) (omega arith) more;
+        started = omega arith;
+        earlier = refl;
+      }
+
+  module _ (s′ : RunningSum) (so : Walking w o b s s′) where
+    -- the place that comes next is one
+    pub place-in : s′ .passed < w .n → o (s′ .passed) < w .n
+    place-in = once-in (w .n) o (so .order .once) (s′ .passed)
+
+    pub walking-next : (t : RunningSum) → s′ .passed < w .n → w .r (o (s .passed)) ≤ w .r (o (s′ .passed))
+        → Passes b (w .d (o (s′ .passed))) (w .p (o (s′ .passed))) s′ t → Walking w o b s t
+    walking-next t less high passes =
+        record {
+          few = so .few;
+          order = so .order;
+          more = so .more;
+          sum = sum-passed w o b s′ t (so .sum) less passes;
+          over = λ y l. same-cases y (s′ .passed) (λ e _. rw e high) (λ ne _. so .over y (omega (arith, ne, passes .passed)));
+          started = omega (arith, so .started, passes .passed);
+          earlier = passes .earlier ∙ so .earlier;
+        }
+
+    -- it ends where the next r is smaller, or no place is left
+    walked : s .passed < s′ .passed → ((y : ℕ) → s′ .passed ≤ y → y < w .n → w .r (o y) < w .r (o (s .passed))) → WalksDown w o b s s′
+    walked further under =
+        record {
+          sum = so .sum;
+          reached = at-left-end w o (so .order) (w .r (o (s .passed))) b (s′ .passed) (so .over) under s′ refl (so .sum);
+          further = further;
+          same-r =
+              λ x l u.
+              omega (arith, so .over x u, falls w o (so .order) (s .passed) x l (omega (arith, so .sum .within)));
+          smaller-r = under;
+          earlier = so .earlier;
+        }
+
+    pub walked-below : s′ .passed < w .n → w .r (o (s′ .passed)) < w .r (o (s .passed)) → WalksDown w o b s s′
+    walked-below less low =
+        walked
+        (same-cases (s .passed) (s′ .passed)
+        (λ e _. absurd (omega (arith, low, ap (λ (z : ℕ). w .r (o z)) e)))
+        (λ ne _. omega (arith, so .started, ne)))
+        (λ y l u. omega (arith, low, falls w o (so .order) (s′ .passed) y l u))
+
+    pub walked-all : w .n ≤ s′ .passed → WalksDown w o b s s′
+    walked-all end = walked (omega (arith, so .more)) (λ y l u. absurd (omega (arith, u)))

@@ -1,0 +1,40 @@
+-- The running sum: for one right end b, the work of the intervals that end at b, while the left end walks down.
+use Prim.Native.Nat.{ℕ, _+_, _*_, _<_, _≤_}
+use mathlib.Core.Path.{_≡_}
+use mathlib.Core.Bool.{cond, _&&_}
+use lib.Dec.{leb}
+use Rattle.base.specs.Counting.{sum}
+use Rattle.jackson.specs.Windows.{Windows}
+use Rattle.jackson.specs.Intervals.{work}
+use Rattle.jackson.specs.declared.running_sum.RunningSum.{RunningSum}
+
+-- how many boxes are in [a, b): those whose p is in its work
+unfoldable pub boxes : Windows → ℕ → ℕ → ℕ
+boxes w a b = sum (w .n) (λ i. cond (leb a (w .r i) && leb (w .d i) b) 1 0)
+
+-- "at each left end reached the sum kept is that interval's work, and .. the additions made for this right end, counted along, are as many
+-- as the boxes in it"
+pub record AtLeftEnd (w : Windows) (a b : ℕ) (s : RunningSum) : Type 0 where
+  pub kept-is : s .kept ≡ work w a b
+  pub additions-are : s .additions ≡ boxes w a b
+
+-- "add the boxes that enter": what those of the first x places of the order add that have a d of at most b, where each adds its f
+abbrev pub entered : Windows → (ℕ → ℕ) → ℕ → (ℕ → ℕ) → ℕ → ℕ
+entered w o b f x = sum x (λ y. cond (leb (w .d (o y)) b) (f (o y)) 0)
+
+-- "keep the sum so far": that of the places of the order that are passed. A p has 16 bits.
+pub record SumSoFar (w : Windows) (o : ℕ → ℕ) (b : ℕ) (s : RunningSum) : Type 0 where
+  pub within : s .passed ≤ w .n
+  pub kept-is : s .kept ≡ entered w o b (w .p) (s .passed)
+  pub additions-are : s .additions ≡ entered w o b (λ _. 1) (s .passed)
+  pub small : s .kept ≤ 65535 * s .passed
+
+-- "while the left end walks down for a fixed right end": from s to s′ it comes to the r of the next place of the order. All boxes with this
+-- r are passed, so that the sum is the interval's, and the places left have a smaller r.
+pub record WalksDown (w : Windows) (o : ℕ → ℕ) (b : ℕ) (s s′ : RunningSum) : Type 0 where
+  pub sum : SumSoFar w o b s′
+  pub reached : AtLeftEnd w (w .r (o (s .passed))) b s′
+  pub further : s .passed < s′ .passed
+  pub same-r : (x : ℕ) → s .passed ≤ x → x < s′ .passed → w .r (o x) ≡ w .r (o (s .passed))
+  pub smaller-r : (x : ℕ) → s′ .passed ≤ x → x < w .n → w .r (o x) < w .r (o (s .passed))
+  pub earlier : s′ .earlier ≡ s .earlier

@@ -1,0 +1,84 @@
+// The running sum: for one right end b, the work of the intervals that end at b, while the left end walks down.
+use list::types::ENTRIES;
+ghost use mathlib.Core.Path.{_≡_};
+ghost use Prim.Native.Nat.{_+_, _*_, _<_, _≤_};
+ghost use Rattle.list.specs.DayLists.{mostEntries};
+ghost use Rattle.jackson.specs.Orders.{LatestReleaseFirst, orderIn};
+ghost use Rattle.jackson.specs.RunningSums.{SumSoFar, WalksDown};
+ghost use Rattle.jackson.specs.Internal.{windowsHeld, column, Passes, anew};
+
+// How many places of the order are passed, the sum kept, the additions made for this b, and those made for the right ends before it.
+pub(crate) struct RunningSum {
+    pub passed: usize,
+    pub kept: u32,
+    pub additions: usize,
+    pub earlier: usize,
+}
+
+// Starts the sum anew for the next right end.
+pub(crate) fn start_anew(sum: RunningSum) -> RunningSum
+    requires { ⌜ sum .earlier + sum .additions ≤ mostEntries * mostEntries ⌝ }
+    ensures { λ s. ⌜ s ≡ anew sum ⌝ }
+{
+    RunningSum {
+        passed: 0,
+        kept: 0,
+        additions: 0,
+        earlier: sum.earlier + sum.additions,
+    }
+}
+
+// Passes one place more: its box enters if its d is at most b.
+fn pass(sum: RunningSum, b: u16, d: u16, p: u16) -> RunningSum
+    requires { ⌜ sum .passed < mostEntries ⌝ }
+    requires { ⌜ sum .kept ≤ 65535 * sum .passed ⌝ }
+    requires { ⌜ sum .additions ≤ sum .passed ⌝ }
+    ensures { λ s. ⌜ Passes b d p sum s ⌝ }
+{
+    let passed = sum.passed + 1;
+    if b < d {
+        return RunningSum {
+            passed: passed,
+            kept: sum.kept,
+            additions: sum.additions,
+            earlier: sum.earlier,
+        };
+    }
+    RunningSum {
+        passed: passed,
+        kept: sum.kept + p as u32,
+        additions: sum.additions + 1,
+        earlier: sum.earlier,
+    }
+}
+
+// Walks on to the next left end: all boxes with that r enter.
+pub(crate) fn walk_down(
+    count: usize,
+    r: &[u16; ENTRIES],
+    d: &[u16; ENTRIES],
+    p: &[u16; ENTRIES],
+    order: &[usize; ENTRIES],
+    b: u16,
+    start: RunningSum,
+) -> RunningSum
+    requires { ⌜ count ≤ mostEntries ⌝ }
+    requires { ⌜ LatestReleaseFirst count (column (now r)) (orderIn (now order)) ⌝ }
+    requires { ⌜ SumSoFar (windowsHeld count (now r) (now d) (now p)) (orderIn (now order)) b start ⌝ }
+    requires { ⌜ start .passed < count ⌝ }
+    ensures { λ s. ⌜ WalksDown (windowsHeld count (now (r .entry)) (now (d .entry)) (now (p .entry))) (orderIn (now (order .entry))) b start s ⌝ }
+{
+    let first = start.passed;
+    let place = order[first];
+    let a = r[place];
+    let mut sum = start;
+    while sum.passed < count {
+        let x = sum.passed;
+        let i = order[x];
+        if r[i] < a {
+            return sum;
+        }
+        sum = pass(sum, b, d[i], p[i]);
+    }
+    sum
+}
