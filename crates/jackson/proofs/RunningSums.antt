@@ -9,7 +9,7 @@ use borrow.Author.Tests.{le-leb, lt-leb}
 use lib.Dec.{leb}
 use Rattle.base.specs.Counting.{sum}
 use Rattle.base.proofs.Sums.{le-or-lt, same-cases, sum-cong, sum-most, sum-rest}
-use Rattle.base.proofs.Permutations.{once-in, once-has, once-sum}
+use Rattle.base.proofs.Permutations.{once-sum}
 use Rattle.base.proofs.Scans.{NonePasses, Best}
 use Rattle.jackson.specs.Windows.{Windows}
 use Rattle.jackson.specs.Intervals.{work, isOverloaded, leftOf}
@@ -35,21 +35,12 @@ module _ (w : Windows) (o : ℕ → ℕ) (order : LatestReleaseFirst (w .n) (w .
 
   -- the boxes entered are those in [a, b), if a is at most the r of those passed and above the r of the rest
   module _ (a b x : ℕ) (over : (y : ℕ) → y < x → a ≤ w .r (o y)) (under : (y : ℕ) → x ≤ y → y < w .n → w .r (o y) < a) where
-    entered-all : (f : ℕ → ℕ) → x ≤ w .n → entered w o b f x ≡ sum (w .n) (λ i. cond (leb a (w .r i) && leb (w .d i) b) (f i) 0)
+    pub entered-all : (f : ℕ → ℕ) → x ≤ w .n → entered w o b f x ≡ sum (w .n) (λ i. cond (leb a (w .r i) && leb (w .d i) b) (f i) 0)
     entered-all f within =
         let term : ℕ → ℕ = λ i. cond (leb a (w .r i) && leb (w .d i) b) (f i) 0 in
         sum-cong x _ _ (λ y l. rw (le-leb a (w .r (o y)) (over y l)) refl)
         ∙ (sum-rest (w .n) x (λ y. term (o y)) within (λ y l u. rw (lt-leb a (w .r (o y)) (under y l u)) refl)
         ∙ once-sum (w .n) o (order .once) term)
-
-    at-left-end : (s : RunningSum) → s .passed ≡ x → SumSoFar w o b s → AtLeftEnd w a b s
-    unfolding work boxes
-    at-left-end s e so =
-        let within : x ≤ w .n = omega (arith, e, so .within) in
-        record {
-          kept-is = so .kept-is ∙ rw e (entered-all (w .p) within);
-          additions-are = so .additions-are ∙ rw e (entered-all (λ _. 1) within);
-        }
 
 module _ (w : Windows) (o : ℕ → ℕ) (b : ℕ) where
   -- no more additions than places passed
@@ -62,7 +53,7 @@ module _ (w : Windows) (o : ℕ → ℕ) (b : ℕ) where
       )
 
   -- the sum started anew
-  pub sum-anew : (earlier : ℕ) → SumSoFar w o b (record { passed = 0; kept = 0; additions = 0; earlier = earlier })
+  pub sum-anew : (earlier : ℕ) → SumSoFar w o b (record { a = 0; passed = 0; kept = 0; additions = 0; earlier = earlier })
   unfolding sum
   sum-anew earlier = record { within = omega arith; kept-is = refl; additions-are = refl; small = omega arith }
 
@@ -81,59 +72,71 @@ module _ (w : Windows) (o : ℕ → ℕ) (b : ℕ) where
           small = omega (arith, t .passed, t .kept, so .small, cond-le (leb (w .d i) b) (w .p i) 65535 (t .small));
         }
 
--- Inside one left end, from s on: all places passed have an r of at least this one.
-pub record Walking (w : Windows) (o : ℕ → ℕ) (b : ℕ) (s s′ : RunningSum) : Type 0 where
+-- Inside one left end, from place x of the order on: all places passed have an r of at least this one.
+pub record Walking (w : Windows) (o : ℕ → ℕ) (b x earlier : ℕ) (s : RunningSum) : Type 0 where
   pub few : w .n ≤ 64
   pub order : LatestReleaseFirst (w .n) (w .r) o
-  pub more : s .passed < w .n
-  pub sum : SumSoFar w o b s′
-  pub over : (y : ℕ) → y < s′ .passed → w .r (o (s .passed)) ≤ w .r (o y)
-  pub started : s .passed ≤ s′ .passed
-  pub earlier : s′ .earlier ≡ s .earlier
+  pub more : x < w .n
+  pub sum : SumSoFar w o b s
+  pub a-is : s .a ≡ w .r (o x)
+  pub over : (y : ℕ) → y < s .passed → s .a ≤ w .r (o y)
+  pub started : x ≤ s .passed
+  pub earlier-is : s .earlier ≡ earlier
 
 module _ (w : Windows) (o : ℕ → ℕ) (b : ℕ) (s : RunningSum) where
-  pub walking-start : w .n ≤ 64 → LatestReleaseFirst (w .n) (w .r) o → SumSoFar w o b s → s .passed < w .n → Walking w o b s s
+  pub walking-start : w .n ≤ 64 → LatestReleaseFirst (w .n) (w .r) o → SumSoFar w o b s → s .passed < w .n
+      → Walking w o b (s .passed) (s .earlier)
+      (record { a = w .r (o (s .passed)); passed = s .passed; kept = s .kept; additions = s .additions; earlier = s .earlier })
   walking-start few order so more =
       record {
         few = few;
         order = order;
         more = more;
-        sum = so;
+        sum = record { within = so .within; kept-is = so .kept-is; additions-are = so .additions-are; small = so .small };
+        a-is = refl;
         over = λ y l. falls w o order y (s .passed) (omega arith) more;
         started = omega arith;
-        earlier = refl;
+        earlier-is = refl;
       }
 
-  module _ (s′ : RunningSum) (so : Walking w o b s s′) where
-    -- the place that comes next is one
-    pub place-in : s′ .passed < w .n → o (s′ .passed) < w .n
-    place-in = once-in (w .n) o (so .order .once) (s′ .passed)
-
+  module _ (s′ : RunningSum) (so : Walking w o b (s .passed) (s .earlier) s′) where
     pub walking-next : (t : RunningSum) → s′ .passed < w .n → w .r (o (s .passed)) ≤ w .r (o (s′ .passed))
-        → Passes b (w .d (o (s′ .passed))) (w .p (o (s′ .passed))) s′ t → Walking w o b s t
+        → Passes b (w .d (o (s′ .passed))) (w .p (o (s′ .passed))) s′ t → Walking w o b (s .passed) (s .earlier) t
     walking-next t less high passes =
         record {
           few = so .few;
           order = so .order;
           more = so .more;
           sum = sum-passed w o b s′ t (so .sum) less passes;
-          over = λ y l. same-cases y (s′ .passed) (λ e _. rw e high) (λ ne _. so .over y (omega (arith, ne, passes .passed)));
+          a-is = passes .a ∙ so .a-is;
+          over =
+              λ y l.
+              rw (passes .a)
+              (same-cases y (s′ .passed)
+              (λ e _. rw (so .a-is, e) high)
+              (λ ne _. so .over y (omega (arith, ne, passes .passed))));
           started = omega (arith, so .started, passes .passed);
-          earlier = passes .earlier ∙ so .earlier;
+          earlier-is = passes .earlier ∙ so .earlier-is;
         }
 
     -- it ends where the next r is smaller, or no place is left
-    walked : s .passed < s′ .passed → ((y : ℕ) → s′ .passed ≤ y → y < w .n → w .r (o y) < w .r (o (s .passed))) → WalksDown w o b s s′
+    walked : s .passed < s′ .passed → ((y : ℕ) → s′ .passed ≤ y → y < w .n → w .r (o y) < s′ .a) → WalksDown w o b s s′
+    unfolding work boxes
     walked further under =
+        let all = entered-all w o (so .order) (s′ .a) b (s′ .passed) (so .over) under in
         record {
           sum = so .sum;
-          reached = at-left-end w o (so .order) (w .r (o (s .passed))) b (s′ .passed) (so .over) under s′ refl (so .sum);
+          a-is = so .a-is;
+          reached = record {
+            kept-is = so .sum .kept-is ∙ all (w .p) (so .sum .within);
+            additions-are = so .sum .additions-are ∙ all (λ _. 1) (so .sum .within);
+          };
           further = further;
           same-r =
               λ x l u.
-              omega (arith, so .over x u, falls w o (so .order) (s .passed) x l (omega (arith, so .sum .within)));
+              omega (arith, so .over x u, so .a-is, falls w o (so .order) (s .passed) x l (omega (arith, so .sum .within)));
           smaller-r = under;
-          earlier = so .earlier;
+          earlier = so .earlier-is;
         }
 
     pub walked-below : s′ .passed < w .n → w .r (o (s′ .passed)) < w .r (o (s .passed)) → WalksDown w o b s s′
@@ -142,7 +145,7 @@ module _ (w : Windows) (o : ℕ → ℕ) (b : ℕ) (s : RunningSum) where
         (same-cases (s .passed) (s′ .passed)
         (λ e _. absurd (omega (arith, low, ap (λ (z : ℕ). w .r (o z)) e)))
         (λ ne _. omega (arith, so .started, ne)))
-        (λ y l u. omega (arith, low, falls w o (so .order) (s′ .passed) y l u))
+        (λ y l u. omega (arith, low, so .a-is, falls w o (so .order) (s′ .passed) y l u))
 
     pub walked-all : w .n ≤ s′ .passed → WalksDown w o b s s′
     walked-all end = walked (omega (arith, so .more)) (λ y l u. absurd (omega (arith, u)))

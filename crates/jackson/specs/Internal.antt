@@ -13,7 +13,6 @@ use Rattle.jackson.specs.RunningSums.{AtLeftEnd}
 use Rattle.jackson.specs.Minutes.{State, stateIn, isReady, comesBefore, after}
 use Rattle.jackson.specs.declared.types.Day.{Day}
 use Rattle.jackson.specs.declared.running_sum.RunningSum.{RunningSum}
-use Rattle.jackson.specs.declared.interval.LeftEnd.{LeftEnd}
 use Rattle.jackson.specs.declared.interval.Shown.{Shown}
 
 -- the windows of n entries held in arrays: their work and their intervals ask for no H
@@ -26,6 +25,7 @@ column xs i = getD xs i 0
 
 -- one place more is passed, with this d and p: its box enters if d is at most b
 pub record Passes (b d p : ℕ) (s s′ : RunningSum) : Type 0 where
+  pub a : s′ .a ≡ s .a
   pub passed : s′ .passed ≡ s .passed + 1
   pub kept : s′ .kept ≡ s .kept + cond (leb d b) p 0
   pub additions : s′ .additions ≡ s .additions + cond (leb d b) 1 0
@@ -34,23 +34,30 @@ pub record Passes (b d p : ℕ) (s s′ : RunningSum) : Type 0 where
 
 -- the sum started anew for the next right end: the additions made are earlier ones now
 abbrev pub anew : RunningSum → RunningSum
-anew s = record { passed = 0; kept = 0; additions = 0; earlier = s .earlier + s .additions }
+anew s = record { a = 0; passed = 0; kept = 0; additions = 0; earlier = s .earlier + s .additions }
 
--- what the walk for the right end b finds, after the sum s of the right end before: whether an overloaded interval ends at b, the largest left
--- end of one, or else the last one reached, and the sum there
-pub record FindsLeft (w : Windows) (b : ℕ) (s : RunningSum) (e : LeftEnd) : Type 0 where
-  pub overloaded-is : e .overloaded ≡ ltb (leftEnd w b) (w .n)
-  pub a-is : e .overloaded ≡ true → e .a ≡ w .r (leftEnd w b)
-  pub reached : AtLeftEnd w (e .a) b (e .sum)
-  pub earlier : e .sum .earlier ≡ s .earlier + s .additions
+-- what the walk for the right end b shows, after the sum s of the right end before: whether an overloaded interval ends at b, the largest left
+-- end of one, or else the last one reached, its work, and the sum there
+pub record FindsLeft (w : Windows) (b : ℕ) (s : RunningSum) (x : Shown) : Type 0 where
+  pub overloaded-is : x .overloaded ≡ ltb (leftEnd w b) (w .n)
+  pub a-is : x .overloaded ≡ true → x .a ≡ w .r (leftEnd w b)
+  pub b-is : x .b ≡ b
+  pub work-is : x .work ≡ work w (x .a) b
+  pub reached : AtLeftEnd w b (x .sum)
+  pub earlier : x .sum .earlier ≡ s .earlier + s .additions
 
--- what the first i right ends have shown: the place of the smallest b of an overloaded interval, n for none, its a and its work; and no more
--- than n additions were made for each
-pub record FindsRight (w : Windows) (i : ℕ) (f : Shown) : Type 0 where
-  pub place-is : f .place ≡ best (w .n) i (rightOf w) (smaller (w .d))
-  pub a-is : f .place < w .n → f .a ≡ w .r (leftEnd w (w .d (f .place)))
-  pub work-is : f .place < w .n → f .work ≡ work w (f .a) (w .d (f .place))
-  pub few : f .sum .earlier + f .sum .additions ≤ i * w .n
+-- of the first i places the one with the smallest right end of an overloaded interval; n if there is none
+abbrev pub rightOfFirst : Windows → ℕ → ℕ
+rightOfFirst w i = best (w .n) i (rightOf w) (smaller (w .d))
+
+-- what the right ends of the first i places show: whether one of an overloaded interval is among them, the smallest, with it the largest left
+-- end, and the work; and no more than n additions were made for each
+pub record FindsRight (w : Windows) (i : ℕ) (x : Shown) : Type 0 where
+  pub overloaded-is : x .overloaded ≡ ltb (rightOfFirst w i) (w .n)
+  pub b-is : x .overloaded ≡ true → x .b ≡ w .d (rightOfFirst w i)
+  pub a-is : x .overloaded ≡ true → x .a ≡ w .r (leftEnd w (x .b))
+  pub work-is : x .overloaded ≡ true → x .work ≡ work w (x .a) (x .b)
+  pub few : x .sum .earlier + x .sum .additions ≤ i * w .n
 
 -- the state at minute t of n entries held in arrays, nobody having had the minute before
 abbrev pub stateAt : ℕ → ℕ → List ℕ → List ℕ → List ℕ → State

@@ -14,9 +14,9 @@ boxes w a b = sum (w .n) (λ i. cond (leb a (w .r i) && leb (w .d i) b) 1 0)
 
 -- "at each left end reached the sum kept is that interval's work, and .. the additions made for this right end, counted along, are as many
 -- as the boxes in it"
-pub record AtLeftEnd (w : Windows) (a b : ℕ) (s : RunningSum) : Type 0 where
-  pub kept-is : s .kept ≡ work w a b
-  pub additions-are : s .additions ≡ boxes w a b
+pub record AtLeftEnd (w : Windows) (b : ℕ) (s : RunningSum) : Type 0 where
+  pub kept-is : s .kept ≡ work w (s .a) b
+  pub additions-are : s .additions ≡ boxes w (s .a) b
 
 -- "add the boxes that enter": what those of the first x places of the order add that have a d of at most b, where each adds its f
 abbrev pub entered : Windows → (ℕ → ℕ) → ℕ → (ℕ → ℕ) → ℕ → ℕ
@@ -33,8 +33,9 @@ pub record SumSoFar (w : Windows) (o : ℕ → ℕ) (b : ℕ) (s : RunningSum) :
 -- r are passed, so that the sum is the interval's, and the places left have a smaller r.
 pub record WalksDown (w : Windows) (o : ℕ → ℕ) (b : ℕ) (s s′ : RunningSum) : Type 0 where
   pub sum : SumSoFar w o b s′
-  pub reached : AtLeftEnd w (w .r (o (s .passed))) b s′
+  pub a-is : s′ .a ≡ w .r (o (s .passed))
+  pub reached : AtLeftEnd w b s′
   pub further : s .passed < s′ .passed
-  pub same-r : (x : ℕ) → s .passed ≤ x → x < s′ .passed → w .r (o x) ≡ w .r (o (s .passed))
-  pub smaller-r : (x : ℕ) → s′ .passed ≤ x → x < w .n → w .r (o x) < w .r (o (s .passed))
+  pub same-r : (x : ℕ) → s .passed ≤ x → x < s′ .passed → w .r (o x) ≡ s′ .a
+  pub smaller-r : (x : ℕ) → s′ .passed ≤ x → x < w .n → w .r (o x) < s′ .a
   pub earlier : s′ .earlier ≡ s .earlier

@@ -13,7 +13,7 @@ use list::types::Verdict;
 ghost use mathlib.Core.Path.{_≡_};
 ghost use mathlib.Core.Bool.{_&&_};
 ghost use Prim.Native.Nat.{_+_, _*_, _-_, _<_, _≤_};
-ghost use lib.Dec.{ltb};
+ghost use lib.Dec.{leb, ltb};
 ghost use Rattle.list.specs.Refusals.{verdictOf};
 ghost use Rattle.list.specs.DayLists.{mostEntries};
 ghost use Rattle.jackson.specs.Windows.{windowsIn};
@@ -22,18 +22,11 @@ ghost use Rattle.jackson.specs.Orders.{LatestReleaseFirst, orderIn};
 ghost use Rattle.jackson.specs.Calls.{Tests};
 ghost use Rattle.jackson.specs.Internal.{windowsHeld, column, FindsLeft, FindsRight};
 
-// Whether an overloaded interval ends at b, its left end, the largest, or else the last one reached, and the sum there.
-pub(crate) struct LeftEnd {
+// Whether an interval is overloaded, one that is, with its work, and the sum as the last right end left it.
+pub(crate) struct Shown {
     pub overloaded: bool,
     pub a: u16,
-    pub sum: RunningSum,
-}
-
-// The overloaded interval with the smallest b so far: the place of its b, the number of entries for none, its a and its work; and the sum as
-// the right end before left it.
-pub(crate) struct Shown {
-    pub place: usize,
-    pub a: u16,
+    pub b: u16,
     pub work: u32,
     pub sum: RunningSum,
 }
@@ -57,35 +50,46 @@ fn left_end(
     order: &[usize; ENTRIES],
     b: u16,
     before: RunningSum,
-) -> LeftEnd
+) -> Shown
     requires { ⌜ count ≤ mostEntries ⌝ }
     requires { ⌜ LatestReleaseFirst count (column (now r)) (orderIn (now order)) ⌝ }
     requires { ⌜ before .earlier + before .additions ≤ mostEntries * mostEntries ⌝ }
-    ensures { λ e. ⌜ FindsLeft (windowsHeld count (now (r .entry)) (now (d .entry)) (now (p .entry))) b before e ⌝ }
+    ensures { λ x. ⌜ FindsLeft (windowsHeld count (now (r .entry)) (now (d .entry)) (now (p .entry))) b before x ⌝ }
 {
-    let mut a: u16 = 0;
     let mut sum = start_anew(before);
     while sum.passed < count {
-        let x = sum.passed;
-        let place = order[x];
-        a = r[place];
         sum = walk_down(count, r, d, p, order, b, sum);
-        if is_overloaded(a, b, sum.kept) {
-            return LeftEnd {
+        if is_overloaded(sum.a, b, sum.kept) {
+            return Shown {
                 overloaded: true,
-                a: a,
+                a: sum.a,
+                b: b,
+                work: sum.kept,
                 sum: sum,
             };
         }
     }
-    LeftEnd {
+    Shown {
         overloaded: false,
-        a: a,
+        a: sum.a,
+        b: b,
+        work: sum.kept,
         sum: sum,
     }
 }
 
-// What the right ends up to that of place i show, if those before it showed this: the walk is made only for a smaller b.
+// Whether an overloaded interval is shown that ends at b or before it.
+fn ends_by(shown: Shown, b: u16) -> bool
+    ensures { λ x. ⌜ x ≡ (shown .overloaded && leb (shown .b) b) ⌝ }
+{
+    if shown.overloaded {
+        shown.b <= b
+    } else {
+        false
+    }
+}
+
+// What the right ends up to that of place i show, if those before it show this. The walk is made only for a smaller b.
 fn smaller_right(
     count: usize,
     r: &[u16; ENTRIES],
@@ -101,31 +105,25 @@ fn smaller_right(
     requires { ⌜ FindsRight (windowsHeld count (now r) (now d) (now p)) i shown ⌝ }
     ensures { λ x. ⌜ FindsRight (windowsHeld count (now (r .entry)) (now (d .entry)) (now (p .entry))) (i + 1) x ⌝ }
 {
-    let k = shown.place;
-    if k < count {
-        if d[k] <= d[i] {
-            return shown;
-        }
+    let b = d[i];
+    if ends_by(shown, b) {
+        return shown;
     }
-    let left = left_end(count, r, d, p, order, d[i], shown.sum);
-    let sum = left.sum;
+    let left = left_end(count, r, d, p, order, b, shown.sum);
     if left.overloaded {
-        return Shown {
-            place: i,
-            a: left.a,
-            work: sum.kept,
-            sum: sum,
-        };
+        return left;
     }
+    let sum = left.sum;
     Shown {
-        place: k,
+        overloaded: shown.overloaded,
         a: shown.a,
+        b: shown.b,
         work: shown.work,
         sum: sum,
     }
 }
 
-// The overloaded interval with the smallest b, and with it the largest a.
+// The overloaded interval with the smallest b, and with it the largest a, if one is overloaded.
 fn right_end(
     count: usize,
     r: &[u16; ENTRIES],
@@ -138,10 +136,12 @@ fn right_end(
     ensures { λ x. ⌜ FindsRight (windowsHeld count (now (r .entry)) (now (d .entry)) (now (p .entry))) count x ⌝ }
 {
     let mut shown = Shown {
-        place: count,
+        overloaded: false,
         a: 0,
+        b: 0,
         work: 0,
         sum: RunningSum {
+            a: 0,
             passed: 0,
             kept: 0,
             additions: 0,
@@ -166,12 +166,10 @@ pub fn unchecked_overload(windows: WindowSet) -> Verdict
     let p = windows.p;
     let order = latest_release_first(windows);
     let shown = right_end(count, &r, &d, &p, &order);
-    let place = shown.place;
-    if count <= place {
-        return Verdict::Accepted;
+    if shown.overloaded {
+        return Verdict::Refused(Refusal::Overloaded(shown.a, shown.b, shown.work));
     }
-    let b = d[place];
-    Verdict::Refused(Refusal::Overloaded(shown.a, b, shown.work))
+    Verdict::Accepted
 }
 
 // The overload test of a list: the value check, then row 9.

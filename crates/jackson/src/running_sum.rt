@@ -7,8 +7,10 @@ ghost use Rattle.jackson.specs.Orders.{LatestReleaseFirst, orderIn};
 ghost use Rattle.jackson.specs.RunningSums.{SumSoFar, WalksDown};
 ghost use Rattle.jackson.specs.Internal.{windowsHeld, column, Passes, anew};
 
-// How many places of the order are passed, the sum kept, the additions made for this b, and those made for the right ends before it.
+// The left end reached, how many places of the order are passed, the sum kept, the additions made for this b, and those made for the right
+// ends before it.
 pub(crate) struct RunningSum {
+    pub a: u16,
     pub passed: usize,
     pub kept: u32,
     pub additions: usize,
@@ -21,6 +23,7 @@ pub(crate) fn start_anew(sum: RunningSum) -> RunningSum
     ensures { λ s. ⌜ s ≡ anew sum ⌝ }
 {
     RunningSum {
+        a: 0,
         passed: 0,
         kept: 0,
         additions: 0,
@@ -38,6 +41,7 @@ fn pass(sum: RunningSum, b: u16, d: u16, p: u16) -> RunningSum
     let passed = sum.passed + 1;
     if b < d {
         return RunningSum {
+            a: sum.a,
             passed: passed,
             kept: sum.kept,
             additions: sum.additions,
@@ -45,6 +49,7 @@ fn pass(sum: RunningSum, b: u16, d: u16, p: u16) -> RunningSum
         };
     }
     RunningSum {
+        a: sum.a,
         passed: passed,
         kept: sum.kept + p as u32,
         additions: sum.additions + 1,
@@ -71,7 +76,13 @@ pub(crate) fn walk_down(
     let first = start.passed;
     let place = order[first];
     let a = r[place];
-    let mut sum = start;
+    let mut sum = RunningSum {
+        a: a,
+        passed: first,
+        kept: start.kept,
+        additions: start.additions,
+        earlier: start.earlier,
+    };
     while sum.passed < count {
         let x = sum.passed;
         let i = order[x];

@@ -1,11 +1,10 @@
 -- The right ends are met one after the other. The loop's invariant is what those so far show, the measure how many are left.
 -- Assumes nothing.
 use borrow.Author.Needs.{needs}
-use mathlib.Core.Path.{_≡_}
-use native.Mathlib.Omega.{arith}
-use Prim.Native.Nat.{_-_, _≤_}
-use Rattle.jackson.specs.Orders.{LatestReleaseFirst, orderIn}
-use Rattle.jackson.specs.Internal.{windowsHeld, column, FindsRight}
+use mathlib.Core.Path.{refl}
+use Prim.Native.Nat.{_-_}
+use Rattle.jackson.specs.Orders.{orderIn}
+use Rattle.jackson.specs.Internal.{windowsHeld}
 use Rattle.jackson.proofs.IntervalCases.{RightSoFar, right-start, right-next, right-done}
 use Rattle.jackson.proofs.interval.right_end.Statement.{statement}
 use Rattle.jackson.proofs.interval.right_end.Tie as tie
@@ -17,7 +16,7 @@ abbrev μ-loop : tie.MeasureT-loop
 μ-loop count r d p order shown₀ i₀ shown i = count - i
 
 loop-holds : tie.Need-loop-holds Inv-loop μ-loop
-loop-holds c = right-start _ _ (c .pre .0) (c .pre .1)
+loop-holds c = right-start _ _ (c .pre .0) (c .pre .1) _ refl refl
 
 smaller-right-requires : tie.Need-smaller-right-requires Inv-loop μ-loop
 smaller-right-requires c κs =

@@ -22,19 +22,13 @@ returns : tie.Need-returns
 returns c =
     let places-held = c .before .before .before .before .before .before .before .before .before .before .places-held in
     let args = c .before .before .before .before .before .before .before .before .before .before .before .args in
-    none-overloaded (args .windows) _ (places-held .ensures) _ (c .before .right-end .ensures) (c .if1 .taken)
-
-mul-b : tie.Need-mul-b
-mul-b c = search needs
-
-array-read-b : tie.Need-array-read-b
-array-read-b c = search needs
+    overload-shown (args .windows) _ (places-held .ensures) _ (c .before .right-end .ensures) (c .if1 .taken)
 
 returns-2 : tie.Need-returns-2
 returns-2 c =
     let places-held = c .before .before .before .before .before .before .before .before .before .before .places-held in
     let args = c .before .before .before .before .before .before .before .before .before .before .before .args in
-    overload-shown (args .windows) _ (places-held .ensures) _ (c .before .right-end .ensures) (c .if1 .left)
+    none-overloaded (args .windows) _ (places-held .ensures) _ (c .before .right-end .ensures) (c .if1 .left)
 
 pub unchecked-overload-spec : {M : Type 1} → statement M
 unchecked-overload-spec =
@@ -44,6 +38,4 @@ unchecked-overload-spec =
     latest-release-first-requires
     right-end-requires
     returns
-    mul-b
-    array-read-b
     returns-2)

@@ -6,12 +6,12 @@ use Prim.Native.Nat.{_-_}
 use Rattle.base.proofs.Permutations.{once-in}
 use Rattle.jackson.specs.Orders.{orderIn}
 use Rattle.jackson.specs.Internal.{windowsHeld}
-use Rattle.jackson.proofs.RunningSums.{Walking, additions-few, place-in, walking-start, walking-next, walked-below, walked-all}
+use Rattle.jackson.proofs.RunningSums.{Walking, additions-few, walking-start, walking-next, walked-below, walked-all}
 use Rattle.jackson.proofs.running_sum.walk_down.Statement.{statement}
 use Rattle.jackson.proofs.running_sum.walk_down.Tie as tie
 
 abbrev Inv-loop : tie.InvT-loop
-Inv-loop count r d p order b first place a sum₀ sum = Walking (windowsHeld count r d p) (orderIn order) b sum₀ sum
+Inv-loop count r d p order b first place a sum₀ sum = Walking (windowsHeld count r d p) (orderIn order) b (sum₀ .passed) (sum₀ .earlier) sum
 
 abbrev μ-loop : tie.MeasureT-loop
 μ-loop count r d p order b first place a sum₀ sum = count - sum .passed
@@ -35,7 +35,7 @@ element-copy-out-a c =
 loop-holds : tie.Need-loop-holds Inv-loop μ-loop
 loop-holds c =
     let pre = c .before .before .pre in
-    walking-start _ _ _ _ (pre .0) (pre .1 .0) (pre .1 .1 .0) (pre .1 .1 .1)
+    walking-start _ _ _ (c .before .before .args .start) (pre .0) (pre .1 .0) (pre .1 .1 .0) (pre .1 .1 .1)
 
 mul-i : tie.Need-mul-i Inv-loop μ-loop
 mul-i c = search needs
@@ -44,40 +44,41 @@ element-copy-out-i : tie.Need-element-copy-out-i Inv-loop μ-loop
 element-copy-out-i c = search needs
 
 mul-if2 : tie.Need-mul-if2 Inv-loop μ-loop
-mul-if2 c = search (needs, place-in _ _ _ _ _ (c .before .before .before .loop .inv) (c .before .if1 .taken))
+mul-if2 c = search (needs, once-in _ _ (c .before .before .before .loop .inv .order .once) _ (c .before .if1 .taken))
 
 element-copy-out-if2 : tie.Need-element-copy-out-if2 Inv-loop μ-loop
-element-copy-out-if2 c = search (needs, place-in _ _ _ _ _ (c .before .before .before .loop .inv) (c .before .if1 .taken))
+element-copy-out-if2 c = search (needs, once-in _ _ (c .before .before .before .loop .inv .order .once) _ (c .before .if1 .taken))
 
 returns : tie.Need-returns Inv-loop μ-loop
 returns c =
     let if1 = c .before .before .before .if1 in
     let loop = c .before .before .before .before .before .loop in
-    walked-below _ _ _ _ _ (loop .inv) (if1 .taken) (c .if2 .taken)
+    let args = c .before .before .before .before .before .before .before .before .args in
+    walked-below _ _ _ (args .start) _ (loop .inv) (if1 .taken) (c .if2 .taken)
 
 mul-pass : tie.Need-mul-pass Inv-loop μ-loop
 mul-pass c =
     let if1 = c .before .before .before .if1 in
     let loop = c .before .before .before .before .before .loop in
-    search (needs, place-in _ _ _ _ _ (loop .inv) (if1 .taken))
+    search (needs, once-in _ _ (loop .inv .order .once) _ (if1 .taken))
 
 element-copy-out-pass : tie.Need-element-copy-out-pass Inv-loop μ-loop
 element-copy-out-pass c =
     let if1 = c .before .before .before .if1 in
     let loop = c .before .before .before .before .before .loop in
-    search (needs, place-in _ _ _ _ _ (loop .inv) (if1 .taken))
+    search (needs, once-in _ _ (loop .inv .order .once) _ (if1 .taken))
 
 mul-pass-2 : tie.Need-mul-pass-2 Inv-loop μ-loop
 mul-pass-2 c =
     let if1 = c .before .before .before .before .if1 in
     let loop = c .before .before .before .before .before .before .loop in
-    search (needs, place-in _ _ _ _ _ (loop .inv) (if1 .taken))
+    search (needs, once-in _ _ (loop .inv .order .once) _ (if1 .taken))
 
 element-copy-out-pass-2 : tie.Need-element-copy-out-pass-2 Inv-loop μ-loop
 element-copy-out-pass-2 c =
     let if1 = c .before .before .before .before .if1 in
     let loop = c .before .before .before .before .before .before .loop in
-    search (needs, place-in _ _ _ _ _ (loop .inv) (if1 .taken))
+    search (needs, once-in _ _ (loop .inv .order .once) _ (if1 .taken))
 
 pass-requires : tie.Need-pass-requires Inv-loop μ-loop
 pass-requires c κs =
@@ -92,10 +93,13 @@ loop-again c =
     let if2 = c .before .before .before .if2 in
     let if1 = c .before .before .before .before .before .before .if1 in
     let loop = c .before .before .before .before .before .before .before .before .loop in
-    walking-next _ _ _ _ _ (loop .inv) _ (if1 .taken) (if2 .left) (c .pass .ensures)
+    let args = c .before .before .before .before .before .before .before .before .before .before .before .args in
+    walking-next _ _ _ (args .start) _ (loop .inv) _ (if1 .taken) (if2 .left) (c .pass .ensures)
 
 returns-2 : tie.Need-returns-2 Inv-loop μ-loop
-returns-2 c = walked-all _ _ _ _ _ (c .before .before .loop .inv) (c .if1 .left)
+returns-2 c =
+    let args = c .before .before .before .before .before .args in
+    walked-all _ _ _ (args .start) _ (c .before .before .loop .inv) (c .if1 .left)
 
 pub walk-down-spec : {M : Type 1} → statement M
 walk-down-spec =
