@@ -1,7 +1,7 @@
 //! Wrong ways to keep the sum of document 02's "Adding up the same boxes again", each with a day on which it shows
-//! another interval, or another work, than document 01 names: "while the left end walks down for a fixed right end, keep
-//! the sum so far and add the boxes that enter. .. The interval shown is the one document 01 names." Where the day is
-//! small it is the first on which that is so, by minutes, then by entries, in the order of `small::days`.
+//! another interval, or another work, than document 01 names: "while the left end walks down for a fixed right end,
+//! keep the sum so far and add the boxes that enter. .. The interval shown is the one document 01 names." Where the day
+//! is small it is the first on which that is so, by minutes, then by entries, in the order of `small::days`.
 
 use dock_tests::check;
 use dock_tests::day::{Day, Entry, Interval, LONGEST_DAY};
@@ -96,7 +96,8 @@ fn numbers(interval: Option<Interval>) -> Shown {
     interval.map(|Interval { a, b, work }| (a, b, work))
 }
 
-/// Document 01 names the first interval of this day, or none, and the library shows it; the trap's way shows the second.
+/// The first of these, or none, is what document 01 names of this day and the library shows, the second what the trap's
+/// way shows.
 #[track_caller]
 fn differs_on(day: &Day, way: &Way, right: Shown, wrong: Shown) {
     assert_eq!(numbers(check::shown(day)), right, "{day:?}");
@@ -332,8 +333,8 @@ fn the_sum_kept_in_16_bits() {
     differs_on(&day, &way, Some((0, 1440, 65_536)), Some((0, 1440, 65_535)));
 }
 
-/// All 64 places are met. Zeros behind the list do not tell, since they add nothing and begin no interval that is shown; a
-/// box there does.
+/// All 64 places are met. Zeros behind the list do not tell, since they add nothing, and no interval shown begins where
+/// nothing enters. A box there does.
 #[test]
 fn places_from_n_on_met_too() {
     let all =

@@ -197,7 +197,7 @@ fn boxes_cut_in_two_show_the_same() {
     assert!(cuts > 10_000, "{cuts} boxes cut in two");
 }
 
-/// A box that ends after b has no work in any interval that ends with b or before, and its r is a left end all the same.
+/// A box that ends after b has no work in an interval that ends with b or before. Its r is a left end all the same.
 #[test]
 fn boxes_that_end_after_b_change_nothing() {
     let mut more = 0;
@@ -280,8 +280,8 @@ fn the_work_is_that_of_all_boxes_with_one_r() {
     }
 }
 
-/// The first n of 64 boxes are the list, and fill their window if there are as many as it has minutes. Those behind them
-/// have the same window, or one that they overload.
+/// The first n of 64 boxes are the list, and fill their window if there are as many as it has minutes. Those behind
+/// them have the same window, or one that they overload.
 #[test]
 fn every_n_from_0_to_64_before_boxes_that_are_not_of_the_list() {
     for minutes in [1, 2, 31, 63, 64] {
@@ -310,8 +310,8 @@ fn one_box_is_never_too_much() {
     }
 }
 
-/// 45 boxes of 1,440 minutes have 64,800. When they enter, at 0, the sum is p of a box that fits its window; so it passes
-/// 65,535 there or stays below.
+/// 45 boxes of 1,440 minutes have 64,800. When they enter, at 0, the sum is p of a box that fits its window; so it
+/// passes 65,535 there or does not.
 #[test]
 fn work_about_65536_at_the_second_left_end() {
     for p in 730..=740 {
@@ -419,8 +419,8 @@ fn one_box_out_of_place() {
     }
 }
 
-/// For b 100 nothing enters at 62 left ends, though their boxes need 620 minutes. The boxes that count are met after all
-/// of them, or among them.
+/// For b 100 nothing enters at 62 left ends, though their boxes need 620 minutes. The boxes that count are met after
+/// all of them, or among them.
 #[test]
 fn left_ends_at_which_nothing_enters() {
     let late: Vec<_> = (1..=62).map(|minute| (minute, 1000 + minute, 10)).collect();
