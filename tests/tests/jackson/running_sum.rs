@@ -387,6 +387,22 @@ fn one_minute_too_much_among_sixty_three_sums() {
     }
 }
 
+/// a and b of the only interval that is too much stand in one box alone, or each in a box of its own, at every place.
+#[test]
+fn the_ends_of_the_interval_at_every_place() {
+    let mut entries = row(64);
+    for (p, wanted) in [(2, None), (3, Some((0, 65, 66)))] {
+        entries[0] = (0, 65, p);
+        all_show(99, &turned(&entries), wanted);
+    }
+    let mut entries = row(64);
+    (entries[0], entries[63]) = ((0, 40, 2), (98, 99, 1));
+    for (p, wanted) in [(2, None), (3, Some((0, 65, 66)))] {
+        entries[35] = (30, 65, p);
+        all_show(99, &turned(&entries), wanted);
+    }
+}
+
 /// A row of 20 boxes, and one more that makes any of its intervals too much.
 #[test]
 fn any_interval_of_a_row() {
