@@ -98,6 +98,16 @@ pub fn overload(fields: &Fields) -> Result<(), Refusal> {
     expected
 }
 
+/// Tests a list for overload that may be refused with 9 alone, and gives the interval shown, if there is one.
+#[track_caller]
+pub fn shown(day: &Day) -> Option<Interval> {
+    match overload(&flat::of_day(day)) {
+        Ok(()) => None,
+        Err(Refusal::Overloaded(interval)) => Some(interval),
+        Err(refusal) => panic!("{refusal:?} of {day:?}"),
+    }
+}
+
 /// Plans a value with both programs into `room` bytes. Answer and bytes must be alike: the schedule at the
 /// start, and all else as it was.
 #[track_caller]
@@ -133,13 +143,10 @@ pub fn planned(day: &Day) -> Vec<u8> {
 /// Plans a list that must be refused with 9, and gives the interval shown, the same by both calls.
 #[track_caller]
 pub fn overloaded(day: &Day) -> Interval {
-    let fields = flat::of_day(day);
-    let refusal = overload(&fields).expect_err("must be overloaded");
-    assert_eq!(schedule(&fields, usize::from(day.h)), Err(refusal), "by the other call");
-    match refusal {
-        Refusal::Overloaded(interval) => interval,
-        _ => panic!("{refusal:?} of {day:?}"),
-    }
+    let interval = shown(day).expect("must be overloaded");
+    let planned = schedule(&flat::of_day(day), usize::from(day.h));
+    assert_eq!(planned, Err(Refusal::Overloaded(interval)), "by the other call");
+    interval
 }
 
 /// Plans a value into `room` bytes that must be refused with this number, carrying this value.

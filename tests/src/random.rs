@@ -294,7 +294,7 @@ pub fn nested_day(random: &mut Random, h: u16, n: usize) -> Day {
 }
 
 /// Puts values in any order.
-fn shuffle<T>(random: &mut Random, values: &mut [T]) {
+pub fn shuffle<T>(random: &mut Random, values: &mut [T]) {
     for place in (1..values.len()).rev() {
         values.swap(place, random.below(place + 1));
     }

@@ -1,5 +1,5 @@
 //! What the documents say: the pages of this repository, what its files import, the traps of document 01, wrong
-//! readings of document 02's tie rule, and the smallest days that it changes.
+//! readings of document 02's tie rule and of its running sum, and the smallest days that the tie rule changes.
 
 mod format;
 mod imports;
@@ -7,6 +7,7 @@ mod pages;
 mod picture;
 mod refusals;
 mod smallest_days;
+mod sum_traps;
 mod tie_traps;
 mod traps;
 

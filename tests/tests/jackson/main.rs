@@ -8,6 +8,7 @@ mod limits;
 mod overload_interval;
 mod random_days;
 mod rule;
+mod running_sum;
 mod serials;
 mod ties;
 mod value;
