@@ -4,6 +4,7 @@ use crate::plain;
 use dock_tests::abi::{self, Answer, Lent};
 use dock_tests::day::LONGEST_DAY;
 use dock_tests::flat::Fields;
+use std::hash::{DefaultHasher, Hash, Hasher};
 use std::hint::black_box;
 use std::time::{Duration, Instant};
 
@@ -16,7 +17,7 @@ pub const MOST: usize = 1_000;
 /// A call: it gets a list and all that may be lent, and answers.
 type Call = fn(&Fields, &mut Lent) -> Answer;
 
-/// A job as both programs do it.
+/// A job, as the proved library and as plain Rust do it.
 pub struct Job {
     pub name: &'static str,
     /// Whether it is done with lists that are refused, too.
@@ -54,10 +55,16 @@ const SCHEDULE: Job = Job {
 /// All of them. Planning is timed both ways.
 pub const ALL: [Job; 4] = [PLAN, Job { name: "plan, cleared", cleared: true, ..PLAN }, NARROWING, SCHEDULE];
 
-/// The times that each program took.
-pub struct Times {
-    pub proved: Vec<Duration>,
-    pub plain: Vec<Duration>,
+/// What came of a call: how long it took, what it answered, and a digest of what it left in all that was lent.
+pub struct Done {
+    pub time: Duration,
+    pub answer: Answer,
+    pub left: u64,
+}
+
+/// A program that has a job to do with a list. Each call does it anew.
+pub trait Program {
+    fn call(&mut self) -> Done;
 }
 
 impl Job {
@@ -66,53 +73,72 @@ impl Job {
         self.of_refused || abi::overload(fields).number == 0
     }
 
-    /// Times the job of both programs, in turn, after doing it once.
-    pub fn compare(&self, fields: &Fields) -> Times {
-        let mut programs = [self.proved, self.plain].map(Program::new);
-        let mut times = Times { proved: vec![], plain: vec![] };
-        self.call_both(&mut programs, fields);
+    /// The proved library that this program is linked with.
+    pub fn proved<'a>(&self, fields: &'a Fields) -> Linked<'a> {
+        Linked::new(self.proved, self.cleared, fields)
+    }
+
+    /// Plain Rust.
+    pub fn plain<'a>(&self, fields: &'a Fields) -> Linked<'a> {
+        Linked::new(self.plain, self.cleared, fields)
+    }
+
+    /// The times that each program takes for this job. They do it in turn, after each did it once.
+    pub fn compare(&self, programs: &mut [Box<dyn Program + '_>]) -> Vec<Vec<Duration>> {
+        self.call_each(programs);
+        let mut times = vec![vec![]; programs.len()];
         let start = Instant::now();
-        while times.plain.len() < LEAST || (times.plain.len() < MOST && start.elapsed() < ENOUGH) {
-            let [proved, plain] = self.call_both(&mut programs, fields);
-            times.proved.push(proved);
-            times.plain.push(plain);
+        while times[0].len() < LEAST || (times[0].len() < MOST && start.elapsed() < ENOUGH) {
+            for (times, time) in times.iter_mut().zip(self.call_each(programs)) {
+                times.push(time);
+            }
         }
         times
     }
 
-    /// Does the job with both programs. They must answer the same, and leave the same in what is lent.
-    fn call_both(&self, programs: &mut [Program; 2], fields: &Fields) -> [Duration; 2] {
-        let times = programs.each_mut().map(|program| program.call(self.cleared, fields));
-        let [proved, plain] = programs;
-        assert_eq!(proved.answer, plain.answer, "{}", self.name);
-        assert!(proved.lent == plain.lent, "{}: the programs leave different values", self.name);
-        times
+    /// Does the job with each program. They must answer the same, and leave the same in what is lent.
+    fn call_each(&self, programs: &mut [Box<dyn Program + '_>]) -> Vec<Duration> {
+        let done = Vec::from_iter(programs.iter_mut().map(|program| program.call()));
+        for (place, one) in done.iter().enumerate() {
+            let which = || format!("{}: program {} beside the first", self.name, place + 1);
+            assert_eq!(one.answer, done[0].answer, "{}", which());
+            assert!(one.left == done[0].left, "{} leaves other values", which());
+        }
+        done.iter().map(|one| one.time).collect()
     }
 }
 
-/// A program's way to do a job, what is lent to it, and what it answered last.
-struct Program {
+/// A program that is part of this one, and what is lent to it.
+pub struct Linked<'a> {
     call: Call,
+    cleared: bool,
+    fields: &'a Fields,
     lent: Lent,
-    answer: Option<Answer>,
 }
 
-impl Program {
-    fn new(call: Call) -> Program {
-        Program { call, lent: Lent::untouched(LONGEST_DAY.into()), answer: None }
+impl Linked<'_> {
+    fn new(call: Call, cleared: bool, fields: &Fields) -> Linked<'_> {
+        Linked { call, cleared, fields, lent: Lent::untouched(LONGEST_DAY.into()) }
     }
+}
 
-    /// Does the job, and says how long it took.
-    fn call(&mut self, cleared: bool, fields: &Fields) -> Duration {
+impl Program for Linked<'_> {
+    fn call(&mut self) -> Done {
         let start = Instant::now();
-        if cleared {
+        if self.cleared {
             self.lent.plan.fill(0);
             self.lent.narrowed.fill(0);
             self.lent.bounds.fill(0);
         }
-        let answer = (self.call)(black_box(fields), black_box(&mut self.lent));
+        let answer = (self.call)(black_box(self.fields), black_box(&mut self.lent));
         let time = start.elapsed();
-        self.answer = Some(answer);
-        time
+        Done { time, answer, left: digest(&self.lent) }
     }
+}
+
+/// The same for the same values in every build of this program.
+fn digest(Lent { plan, narrowed, bounds }: &Lent) -> u64 {
+    let mut hasher = DefaultHasher::new();
+    (plan, narrowed, bounds).hash(&mut hasher);
+    hasher.finish()
 }

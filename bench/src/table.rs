@@ -1,11 +1,12 @@
 //! What is printed.
 
-use crate::jobs::{self, Times, ENOUGH, LEAST, MOST};
+use crate::before::Before;
+use crate::jobs::{self, ENOUGH, LEAST, MOST};
 use std::fmt::{self, Display, Formatter};
 use std::time::Duration;
 
 /// What is compared and how, and the heads of the columns.
-pub fn text() -> String {
+pub fn text(before: Option<&Before>) -> String {
     let how = format!(
         "\
 Full days of 1,440 minutes and 64 entries, by the proved library and by a plain Rust program. Both take a
@@ -26,40 +27,82 @@ cleared' all that is lent is set to 0 before each call, and that is timed too.
 ",
         ENOUGH.as_secs()
     );
-    let programs = format!("{:24}{:>24}{:>24}{:>20}", "", "proved library", "plain Rust", "proved : plain");
-    let (median, worst) = ("median", "worst");
-    let columns = format!(
-        "{:16}{:>8}{median:>12}{worst:>12}{median:>12}{worst:>12}{median:>10}{worst:>10}",
-        "", "times"
-    );
-    [how, programs, columns].join("\n")
+    match before {
+        None => [how, heads(&["proved library", "plain Rust"], &["proved : plain"])].join("\n"),
+        Some(Before { commit, .. }) => {
+            let programs = ["library now", "plain Rust", "library before"];
+            [how, third(commit), heads(&programs, &["now : plain", "now : before"])].join("\n")
+        }
+    }
 }
 
-/// A line of the table: a job with a day.
+/// What the third program is.
+fn third(commit: &str) -> String {
+    format!(
+        "\
+'Before' is the proved library as it was at commit {commit}. It is a third program, in turn with the two
+others, and must answer and leave the same as they. It is part of another process, which times its calls by
+itself.
+"
+    )
+}
+
+/// The widths of a number of times, of a time and of a ratio, with so many programs beside each other.
+fn widths(programs: usize) -> [usize; 3] {
+    if programs == 2 {
+        [8, 12, 10]
+    } else {
+        [6, 10, 7]
+    }
+}
+
+/// The heads of the columns: two for each program, and two for each ratio.
+fn heads(programs: &[&str], ratios: &[&str]) -> String {
+    let [number, time, ratio] = widths(programs.len());
+    let mut names = format!("{:16}{:number$}", "", "");
+    let mut columns = format!("{:16}{:>number$}", "", "times");
+    let programs = programs.iter().map(|name| (name, time));
+    for (name, width) in programs.chain(ratios.iter().map(|name| (name, ratio))) {
+        names += &format!("{name:>0$}", 2 * width);
+        columns += &format!("{:>width$}{:>width$}", "median", "worst");
+    }
+    [names, columns].join("\n")
+}
+
+/// The places of the programs among a row's times.
+const PROVED: usize = 0;
+const PLAIN: usize = 1;
+const BEFORE: usize = 2;
+
+/// A line of the table: a job with a day, and the times of each program.
 pub struct Row {
     pub day: &'static str,
     pub job: &'static str,
-    pub times: Times,
+    pub times: Vec<Vec<Duration>>,
 }
 
 impl Row {
-    /// How many times as long as plain Rust the proved library took: medians, and worst times.
-    fn ratios(&self) -> [f64; 2] {
-        let proved = median_and_worst(&self.times.proved);
-        let plain = median_and_worst(&self.times.plain);
-        [proved[0] / plain[0], proved[1] / plain[1]]
+    /// How many times as long as another program the proved library took: medians, and worst times.
+    fn ratios(&self, other: usize) -> [f64; 2] {
+        let proved = median_and_worst(&self.times[PROVED]);
+        let other = median_and_worst(&self.times[other]);
+        [proved[0] / other[0], proved[1] / other[1]]
     }
 }
 
 impl Display for Row {
     fn fmt(&self, out: &mut Formatter) -> fmt::Result {
-        write!(out, "  {:14}{:>8}", self.job, self.times.plain.len())?;
-        for times in [&self.times.proved, &self.times.plain] {
+        let [number, time, ratio] = widths(self.times.len());
+        write!(out, "  {:14}{:>number$}", self.job, self.times[PROVED].len())?;
+        for times in &self.times {
             let [median, worst] = median_and_worst(times);
-            write!(out, "{median:12.3}{worst:12.3}")?;
+            write!(out, "{median:time$.3}{worst:time$.3}")?;
         }
-        let [median, worst] = self.ratios();
-        write!(out, "{median:10.3}{worst:10.3}")
+        for other in PLAIN..self.times.len() {
+            let [median, worst] = self.ratios(other);
+            write!(out, "{median:ratio$.3}{worst:ratio$.3}")?;
+        }
+        Ok(())
     }
 }
 
@@ -70,22 +113,53 @@ fn median_and_worst(times: &[Duration]) -> [f64; 2] {
     [times[times.len() / 2], times[times.len() - 1]].map(|time| time.as_secs_f64() * 1e3)
 }
 
-/// The worst of each job over all days, each with its day.
-pub fn worst(rows: &[Row]) -> String {
-    let mut lines = vec!["Worst of each job, and its day:".to_string()];
-    lines.push(format!(
-        "{:16}{:>24}{:>24}{:>24}",
-        "", "slowest proved call", "ratio of medians", "ratio of worsts"
-    ));
+/// The greatest of some value of rows, or the least.
+struct Extreme {
+    name: &'static str,
+    least: bool,
+    value: fn(&Row) -> f64,
+}
+
+impl Extreme {
+    /// It, and its day.
+    fn of<'a>(&self, rows: impl Iterator<Item = &'a Row>) -> String {
+        let order = |one: &&Row, other: &&Row| (self.value)(one).total_cmp(&(self.value)(other));
+        let row = if self.least { rows.min_by(order) } else { rows.max_by(order) };
+        row.map_or(String::new(), |row| format!("{:.3} {}", (self.value)(row), row.day))
+    }
+}
+
+/// A line for each job, with these values of its rows.
+fn by_job(title: &str, extremes: [Extreme; 3], rows: &[Row]) -> String {
+    let heads = extremes.each_ref().map(|extreme| extreme.name.to_string());
+    let line = |name, [one, two, three]: [String; 3]| format!("{name:16}{one:>24}{two:>24}{three:>24}");
+    let mut lines = vec![title.to_string(), line(String::new(), heads)];
     for job in &jobs::ALL {
         let rows = rows.iter().filter(|row| row.job == job.name);
-        let most = |what: fn(&Row) -> f64| {
-            let most = rows.clone().max_by(|one, other| what(one).total_cmp(&what(other)));
-            most.map_or(String::new(), |row| format!("{:.3} {}", what(row), row.day))
-        };
-        let slowest = most(|row| median_and_worst(&row.times.proved)[1]);
-        let ratios = [most(|row| row.ratios()[0]), most(|row| row.ratios()[1])];
-        lines.push(format!("  {:14}{slowest:>24}{:>24}{:>24}", job.name, ratios[0], ratios[1]));
+        let values = extremes.each_ref().map(|extreme| extreme.of(rows.clone()));
+        lines.push(line(format!("  {}", job.name), values));
     }
     lines.join("\n")
+}
+
+/// The worst of each job over all days, each with its day.
+pub fn worst(rows: &[Row]) -> String {
+    let greatest = |name, value| Extreme { name, least: false, value };
+    let extremes = [
+        greatest("slowest proved call", |row| median_and_worst(&row.times[PROVED])[1]),
+        greatest("ratio of medians", |row| row.ratios(PLAIN)[0]),
+        greatest("ratio of worsts", |row| row.ratios(PLAIN)[1]),
+    ];
+    by_job("Worst of each job, and its day:", extremes, rows)
+}
+
+/// The ratios now : before of each job over all days.
+pub fn since(rows: &[Row]) -> String {
+    let extreme = |name, least, value| Extreme { name, least, value };
+    let extremes = [
+        extreme("least of medians", true, |row| row.ratios(BEFORE)[0]),
+        extreme("greatest of medians", false, |row| row.ratios(BEFORE)[0]),
+        extreme("greatest of worsts", false, |row| row.ratios(BEFORE)[1]),
+    ];
+    by_job("Ratios now : before of each job, and their days:", extremes, rows)
 }
