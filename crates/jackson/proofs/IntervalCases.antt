@@ -12,8 +12,7 @@ use Rattle.base.specs.Outcomes.{code, answered, refused}
 use Rattle.base.specs.Counting.{sum, better, best, smaller, larger}
 use Rattle.jackson.specs.Windows.{Windows, windowsIn}
 use Rattle.jackson.specs.Intervals.{work, isOverloaded, leftOf, leftEnd, rightOf, rightEnd, overloadOf}
-use Rattle.jackson.specs.Orders.{LatestReleaseFirst}
-use Rattle.jackson.specs.RunningSums.{boxes, AtLeftEnd, SumSoFar, WalksDown}
+use Rattle.jackson.specs.RunningSums.{LatestReleaseFirst, boxes, AtLeftEnd, SumSoFar, WalksDown}
 use Rattle.jackson.specs.Internal.{windowsHeld, Passes, anew, FindsLeft, rightOfFirst, FindsRight}
 use Rattle.jackson.specs.declared.types.WindowSet.{WindowSet}
 use Rattle.jackson.specs.declared.running_sum.RunningSum.{RunningSum}
@@ -40,7 +39,7 @@ module _ (b d p : ℕ) (s : RunningSum) (small : p ≤ 65535) where
 -- The walk over the left ends for b, from the sum s on: none was overloaded so far.
 pub record NoneSoFar (w : Windows) (o : ℕ → ℕ) (b : ℕ) (s s′ : RunningSum) : Type 0 where
   pub few : w .n ≤ 64
-  pub order : LatestReleaseFirst (w .n) (w .r) o
+  pub order : LatestReleaseFirst w o
   pub sum : SumSoFar w o b s′
   pub reached : 1 ≤ s′ .passed → AtLeftEnd w b s′
   pub none : (y : ℕ) → y < s′ .passed → isOverloaded w (w .r (o y)) b ≡ true → ⊥
@@ -51,7 +50,7 @@ abbrev shownAt : Bool → ℕ → RunningSum → Shown
 shownAt x b t = record { overloaded = x; a = t .a; b = b; work = t .kept; sum = t }
 
 module _ (w : Windows) (o : ℕ → ℕ) (b : ℕ) (before s : RunningSum) (starts : s ≡ anew before) where
-  pub left-start : w .n ≤ 64 → LatestReleaseFirst (w .n) (w .r) o → NoneSoFar w o b s s
+  pub left-start : w .n ≤ 64 → LatestReleaseFirst w o → NoneSoFar w o b s s
   left-start few order =
       rw starts
       (record {
@@ -231,12 +230,12 @@ module _ (w : Windows) (i : ℕ) (f : Shown) (so : FindsRight w i f) where
 -- All right ends, one after the other.
 pub record RightSoFar (w : Windows) (o : ℕ → ℕ) (i : ℕ) (f : Shown) : Type 0 where
   pub few : w .n ≤ 64
-  pub order : LatestReleaseFirst (w .n) (w .r) o
+  pub order : LatestReleaseFirst w o
   pub within : i ≤ w .n
   pub shown : FindsRight w i f
 
 module _ (w : Windows) (o : ℕ → ℕ) where
-  pub right-start : w .n ≤ 64 → LatestReleaseFirst (w .n) (w .r) o → (f : Shown) → f .overloaded ≡ false
+  pub right-start : w .n ≤ 64 → LatestReleaseFirst w o → (f : Shown) → f .overloaded ≡ false
       → f .sum .earlier + f .sum .additions ≡ 0 → RightSoFar w o 0 f
   unfolding best
   right-start few order f e z =

@@ -25,7 +25,6 @@ pub mod Alike
 pub mod ArrayCases
 mod ScanCases
 mod MinuteCases
-mod OrderCases
 mod RunningSums
 mod IntervalCases
 mod WindowSetCases

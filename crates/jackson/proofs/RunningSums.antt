@@ -13,8 +13,7 @@ use Rattle.base.proofs.Permutations.{once-sum}
 use Rattle.base.proofs.Scans.{NonePasses, Best}
 use Rattle.jackson.specs.Windows.{Windows}
 use Rattle.jackson.specs.Intervals.{work, isOverloaded, leftOf}
-use Rattle.jackson.specs.Orders.{LatestReleaseFirst}
-use Rattle.jackson.specs.RunningSums.{boxes, entered, AtLeftEnd, SumSoFar, WalksDown}
+use Rattle.jackson.specs.RunningSums.{LatestReleaseFirst, boxes, entered, AtLeftEnd, SumSoFar, WalksDown}
 use Rattle.jackson.specs.Internal.{Passes}
 use Rattle.jackson.specs.declared.running_sum.RunningSum.{RunningSum}
 
@@ -29,9 +28,9 @@ unfolding boxes
 boxes-few w a b = omega (arith, sum-most (w .n) 1 _ (λ i _. cond-le (leb a (w .r i) && leb (w .d i) b) 1 1 (omega arith)))
 
 -- Along the order the r falls.
-module _ (w : Windows) (o : ℕ → ℕ) (order : LatestReleaseFirst (w .n) (w .r) o) where
+module _ (w : Windows) (o : ℕ → ℕ) (order : LatestReleaseFirst w o) where
   pub falls : (x y : ℕ) → x ≤ y → y < w .n → w .r (o y) ≤ w .r (o x)
-  falls x y l b = same-cases x y (λ e _. rw e (omega arith)) (λ ne _. order .sorted x y (omega (arith, ne)) b .release)
+  falls x y l b = same-cases x y (λ e _. rw e (omega arith)) (λ ne _. order .sorted x y (omega (arith, ne)) b .larger)
 
   -- the boxes entered are those in [a, b), if a is at most the r of those passed and above the r of the rest
   module _ (a b x : ℕ) (over : (y : ℕ) → y < x → a ≤ w .r (o y)) (under : (y : ℕ) → x ≤ y → y < w .n → w .r (o y) < a) where
@@ -75,7 +74,7 @@ module _ (w : Windows) (o : ℕ → ℕ) (b : ℕ) where
 -- Inside one left end, from place x of the order on: all places passed have an r of at least this one.
 pub record Walking (w : Windows) (o : ℕ → ℕ) (b x earlier : ℕ) (s : RunningSum) : Type 0 where
   pub few : w .n ≤ 64
-  pub order : LatestReleaseFirst (w .n) (w .r) o
+  pub order : LatestReleaseFirst w o
   pub more : x < w .n
   pub sum : SumSoFar w o b s
   pub a-is : s .a ≡ w .r (o x)
@@ -84,7 +83,7 @@ pub record Walking (w : Windows) (o : ℕ → ℕ) (b x earlier : ℕ) (s : Runn
   pub earlier-is : s .earlier ≡ earlier
 
 module _ (w : Windows) (o : ℕ → ℕ) (b : ℕ) (s : RunningSum) where
-  pub walking-start : w .n ≤ 64 → LatestReleaseFirst (w .n) (w .r) o → SumSoFar w o b s → s .passed < w .n
+  pub walking-start : w .n ≤ 64 → LatestReleaseFirst w o → SumSoFar w o b s → s .passed < w .n
       → Walking w o b (s .passed) (s .earlier)
       (record { a = w .r (o (s .passed)); passed = s .passed; kept = s .kept; additions = s .additions; earlier = s .earlier })
   walking-start few order so more =

@@ -19,10 +19,6 @@ use Rattle.jackson.specs.declared.interval.Shown.{Shown}
 abbrev pub windowsHeld : ℕ → List ℕ → List ℕ → List ℕ → Windows
 windowsHeld n r d p = columns 0 n r d p
 
--- the numbers that an array has for the places
-abbrev pub column : List ℕ → ℕ → ℕ
-column xs i = getD xs i 0
-
 -- one place more is passed, with this d and p: its box enters if d is at most b
 pub record Passes (b d p : ℕ) (s s′ : RunningSum) : Type 0 where
   pub a : s′ .a ≡ s .a

@@ -2,7 +2,6 @@ pub mod Windows
 pub mod Plans
 pub mod Mirrors
 pub mod Intervals
-pub mod Orders
 pub mod RunningSums
 pub mod Rules
 pub mod Minutes

@@ -4,6 +4,7 @@ use mathlib.Core.Path.{_≡_}
 use mathlib.Core.Bool.{cond, _&&_}
 use lib.Dec.{leb}
 use Rattle.base.specs.Counting.{sum}
+use Rattle.order.specs.Orders.{LargestFirst}
 use Rattle.jackson.specs.Windows.{Windows}
 use Rattle.jackson.specs.Intervals.{work}
 use Rattle.jackson.specs.declared.running_sum.RunningSum.{RunningSum}
@@ -17,6 +18,10 @@ boxes w a b = sum (w .n) (λ i. cond (leb a (w .r i) && leb (w .d i) b) 1 0)
 pub record AtLeftEnd (w : Windows) (b : ℕ) (s : RunningSum) : Type 0 where
   pub kept-is : s .kept ≡ work w (s .a) b
   pub additions-are : s .additions ≡ boxes w (s .a) b
+
+-- the places in the order in which a left end that walks down meets them
+abbrev pub LatestReleaseFirst : Windows → (ℕ → ℕ) → Type 0
+LatestReleaseFirst w o = LargestFirst (w .n) (w .r) o
 
 -- "add the boxes that enter": what those of the first x places of the order add that have a d of at most b, where each adds its f
 abbrev pub entered : Windows → (ℕ → ℕ) → ℕ → (ℕ → ℕ) → ℕ → ℕ

@@ -1,5 +1,4 @@
 // Overloaded intervals.
-use crate::order::latest_release_first;
 use crate::running_sum::RunningSum;
 use crate::running_sum::start_anew;
 use crate::running_sum::walk_down;
@@ -10,6 +9,7 @@ use list::types::DayList;
 use list::types::ENTRIES;
 use list::types::Refusal;
 use list::types::Verdict;
+use order::largest_first;
 ghost use mathlib.Core.Path.{_≡_};
 ghost use mathlib.Core.Bool.{_&&_};
 ghost use Prim.Native.Nat.{_+_, _*_, _-_, _<_, _≤_};
@@ -18,9 +18,10 @@ ghost use Rattle.list.specs.Refusals.{verdictOf};
 ghost use Rattle.list.specs.DayLists.{mostEntries};
 ghost use Rattle.jackson.specs.Windows.{windowsIn};
 ghost use Rattle.jackson.specs.Intervals.{overloadOf};
-ghost use Rattle.jackson.specs.Orders.{LatestReleaseFirst, orderIn};
+ghost use Rattle.order.specs.Orders.{valueAt};
+ghost use Rattle.jackson.specs.RunningSums.{LatestReleaseFirst};
 ghost use Rattle.jackson.specs.Calls.{Tests};
-ghost use Rattle.jackson.specs.Internal.{windowsHeld, column, FindsLeft, FindsRight};
+ghost use Rattle.jackson.specs.Internal.{windowsHeld, FindsLeft, FindsRight};
 
 // Whether an interval is overloaded, one that is, with its work, and the sum as the last right end left it.
 pub(crate) struct Shown {
@@ -52,7 +53,7 @@ fn left_end(
     before: RunningSum,
 ) -> Shown
     requires { ⌜ count ≤ mostEntries ⌝ }
-    requires { ⌜ LatestReleaseFirst count (column (now r)) (orderIn (now order)) ⌝ }
+    requires { ⌜ LatestReleaseFirst (windowsHeld count (now r) (now d) (now p)) (valueAt (now order)) ⌝ }
     requires { ⌜ before .earlier + before .additions ≤ mostEntries * mostEntries ⌝ }
     ensures { λ x. ⌜ FindsLeft (windowsHeld count (now (r .entry)) (now (d .entry)) (now (p .entry))) b before x ⌝ }
 {
@@ -100,7 +101,7 @@ fn smaller_right(
     shown: Shown,
 ) -> Shown
     requires { ⌜ count ≤ mostEntries ⌝ }
-    requires { ⌜ LatestReleaseFirst count (column (now r)) (orderIn (now order)) ⌝ }
+    requires { ⌜ LatestReleaseFirst (windowsHeld count (now r) (now d) (now p)) (valueAt (now order)) ⌝ }
     requires { ⌜ i < count ⌝ }
     requires { ⌜ FindsRight (windowsHeld count (now r) (now d) (now p)) i shown ⌝ }
     ensures { λ x. ⌜ FindsRight (windowsHeld count (now (r .entry)) (now (d .entry)) (now (p .entry))) (i + 1) x ⌝ }
@@ -132,7 +133,7 @@ fn right_end(
     order: &[usize; ENTRIES],
 ) -> Shown
     requires { ⌜ count ≤ mostEntries ⌝ }
-    requires { ⌜ LatestReleaseFirst count (column (now r)) (orderIn (now order)) ⌝ }
+    requires { ⌜ LatestReleaseFirst (windowsHeld count (now r) (now d) (now p)) (valueAt (now order)) ⌝ }
     ensures { λ x. ⌜ FindsRight (windowsHeld count (now (r .entry)) (now (d .entry)) (now (p .entry))) count x ⌝ }
 {
     let mut shown = Shown {
@@ -164,7 +165,7 @@ pub fn unchecked_overload(windows: WindowSet) -> Verdict
     let r = windows.r;
     let d = windows.d;
     let p = windows.p;
-    let order = latest_release_first(windows);
+    let order = largest_first(windows.n, &r);
     let shown = right_end(count, &r, &d, &p, &order);
     if shown.overloaded {
         return Verdict::Refused(Refusal::Overloaded(shown.a, shown.b, shown.work));

@@ -3,9 +3,9 @@ use list::types::ENTRIES;
 ghost use mathlib.Core.Path.{_≡_};
 ghost use Prim.Native.Nat.{_+_, _*_, _<_, _≤_};
 ghost use Rattle.list.specs.DayLists.{mostEntries};
-ghost use Rattle.jackson.specs.Orders.{LatestReleaseFirst, orderIn};
-ghost use Rattle.jackson.specs.RunningSums.{SumSoFar, WalksDown};
-ghost use Rattle.jackson.specs.Internal.{windowsHeld, column, Passes, anew};
+ghost use Rattle.order.specs.Orders.{valueAt};
+ghost use Rattle.jackson.specs.RunningSums.{LatestReleaseFirst, SumSoFar, WalksDown};
+ghost use Rattle.jackson.specs.Internal.{windowsHeld, Passes, anew};
 
 // The left end reached, how many places of the order are passed, the sum kept, the additions made for this b, and those made for the right
 // ends before it.
@@ -68,10 +68,10 @@ pub(crate) fn walk_down(
     start: RunningSum,
 ) -> RunningSum
     requires { ⌜ count ≤ mostEntries ⌝ }
-    requires { ⌜ LatestReleaseFirst count (column (now r)) (orderIn (now order)) ⌝ }
-    requires { ⌜ SumSoFar (windowsHeld count (now r) (now d) (now p)) (orderIn (now order)) b start ⌝ }
+    requires { ⌜ LatestReleaseFirst (windowsHeld count (now r) (now d) (now p)) (valueAt (now order)) ⌝ }
+    requires { ⌜ SumSoFar (windowsHeld count (now r) (now d) (now p)) (valueAt (now order)) b start ⌝ }
     requires { ⌜ start .passed < count ⌝ }
-    ensures { λ s. ⌜ WalksDown (windowsHeld count (now (r .entry)) (now (d .entry)) (now (p .entry))) (orderIn (now (order .entry))) b start s ⌝ }
+    ensures { λ s. ⌜ WalksDown (windowsHeld count (now (r .entry)) (now (d .entry)) (now (p .entry))) (valueAt (now (order .entry))) b start s ⌝ }
 {
     let first = start.passed;
     let place = order[first];

@@ -2,14 +2,14 @@
 -- Assumes nothing.
 use borrow.Author.Needs.{needs}
 use Prim.Native.Nat.{_-_}
-use Rattle.jackson.specs.Orders.{orderIn}
+use Rattle.order.specs.Orders.{valueAt}
 use Rattle.jackson.specs.Internal.{windowsHeld}
 use Rattle.jackson.proofs.IntervalCases.{NoneSoFar, left-start, left-next, left-found, left-none}
 use Rattle.jackson.proofs.interval.left_end.Statement.{statement}
 use Rattle.jackson.proofs.interval.left_end.Tie as tie
 
 abbrev Inv-loop : tie.InvT-loop
-Inv-loop count r d p order b sum₀ sum = NoneSoFar (windowsHeld count r d p) (orderIn order) b sum₀ sum
+Inv-loop count r d p order b sum₀ sum = NoneSoFar (windowsHeld count r d p) (valueAt order) b sum₀ sum
 
 abbrev μ-loop : tie.MeasureT-loop
 μ-loop count r d p order b sum₀ sum = count - sum .passed

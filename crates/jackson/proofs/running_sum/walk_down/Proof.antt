@@ -4,14 +4,14 @@
 use borrow.Author.Needs.{needs}
 use Prim.Native.Nat.{_-_}
 use Rattle.base.proofs.Permutations.{once-in}
-use Rattle.jackson.specs.Orders.{orderIn}
+use Rattle.order.specs.Orders.{valueAt}
 use Rattle.jackson.specs.Internal.{windowsHeld}
 use Rattle.jackson.proofs.RunningSums.{Walking, additions-few, walking-start, walking-next, walked-below, walked-all}
 use Rattle.jackson.proofs.running_sum.walk_down.Statement.{statement}
 use Rattle.jackson.proofs.running_sum.walk_down.Tie as tie
 
 abbrev Inv-loop : tie.InvT-loop
-Inv-loop count r d p order b first place a sum₀ sum = Walking (windowsHeld count r d p) (orderIn order) b (sum₀ .passed) (sum₀ .earlier) sum
+Inv-loop count r d p order b first place a sum₀ sum = Walking (windowsHeld count r d p) (valueAt order) b (sum₀ .passed) (sum₀ .earlier) sum
 
 abbrev μ-loop : tie.MeasureT-loop
 μ-loop count r d p order b first place a sum₀ sum = count - sum .passed
