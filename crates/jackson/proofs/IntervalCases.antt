@@ -20,7 +20,7 @@ use Rattle.jackson.specs.declared.interval.Shown.{Shown}
 use Rattle.base.proofs.Sums.{le-or-lt}
 use Rattle.base.proofs.Scans.{smaller-ranks, larger-ranks, best-cases, best-some, best-largest}
 use Rattle.base.proofs.Permutations.{once-in, once-has}
-use Rattle.jackson.proofs.ScanCases.{unfit, first, wins, stays}
+use Rattle.base.proofs.ScanSteps.{unfit, first, wins, stays}
 use Rattle.jackson.proofs.RunningSums.{falls, boxes-few, sum-anew}
 
 -- A place that is passed: its box ends after b, or enters.

@@ -1,6 +1,5 @@
 // Overloaded intervals.
 use crate::running_sum::RunningSum;
-use crate::running_sum::start_anew;
 use crate::running_sum::walk_down;
 use crate::types::WindowSet;
 use crate::window_set::unchecked_windows;
@@ -57,7 +56,14 @@ fn left_end(
     requires { ⌜ before .earlier + before .additions ≤ mostEntries * mostEntries ⌝ }
     ensures { λ x. ⌜ FindsLeft (windowsHeld count (now (r .entry)) (now (d .entry)) (now (p .entry))) b before x ⌝ }
 {
-    let mut sum = start_anew(before);
+    let earlier = before.earlier + before.additions;
+    let mut sum = RunningSum {
+        a: 0,
+        passed: 0,
+        kept: 0,
+        additions: 0,
+        earlier: earlier,
+    };
     while sum.passed < count {
         sum = walk_down(count, r, d, p, order, b, sum);
         if is_overloaded(sum.a, b, sum.kept) {

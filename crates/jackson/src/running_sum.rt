@@ -1,11 +1,10 @@
 // The running sum: for one right end b, the work of the intervals that end at b, while the left end walks down.
 use list::types::ENTRIES;
-ghost use mathlib.Core.Path.{_≡_};
-ghost use Prim.Native.Nat.{_+_, _*_, _<_, _≤_};
+ghost use Prim.Native.Nat.{_*_, _<_, _≤_};
 ghost use Rattle.list.specs.DayLists.{mostEntries};
 ghost use Rattle.order.specs.Orders.{valueAt};
 ghost use Rattle.jackson.specs.RunningSums.{LatestReleaseFirst, SumSoFar, WalksDown};
-ghost use Rattle.jackson.specs.Internal.{windowsHeld, Passes, anew};
+ghost use Rattle.jackson.specs.Internal.{windowsHeld, Passes};
 
 // The left end reached, how many places of the order are passed, the sum kept, the additions made for this b, and those made for the right
 // ends before it.
@@ -15,20 +14,6 @@ pub(crate) struct RunningSum {
     pub kept: u32,
     pub additions: usize,
     pub earlier: usize,
-}
-
-// Starts the sum anew for the next right end.
-pub(crate) fn start_anew(sum: RunningSum) -> RunningSum
-    requires { ⌜ sum .earlier + sum .additions ≤ mostEntries * mostEntries ⌝ }
-    ensures { λ s. ⌜ s ≡ anew sum ⌝ }
-{
-    RunningSum {
-        a: 0,
-        passed: 0,
-        kept: 0,
-        additions: 0,
-        earlier: sum.earlier + sum.additions,
-    }
 }
 
 // Passes one place more: its box enters if its d is at most b.

@@ -56,11 +56,4 @@ module _ {none : ℕ} {f : ℕ → Bool} {before : ℕ → ℕ → Bool} {n : �
   pub search-found : {i k : ℕ} → Ranks before → n ≤ none → Searched none f before n k i → (k ≡ none → ⊥) → k < n
   search-found {i} {k} ranks h so z =
       best-cases none f before ranks i (omega (arith, so .passed)) (k < n) (λ e _. absurd (z (so .is ∙ e)))
-      (λ found. omega (arith, so .is, so .passed, found .below))
-
--- where n stands for none, it finds n at most
-module _ {f : ℕ → Bool} {before : ℕ → ℕ → Bool} {n i k : ℕ} where
-  pub search-in : Ranks before → Searched n f before n k i → k ≤ n
-  search-in ranks so =
-      best-cases n f before ranks i (so .passed) (k ≤ n) (λ e _. omega (arith, so .is, e))
       (λ found. omega (arith, so .is, so .passed, found .below))
