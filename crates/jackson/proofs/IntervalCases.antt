@@ -12,8 +12,8 @@ use Rattle.base.specs.Outcomes.{code, answered, refused}
 use Rattle.base.specs.Counting.{sum, better, best, smaller, larger}
 use Rattle.jackson.specs.Windows.{Windows, windowsIn}
 use Rattle.jackson.specs.Intervals.{work, isOverloaded, leftOf, leftEnd, rightOf, rightEnd, overloadOf}
-use Rattle.jackson.specs.RunningSums.{LatestReleaseFirst, boxes, AtLeftEnd, SumSoFar, WalksDown}
-use Rattle.jackson.specs.Internal.{windowsHeld, Passes, anew, FindsLeft, rightOfFirst, FindsRight}
+use Rattle.jackson.specs.RunningSums.{LatestReleaseFirst, boxes, AtLeftEnd, FewAdditions, SumSoFar, WalksDown}
+use Rattle.jackson.specs.Internal.{heldIn, Passes, anew, FindsLeft, rightOfFirst, FindsRight}
 use Rattle.jackson.specs.declared.types.WindowSet.{WindowSet}
 use Rattle.jackson.specs.declared.running_sum.RunningSum.{RunningSum}
 use Rattle.jackson.specs.declared.interval.Shown.{Shown}
@@ -25,7 +25,8 @@ use Rattle.jackson.proofs.RunningSums.{falls, boxes-few, sum-anew}
 
 -- A place that is passed: its box ends after b, or enters.
 module _ (b d p : ℕ) (s : RunningSum) (small : p ≤ 65535) where
-  pub passes-out : b < d → Passes b d p s (record { a = s .a; passed = s .passed + 1; kept = s .kept; additions = s .additions; earlier = s .earlier })
+  pub passes-out : b < d
+      → Passes b d p s (record { a = s .a; passed = s .passed + 1; kept = s .kept; additions = s .additions; earlier = s .earlier })
   passes-out h =
       let z = lt-leb d b h in
       record { a = refl; passed = refl; kept = rw z (omega arith); additions = rw z (omega arith); earlier = refl; small = small }
@@ -174,7 +175,7 @@ module _ (w : Windows) (i : ℕ) (f : Shown) (so : FindsRight w i f) where
       times-le (suc m) x y h = omega (arith, times-le m x y h)
 
   -- place i shows nothing new: with the sum s
-  same-shown : (s : RunningSum) → rightOfFirst w (i + 1) ≡ k → s .earlier + s .additions ≤ (i + 1) * w .n
+  same-shown : (s : RunningSum) → rightOfFirst w (i + 1) ≡ k → FewAdditions (w .n) (i + 1) s
       → FindsRight w (i + 1) (record { overloaded = f .overloaded; a = f .a; b = f .b; work = f .work; sum = s })
   same-shown s e few =
       record {
@@ -197,7 +198,7 @@ module _ (w : Windows) (i : ℕ) (f : Shown) (so : FindsRight w i f) where
 
   -- the walk for its b was made
   module _ (e : Shown) (left : FindsLeft w (w .d i) (f .sum) e) where
-    more-few : e .sum .earlier + e .sum .additions ≤ (i + 1) * w .n
+    more-few : FewAdditions (w .n) (i + 1) (e .sum)
     more-few = rw add-one (omega (arith, so .few, left .earlier, left .reached .additions-are, boxes-few w (e .sum .a) (w .d i)))
 
     pub right-none : e .overloaded ≡ false
@@ -260,9 +261,9 @@ module _ (w : Windows) (o : ℕ → ℕ) where
     right-done l = let z : i ≡ w .n = omega (arith, so .within) in subst (λ (m : ℕ). FindsRight w m f) z (so .shown)
 
 -- The whole test, of the n places that the arrays hold.
-module _ (s : WindowSet) (n : ℕ) (holds : n ≡ min (s .n) 64) (f : Shown) (so : FindsRight (windowsHeld n (s .r) (s .d) (s .p)) n f) where
+module _ (s : WindowSet) (n : ℕ) (holds : n ≡ min (s .n) 64) (f : Shown) (so : FindsRight (heldIn n (s .r) (s .d) (s .p)) n f) where
   abbrev held : Windows
-  held = windowsHeld n (s .r) (s .d) (s .p)
+  held = heldIn n (s .r) (s .d) (s .p)
 
   right : ltb (rightEnd held) n ≡ f .overloaded
   unfolding rightEnd

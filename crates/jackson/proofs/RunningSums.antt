@@ -1,19 +1,18 @@
 -- The walk of the left end for a fixed right end: the sum kept is the interval's work, and the first overloaded left end is the largest.
 -- Assumes nothing.
-use mathlib.Core.Path.{_≡_, refl, sym, ap, _∙_}
-use mathlib.Core.Bool.{Bool, true, false, cond, _&&_, true≢false}
-use Prim.Native.Nat.{ℕ, zero, suc, _+_, _*_, _≤_, _<_}
+use mathlib.Core.Path.{_≡_, refl, ap, _∙_}
+use mathlib.Core.Bool.{Bool, true, false, cond, _&&_}
+use Prim.Native.Nat.{ℕ, _+_, _≤_, _<_}
 use native.Mathlib.Numerals.{add-one}
 use native.Mathlib.Omega.{arith}
 use borrow.Author.Tests.{le-leb, lt-leb}
 use lib.Dec.{leb}
 use Rattle.base.specs.Counting.{sum}
-use Rattle.base.proofs.Sums.{le-or-lt, same-cases, sum-cong, sum-most, sum-rest}
+use Rattle.base.proofs.Sums.{same-cases, sum-cong, sum-most, sum-rest}
 use Rattle.base.proofs.Permutations.{once-sum}
-use Rattle.base.proofs.Scans.{NonePasses, Best}
 use Rattle.jackson.specs.Windows.{Windows}
-use Rattle.jackson.specs.Intervals.{work, isOverloaded, leftOf}
-use Rattle.jackson.specs.RunningSums.{LatestReleaseFirst, boxes, entered, AtLeftEnd, SumSoFar, WalksDown}
+use Rattle.jackson.specs.Intervals.{work}
+use Rattle.jackson.specs.RunningSums.{LatestReleaseFirst, boxes, entered, SumSoFar, WalksDown}
 use Rattle.jackson.specs.Internal.{Passes}
 use Rattle.jackson.specs.declared.running_sum.RunningSum.{RunningSum}
 

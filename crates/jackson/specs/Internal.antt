@@ -1,5 +1,5 @@
 -- What private functions promise each other. No public promise cites these.
-use Prim.Native.Nat.{ℕ, _+_, _*_, _-_, _<_, _≤_}
+use Prim.Native.Nat.{ℕ, _+_, _-_, _≤_}
 use mathlib.Core.Path.{_≡_}
 use mathlib.Core.Bool.{true, cond}
 use mathlib.Core.List.{List}
@@ -9,15 +9,15 @@ use Rattle.base.specs.Counting.{better, best, smaller}
 use Rattle.jackson.specs.Windows.{Windows, columns}
 use Rattle.jackson.specs.Plans.{idle}
 use Rattle.jackson.specs.Intervals.{work, leftEnd, rightOf}
-use Rattle.jackson.specs.RunningSums.{AtLeftEnd}
+use Rattle.jackson.specs.RunningSums.{AtLeftEnd, FewAdditions}
 use Rattle.jackson.specs.Minutes.{State, stateIn, isReady, comesBefore, after}
 use Rattle.jackson.specs.declared.types.Day.{Day}
 use Rattle.jackson.specs.declared.running_sum.RunningSum.{RunningSum}
 use Rattle.jackson.specs.declared.interval.Shown.{Shown}
 
 -- the windows of n entries held in arrays: their work and their intervals ask for no H
-abbrev pub windowsHeld : ℕ → List ℕ → List ℕ → List ℕ → Windows
-windowsHeld n r d p = columns 0 n r d p
+abbrev pub heldIn : ℕ → List ℕ → List ℕ → List ℕ → Windows
+heldIn n r d p = columns 0 n r d p
 
 -- one place more is passed, with this d and p: its box enters if d is at most b
 pub record Passes (b d p : ℕ) (s s′ : RunningSum) : Type 0 where
@@ -32,8 +32,8 @@ pub record Passes (b d p : ℕ) (s s′ : RunningSum) : Type 0 where
 abbrev pub anew : RunningSum → RunningSum
 anew s = record { a = 0; passed = 0; kept = 0; additions = 0; earlier = s .earlier + s .additions }
 
--- what the walk for the right end b shows, after the sum s of the right end before: whether an overloaded interval ends at b, the largest left
--- end of one, or else the last one reached, its work, and the sum there
+-- what the walk for the right end b shows, after the sum s of the right end before: whether an overloaded interval ends at b, the largest
+-- left end of one, or else the last one reached, its work, and the sum there
 pub record FindsLeft (w : Windows) (b : ℕ) (s : RunningSum) (x : Shown) : Type 0 where
   pub overloaded-is : x .overloaded ≡ ltb (leftEnd w b) (w .n)
   pub a-is : x .overloaded ≡ true → x .a ≡ w .r (leftEnd w b)
@@ -46,18 +46,18 @@ pub record FindsLeft (w : Windows) (b : ℕ) (s : RunningSum) (x : Shown) : Type
 abbrev pub rightOfFirst : Windows → ℕ → ℕ
 rightOfFirst w i = best (w .n) i (rightOf w) (smaller (w .d))
 
--- what the right ends of the first i places show: whether one of an overloaded interval is among them, the smallest, with it the largest left
--- end, and the work; and no more than n additions were made for each
+-- what the right ends of the first i places show: whether one of an overloaded interval is among them, the smallest, with it the largest
+-- left end, and the work
 pub record FindsRight (w : Windows) (i : ℕ) (x : Shown) : Type 0 where
   pub overloaded-is : x .overloaded ≡ ltb (rightOfFirst w i) (w .n)
   pub b-is : x .overloaded ≡ true → x .b ≡ w .d (rightOfFirst w i)
   pub a-is : x .overloaded ≡ true → x .a ≡ w .r (leftEnd w (x .b))
   pub work-is : x .overloaded ≡ true → x .work ≡ work w (x .a) (x .b)
-  pub few : x .sum .earlier + x .sum .additions ≤ i * w .n
+  pub few : FewAdditions (w .n) i (x .sum)
 
 -- the state at minute t of n entries held in arrays, nobody having had the minute before
 abbrev pub stateAt : ℕ → ℕ → List ℕ → List ℕ → List ℕ → State
-stateAt n t r d left = record { windows = windowsHeld n r d left; t = t; last = idle }
+stateAt n t r d left = record { windows = heldIn n r d left; t = t; last = idle }
 
 -- the better of place i and the best so far k, idle for none, in the search for the ready entry of earliest deadline
 abbrev pub betterReady : State → ℕ → ℕ → ℕ

@@ -19,6 +19,10 @@ pub record AtLeftEnd (w : Windows) (b : ℕ) (s : RunningSum) : Type 0 where
   pub kept-is : s .kept ≡ work w (s .a) b
   pub additions-are : s .additions ≡ boxes w (s .a) b
 
+-- the additions made for the first i right ends of n boxes, for each no more than n
+abbrev pub FewAdditions : ℕ → ℕ → RunningSum → Type 0
+FewAdditions n i s = s .earlier + s .additions ≤ i * n
+
 -- the places in the order in which a left end that walks down meets them
 abbrev pub LatestReleaseFirst : Windows → (ℕ → ℕ) → Type 0
 LatestReleaseFirst w o = LargestFirst (w .n) (w .r) o

@@ -1,5 +1,6 @@
 // Overloaded intervals.
 use crate::running_sum::RunningSum;
+use crate::running_sum::start_anew;
 use crate::running_sum::walk_down;
 use crate::types::WindowSet;
 use crate::window_set::unchecked_windows;
@@ -20,7 +21,7 @@ ghost use Rattle.jackson.specs.Intervals.{overloadOf};
 ghost use Rattle.order.specs.Orders.{valueAt};
 ghost use Rattle.jackson.specs.RunningSums.{LatestReleaseFirst};
 ghost use Rattle.jackson.specs.Calls.{Tests};
-ghost use Rattle.jackson.specs.Internal.{windowsHeld, FindsLeft, FindsRight};
+ghost use Rattle.jackson.specs.Internal.{heldIn, FindsLeft, FindsRight};
 
 // Whether an interval is overloaded, one that is, with its work, and the sum as the last right end left it.
 pub(crate) struct Shown {
@@ -52,18 +53,11 @@ fn left_end(
     before: RunningSum,
 ) -> Shown
     requires { ⌜ count ≤ mostEntries ⌝ }
-    requires { ⌜ LatestReleaseFirst (windowsHeld count (now r) (now d) (now p)) (valueAt (now order)) ⌝ }
+    requires { ⌜ LatestReleaseFirst (heldIn count (now r) (now d) (now p)) (valueAt (now order)) ⌝ }
     requires { ⌜ before .earlier + before .additions ≤ mostEntries * mostEntries ⌝ }
-    ensures { λ x. ⌜ FindsLeft (windowsHeld count (now (r .entry)) (now (d .entry)) (now (p .entry))) b before x ⌝ }
+    ensures { λ x. ⌜ FindsLeft (heldIn count (now (r .entry)) (now (d .entry)) (now (p .entry))) b before x ⌝ }
 {
-    let earlier = before.earlier + before.additions;
-    let mut sum = RunningSum {
-        a: 0,
-        passed: 0,
-        kept: 0,
-        additions: 0,
-        earlier: earlier,
-    };
+    let mut sum = start_anew(before);
     while sum.passed < count {
         sum = walk_down(count, r, d, p, order, b, sum);
         if is_overloaded(sum.a, b, sum.kept) {
@@ -107,10 +101,10 @@ fn smaller_right(
     shown: Shown,
 ) -> Shown
     requires { ⌜ count ≤ mostEntries ⌝ }
-    requires { ⌜ LatestReleaseFirst (windowsHeld count (now r) (now d) (now p)) (valueAt (now order)) ⌝ }
+    requires { ⌜ LatestReleaseFirst (heldIn count (now r) (now d) (now p)) (valueAt (now order)) ⌝ }
     requires { ⌜ i < count ⌝ }
-    requires { ⌜ FindsRight (windowsHeld count (now r) (now d) (now p)) i shown ⌝ }
-    ensures { λ x. ⌜ FindsRight (windowsHeld count (now (r .entry)) (now (d .entry)) (now (p .entry))) (i + 1) x ⌝ }
+    requires { ⌜ FindsRight (heldIn count (now r) (now d) (now p)) i shown ⌝ }
+    ensures { λ x. ⌜ FindsRight (heldIn count (now (r .entry)) (now (d .entry)) (now (p .entry))) (i + 1) x ⌝ }
 {
     let b = d[i];
     if ends_by(shown, b) {
@@ -139,8 +133,8 @@ fn right_end(
     order: &[usize; ENTRIES],
 ) -> Shown
     requires { ⌜ count ≤ mostEntries ⌝ }
-    requires { ⌜ LatestReleaseFirst (windowsHeld count (now r) (now d) (now p)) (valueAt (now order)) ⌝ }
-    ensures { λ x. ⌜ FindsRight (windowsHeld count (now (r .entry)) (now (d .entry)) (now (p .entry))) count x ⌝ }
+    requires { ⌜ LatestReleaseFirst (heldIn count (now r) (now d) (now p)) (valueAt (now order)) ⌝ }
+    ensures { λ x. ⌜ FindsRight (heldIn count (now (r .entry)) (now (d .entry)) (now (p .entry))) count x ⌝ }
 {
     let mut shown = Shown {
         overloaded: false,

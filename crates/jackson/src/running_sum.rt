@@ -1,10 +1,11 @@
 // The running sum: for one right end b, the work of the intervals that end at b, while the left end walks down.
 use list::types::ENTRIES;
-ghost use Prim.Native.Nat.{_*_, _<_, _≤_};
+ghost use mathlib.Core.Path.{_≡_};
+ghost use Prim.Native.Nat.{_+_, _*_, _<_, _≤_};
 ghost use Rattle.list.specs.DayLists.{mostEntries};
 ghost use Rattle.order.specs.Orders.{valueAt};
 ghost use Rattle.jackson.specs.RunningSums.{LatestReleaseFirst, SumSoFar, WalksDown};
-ghost use Rattle.jackson.specs.Internal.{windowsHeld, Passes};
+ghost use Rattle.jackson.specs.Internal.{heldIn, anew, Passes};
 
 // The left end reached, how many places of the order are passed, the sum kept, the additions made for this b, and those made for the right
 // ends before it.
@@ -14,6 +15,20 @@ pub(crate) struct RunningSum {
     pub kept: u32,
     pub additions: usize,
     pub earlier: usize,
+}
+
+// Starts the sum anew for the next right end.
+pub(crate) fn start_anew(sum: RunningSum) -> RunningSum
+    requires { ⌜ sum .earlier + sum .additions ≤ mostEntries * mostEntries ⌝ }
+    ensures { λ s. ⌜ s ≡ anew sum ⌝ }
+{
+    RunningSum {
+        a: 0,
+        passed: 0,
+        kept: 0,
+        additions: 0,
+        earlier: sum.earlier + sum.additions,
+    }
 }
 
 // Passes one place more: its box enters if its d is at most b.
@@ -50,23 +65,23 @@ pub(crate) fn walk_down(
     p: &[u16; ENTRIES],
     order: &[usize; ENTRIES],
     b: u16,
-    start: RunningSum,
+    from: RunningSum,
 ) -> RunningSum
     requires { ⌜ count ≤ mostEntries ⌝ }
-    requires { ⌜ LatestReleaseFirst (windowsHeld count (now r) (now d) (now p)) (valueAt (now order)) ⌝ }
-    requires { ⌜ SumSoFar (windowsHeld count (now r) (now d) (now p)) (valueAt (now order)) b start ⌝ }
-    requires { ⌜ start .passed < count ⌝ }
-    ensures { λ s. ⌜ WalksDown (windowsHeld count (now (r .entry)) (now (d .entry)) (now (p .entry))) (valueAt (now (order .entry))) b start s ⌝ }
+    requires { ⌜ LatestReleaseFirst (heldIn count (now r) (now d) (now p)) (valueAt (now order)) ⌝ }
+    requires { ⌜ SumSoFar (heldIn count (now r) (now d) (now p)) (valueAt (now order)) b from ⌝ }
+    requires { ⌜ from .passed < count ⌝ }
+    ensures { λ s. ⌜ WalksDown (heldIn count (now (r .entry)) (now (d .entry)) (now (p .entry))) (valueAt (now (order .entry))) b from s ⌝ }
 {
-    let first = start.passed;
+    let first = from.passed;
     let place = order[first];
     let a = r[place];
     let mut sum = RunningSum {
         a: a,
         passed: first,
-        kept: start.kept,
-        additions: start.additions,
-        earlier: start.earlier,
+        kept: from.kept,
+        additions: from.additions,
+        earlier: from.earlier,
     };
     while sum.passed < count {
         let x = sum.passed;

@@ -1,27 +1,26 @@
 -- The walk finds the definition's left end. The loop's invariant is that none was overloaded so far, the measure what is left of the order.
 -- Assumes nothing.
 use borrow.Author.Needs.{needs}
-use mathlib.Core.Path.{refl}
 use Prim.Native.Nat.{_-_}
 use Rattle.order.specs.Orders.{valueAt}
-use Rattle.jackson.specs.Internal.{windowsHeld}
+use Rattle.jackson.specs.Internal.{heldIn}
 use Rattle.jackson.proofs.IntervalCases.{NoneSoFar, left-start, left-next, left-found, left-none}
 use Rattle.jackson.proofs.interval.left_end.Statement.{statement}
 use Rattle.jackson.proofs.interval.left_end.Tie as tie
 
 abbrev Inv-loop : tie.InvT-loop
-Inv-loop count r d p order b earlier sum₀ sum = NoneSoFar (windowsHeld count r d p) (valueAt order) b sum₀ sum
+Inv-loop count r d p order b sum₀ sum = NoneSoFar (heldIn count r d p) (valueAt order) b sum₀ sum
 
 abbrev μ-loop : tie.MeasureT-loop
-μ-loop count r d p order b earlier sum₀ sum = count - sum .passed
+μ-loop count r d p order b sum₀ sum = count - sum .passed
 
-add-earlier : tie.Need-add-earlier Inv-loop μ-loop
-add-earlier c = search needs
+start-anew-requires : tie.Need-start-anew-requires Inv-loop μ-loop
+start-anew-requires c κs = search needs
 
 loop-holds : tie.Need-loop-holds Inv-loop μ-loop
 loop-holds c =
     let pre = c .before .pre in
-    left-start _ _ _ (c .before .args .before) _ refl (pre .0) (pre .1 .0)
+    left-start _ _ _ (c .before .args .before) _ (c .start-anew .ensures) (pre .0) (pre .1 .0)
 
 walk-down-requires : tie.Need-walk-down-requires Inv-loop μ-loop
 walk-down-requires c κs =
@@ -36,8 +35,8 @@ returns c =
     let walk-down = c .before .before .walk-down in
     let if1 = c .before .before .before .if1 in
     let loop = c .before .before .before .before .before .loop in
-    let args = c .before .before .before .before .before .before .before .args in
-    left-found _ _ _ (args .before) _ refl _ (loop .inv) _ (if1 .taken) (walk-down .ensures) _ (c .before .is-overloaded .ensures)
+    let start-anew = c .before .before .before .before .before .before .start-anew in
+    left-found _ _ _ _ _ (start-anew .ensures) _ (loop .inv) _ (if1 .taken) (walk-down .ensures) _ (c .before .is-overloaded .ensures)
     (c .if2 .taken)
 
 loop-less : tie.Need-loop-less Inv-loop μ-loop
@@ -48,12 +47,13 @@ loop-again c =
     let walk-down = c .before .before .walk-down in
     let if1 = c .before .before .before .if1 in
     let loop = c .before .before .before .before .before .loop in
+    let start-anew = c .before .before .before .before .before .before .start-anew in
     let args = c .before .before .before .before .before .before .before .args in
-    left-next _ _ _ (args .before) _ refl _ (loop .inv) _ (if1 .taken) (walk-down .ensures) _
+    left-next _ _ _ (args .before) _ (start-anew .ensures) _ (loop .inv) _ (if1 .taken) (walk-down .ensures) _
     (c .before .is-overloaded .ensures) (c .if2 .left)
 
 returns-2 : tie.Need-returns-2 Inv-loop μ-loop
-returns-2 c = left-none _ _ _ (c .before .before .before .before .args .before) _ refl _ (c .before .before .loop .inv) (c .if1 .left)
+returns-2 c = left-none _ _ _ _ _ (c .before .before .before .start-anew .ensures) _ (c .before .before .loop .inv) (c .if1 .left)
 
 pub left-end-spec : {M : Type 1} → statement M
 left-end-spec =
@@ -61,7 +61,7 @@ left-end-spec =
     (tie.spec
     Inv-loop
     μ-loop
-    add-earlier
+    start-anew-requires
     loop-holds
     walk-down-requires
     is-overloaded-requires

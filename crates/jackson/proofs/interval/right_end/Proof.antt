@@ -4,13 +4,13 @@ use borrow.Author.Needs.{needs}
 use mathlib.Core.Path.{refl}
 use Prim.Native.Nat.{_-_}
 use Rattle.order.specs.Orders.{valueAt}
-use Rattle.jackson.specs.Internal.{windowsHeld}
+use Rattle.jackson.specs.Internal.{heldIn}
 use Rattle.jackson.proofs.IntervalCases.{RightSoFar, right-start, right-next, right-done}
 use Rattle.jackson.proofs.interval.right_end.Statement.{statement}
 use Rattle.jackson.proofs.interval.right_end.Tie as tie
 
 abbrev Inv-loop : tie.InvT-loop
-Inv-loop count r d p order shown₀ i₀ shown i = RightSoFar (windowsHeld count r d p) (valueAt order) i shown
+Inv-loop count r d p order shown₀ i₀ shown i = RightSoFar (heldIn count r d p) (valueAt order) i shown
 
 abbrev μ-loop : tie.MeasureT-loop
 μ-loop count r d p order shown₀ i₀ shown i = count - i

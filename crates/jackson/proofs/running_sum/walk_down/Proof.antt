@@ -5,13 +5,13 @@ use borrow.Author.Needs.{needs}
 use Prim.Native.Nat.{_-_}
 use Rattle.base.proofs.Permutations.{once-in}
 use Rattle.order.specs.Orders.{valueAt}
-use Rattle.jackson.specs.Internal.{windowsHeld}
+use Rattle.jackson.specs.Internal.{heldIn}
 use Rattle.jackson.proofs.RunningSums.{Walking, additions-few, walking-start, walking-next, walked-below, walked-all}
 use Rattle.jackson.proofs.running_sum.walk_down.Statement.{statement}
 use Rattle.jackson.proofs.running_sum.walk_down.Tie as tie
 
 abbrev Inv-loop : tie.InvT-loop
-Inv-loop count r d p order b first place a sum₀ sum = Walking (windowsHeld count r d p) (valueAt order) b (sum₀ .passed) (sum₀ .earlier) sum
+Inv-loop count r d p order b first place a sum₀ sum = Walking (heldIn count r d p) (valueAt order) b (sum₀ .passed) (sum₀ .earlier) sum
 
 abbrev μ-loop : tie.MeasureT-loop
 μ-loop count r d p order b first place a sum₀ sum = count - sum .passed
@@ -35,7 +35,7 @@ element-copy-out-a c =
 loop-holds : tie.Need-loop-holds Inv-loop μ-loop
 loop-holds c =
     let pre = c .before .before .pre in
-    walking-start _ _ _ (c .before .before .args .start) (pre .0) (pre .1 .0) (pre .1 .1 .0) (pre .1 .1 .1)
+    walking-start _ _ _ (c .before .before .args .from) (pre .0) (pre .1 .0) (pre .1 .1 .0) (pre .1 .1 .1)
 
 mul-i : tie.Need-mul-i Inv-loop μ-loop
 mul-i c = search needs
@@ -54,7 +54,7 @@ returns c =
     let if1 = c .before .before .before .if1 in
     let loop = c .before .before .before .before .before .loop in
     let args = c .before .before .before .before .before .before .before .before .args in
-    walked-below _ _ _ (args .start) _ (loop .inv) (if1 .taken) (c .if2 .taken)
+    walked-below _ _ _ (args .from) _ (loop .inv) (if1 .taken) (c .if2 .taken)
 
 mul-pass : tie.Need-mul-pass Inv-loop μ-loop
 mul-pass c =
@@ -94,12 +94,12 @@ loop-again c =
     let if1 = c .before .before .before .before .before .before .if1 in
     let loop = c .before .before .before .before .before .before .before .before .loop in
     let args = c .before .before .before .before .before .before .before .before .before .before .before .args in
-    walking-next _ _ _ (args .start) _ (loop .inv) _ (if1 .taken) (if2 .left) (c .pass .ensures)
+    walking-next _ _ _ (args .from) _ (loop .inv) _ (if1 .taken) (if2 .left) (c .pass .ensures)
 
 returns-2 : tie.Need-returns-2 Inv-loop μ-loop
 returns-2 c =
     let args = c .before .before .before .before .before .args in
-    walked-all _ _ _ (args .start) _ (c .before .before .loop .inv) (c .if1 .left)
+    walked-all _ _ _ (args .from) _ (c .before .before .loop .inv) (c .if1 .left)
 
 pub walk-down-spec : {M : Type 1} → statement M
 walk-down-spec =
