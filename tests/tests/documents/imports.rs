@@ -111,10 +111,14 @@ fn source(file: &str, own: &str, import: &str) -> String {
     found
 }
 
-/// The module from which a crate exports an item: "pub use mirror::mirrored;".
+/// The module from which a crate exports an item: "pub use mirror::mirrored;", or lib.rt itself, with "pub fn
+/// largest_first(".
 #[track_caller]
 fn exporting(name: &str, item: &str) -> String {
     let text = page(&format!("crates/{name}/src/lib.rt"));
+    if text.contains(&format!("\npub fn {item}(")) {
+        return "lib".to_string();
+    }
     let mut exports = text.lines().filter_map(|line| line.strip_prefix("pub use ")?.split_once("::"));
     let found = exports.find(|(_, exported)| exported.trim_end_matches(';') == item);
     found.unwrap_or_else(|| panic!("{name} exports no {item}")).0.to_string()
