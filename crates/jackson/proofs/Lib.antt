@@ -26,6 +26,7 @@ pub mod Alike
 -- What the code's proofs cite, case by case. Those of the crates above cite ArrayCases too, which says what arrays of windows stand for.
 pub mod ArrayCases
 mod MinuteCases
+mod LeftEndCases
 mod IntervalCases
 mod WindowSetCases
 mod RoomCases

@@ -12,7 +12,7 @@ use Rattle.base.proofs.Sums.{same-cases, sum-cong, sum-most, sum-rest}
 use Rattle.base.proofs.Permutations.{once-sum}
 use Rattle.jackson.specs.Windows.{Windows}
 use Rattle.jackson.specs.Intervals.{work}
-use Rattle.jackson.specs.RunningSums.{LatestReleaseFirst, boxes, entered, SumSoFar, WalksDown}
+use Rattle.jackson.specs.RunningSums.{LatestReleaseFirst, boxes, entered, AtLeftEnd, SumSoFar, WalksDown}
 use Rattle.jackson.specs.Internal.{Passes}
 use Rattle.jackson.specs.declared.running_sum.RunningSum.{RunningSum}
 
@@ -31,14 +31,20 @@ module _ (w : Windows) (o : ℕ → ℕ) (order : LatestReleaseFirst w o) where
   pub falls : (x y : ℕ) → x ≤ y → y < w .n → w .r (o y) ≤ w .r (o x)
   falls x y l b = same-cases x y (λ e _. rw e (omega arith)) (λ ne _. order .sorted x y (omega (arith, ne)) b .larger)
 
-  -- the boxes entered are those in [a, b), if a is at most the r of those passed and above the r of the rest
-  module _ (a b x : ℕ) (over : (y : ℕ) → y < x → a ≤ w .r (o y)) (under : (y : ℕ) → x ≤ y → y < w .n → w .r (o y) < a) where
-    pub entered-all : (f : ℕ → ℕ) → x ≤ w .n → entered w o b f x ≡ sum (w .n) (λ i. cond (leb a (w .r i) && leb (w .d i) b) (f i) 0)
-    entered-all f within =
-        let term : ℕ → ℕ = λ i. cond (leb a (w .r i) && leb (w .d i) b) (f i) 0 in
-        sum-cong x _ _ (λ y l. rw (le-leb a (w .r (o y)) (over y l)) refl)
-        ∙ (sum-rest (w .n) x (λ y. term (o y)) within (λ y l u. rw (lt-leb a (w .r (o y)) (under y l u)) refl)
+  -- where a is at most the r of the places passed and above that of the rest, the boxes entered are those in [a, b)
+  module _ (b : ℕ) (s : RunningSum) (so : SumSoFar w o b s) (over : (y : ℕ) → y < s .passed → s .a ≤ w .r (o y))
+      (under : (y : ℕ) → s .passed ≤ y → y < w .n → w .r (o y) < s .a) where
+    entered-all : (f : ℕ → ℕ)
+        → entered w o b f (s .passed) ≡ sum (w .n) (λ i. cond (leb (s .a) (w .r i) && leb (w .d i) b) (f i) 0)
+    entered-all f =
+        let term : ℕ → ℕ = λ i. cond (leb (s .a) (w .r i) && leb (w .d i) b) (f i) 0 in
+        sum-cong (s .passed) _ _ (λ y l. rw (le-leb (s .a) (w .r (o y)) (over y l)) refl)
+        ∙ (sum-rest (w .n) (s .passed) (λ y. term (o y)) (so .within) (λ y l u. rw (lt-leb (s .a) (w .r (o y)) (under y l u)) refl)
         ∙ once-sum (w .n) o (order .once) term)
+
+    pub at-left-end : AtLeftEnd w b s
+    unfolding work boxes
+    at-left-end = record { kept-is = so .kept-is ∙ entered-all (w .p); additions-are = so .additions-are ∙ entered-all (λ _. 1) }
 
 module _ (w : Windows) (o : ℕ → ℕ) (b : ℕ) where
   -- no more additions than places passed
@@ -119,16 +125,11 @@ module _ (w : Windows) (o : ℕ → ℕ) (b : ℕ) (s : RunningSum) where
 
     -- it ends where the next r is smaller, or no place is left
     walked : s .passed < s′ .passed → ((y : ℕ) → s′ .passed ≤ y → y < w .n → w .r (o y) < s′ .a) → WalksDown w o b s s′
-    unfolding work boxes
     walked further under =
-        let all = entered-all w o (so .order) (s′ .a) b (s′ .passed) (so .over) under in
         record {
           sum = so .sum;
           a-is = so .a-is;
-          reached = record {
-            kept-is = so .sum .kept-is ∙ all (w .p) (so .sum .within);
-            additions-are = so .sum .additions-are ∙ all (λ _. 1) (so .sum .within);
-          };
+          reached = at-left-end w o (so .order) b s′ (so .sum) (so .over) under;
           further = further;
           same-r =
               λ x l u.

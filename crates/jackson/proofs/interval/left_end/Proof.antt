@@ -4,7 +4,7 @@ use borrow.Author.Needs.{needs}
 use Prim.Native.Nat.{_-_}
 use Rattle.order.specs.Orders.{valueAt}
 use Rattle.jackson.specs.Internal.{heldIn}
-use Rattle.jackson.proofs.IntervalCases.{NoneSoFar, left-start, left-next, left-found, left-none}
+use Rattle.jackson.proofs.LeftEndCases.{NoneSoFar, left-start, left-next, left-found, left-none}
 use Rattle.jackson.proofs.interval.left_end.Statement.{statement}
 use Rattle.jackson.proofs.interval.left_end.Tie as tie
 

@@ -2,7 +2,7 @@
 -- Assumes nothing.
 use borrow.Author.Needs.{needs}
 use native.Mathlib.Omega.{arith}
-use Rattle.jackson.proofs.IntervalCases.{passes-out, passes-in}
+use Rattle.jackson.proofs.LeftEndCases.{passes-out, passes-in}
 use Rattle.jackson.proofs.running_sum.pass.Statement.{statement}
 use Rattle.jackson.proofs.running_sum.pass.Tie as tie
 
