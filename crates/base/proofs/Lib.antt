@@ -2,7 +2,6 @@
 pub mod Sums
 pub mod Listed
 pub mod Scans
-pub mod ScanSteps
 pub mod Searches
 -- Numbers listed each once, and sorting them by insertion.
 pub mod Permutations

@@ -18,6 +18,10 @@ same a b = cond (eqb a b) 1 0
 abbrev pub EachOnce : ℕ → (ℕ → ℕ) → Type 0
 EachOnce n o = (i : ℕ) → i < n → sum n (λ x. same (o x) i) ≡ 1
 
+-- the first n values of o are sorted by R: each stands in that relation to all behind it
+abbrev pub Sorted : (ℕ → ℕ → Type 0) → ℕ → (ℕ → ℕ) → Type 0
+Sorted R n o = (x y : ℕ) → x < y → y < n → R (o x) (o y)
+
 -- the first number below n that passes the test, or n if none does
 unfoldable pub firstBelow : ℕ → (ℕ → Bool) → ℕ
 firstBelow zero f = 0

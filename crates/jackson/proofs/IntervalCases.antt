@@ -1,25 +1,39 @@
 -- The right ends and the interval shown, in each case that the code meets.
 -- Assumes nothing.
 use mathlib.Core.Path.{_≡_, refl, sym, ap, subst, _∙_}
-use mathlib.Core.Bool.{Bool, true, false, _&&_, true≢false, and-eq-true-iff}
+use mathlib.Core.Bool.{Bool, true, false, cond, _&&_, true≢false, and-eq-true-iff}
 use mathlib.Core.List.{[], _∷_}
-use Prim.Native.Nat.{ℕ, zero, suc, _+_, _*_, _<_, _≤_, min}
+use Prim.Native.Nat.{ℕ, _+_, _*_, _<_, _≤_, min}
 use native.Mathlib.Numerals.{add-one}
 use native.Mathlib.Omega.{arith}
 use borrow.Author.Tests.{leb-true, leb-false, ltb-true, ltb-false, lt-ltb, le-ltb}
 use lib.Dec.{leb, ltb}
 use Rattle.base.specs.Outcomes.{code, answered, refused}
-use Rattle.base.specs.Counting.{better, best, smaller}
+use Rattle.base.specs.Counting.{sum, better, best, smaller}
 use Rattle.jackson.specs.Windows.{Windows, windowsIn}
 use Rattle.jackson.specs.Intervals.{work, leftEnd, rightOf, rightEnd, overloadOf}
-use Rattle.jackson.specs.RunningSums.{LatestReleaseFirst, FewAdditions}
-use Rattle.jackson.specs.Internal.{heldIn, FindsLeft, rightOfFirst, FindsRight}
+use Rattle.jackson.specs.RunningSums.{LatestReleaseFirst, boxes, additionsFor}
+use Rattle.jackson.specs.Internal.{heldIn, FindsLeft, rightOfFirst, additionsAt, FindsRight}
 use Rattle.jackson.specs.declared.types.WindowSet.{WindowSet}
 use Rattle.jackson.specs.declared.running_sum.RunningSum.{RunningSum}
 use Rattle.jackson.specs.declared.interval.Shown.{Shown}
 use Rattle.base.proofs.Scans.{smaller-ranks, best-cases}
-use Rattle.base.proofs.ScanSteps.{unfit, first, wins, stays}
-use Rattle.jackson.proofs.RunningSums.{boxes-few}
+use Rattle.jackson.proofs.ScanCases.{unfit, first, wins, stays}
+use Rattle.base.proofs.Sums.{sum-most}
+use Rattle.jackson.proofs.RunningSums.{cond-most, boxes-few}
+
+-- for each right end no more additions than boxes
+module _ (w : Windows) where
+  few-at : (i : ℕ) → additionsAt w i ≤ w .n
+  few-at i =
+      let k = rightOfFirst w i in
+      let b = w .d i in
+      let a = w .r (leftEnd w b) in
+      cond-most (ltb k (w .n) && leb (w .d k) b) 0 (additionsFor w b) (w .n) (omega arith)
+      (cond-most (ltb (leftEnd w b) (w .n)) (boxes w a b) (boxes w 0 b) (w .n) (boxes-few w a b) (boxes-few w 0 b))
+
+  few-made : (i m : ℕ) → m ≡ sum i (additionsAt w) → m ≤ i * w .n
+  few-made i m e = omega (arith, e, sum-most i (w .n) (additionsAt w) (λ j _. few-at j))
 
 -- The right end of place i, if those before it show f.
 module _ (w : Windows) (i : ℕ) (f : Shown) (so : FindsRight w i f) where
@@ -42,22 +56,33 @@ module _ (w : Windows) (i : ℕ) (f : Shown) (so : FindsRight w i f) where
 
   -- the additions made for i right ends are no more than the code can count
   pub additions-most : i ≤ 64 → w .n ≤ 64 → f .sum .earlier + f .sum .additions ≤ 64 * 64
-  additions-most l few = omega (arith, so .few, times-le i (w .n) 64 few)
+  additions-most l few = omega (arith, so .additions-are, sum-most i 64 (additionsAt w) (λ j _. omega (arith, few, few-at w j)))
+
+  -- whether a right end is shown that is no larger
+  skips : (x : Bool) → x ≡ (f .overloaded && leb (f .b) (w .d i)) → (ltb k (w .n) && leb (w .d k) (w .d i)) ≡ x
+  skips x says = go (f .overloaded) refl
     where
-      times-le : (m x y : ℕ) → x ≤ y → m * x ≤ m * y
-      times-le zero x y h = omega arith
-      times-le (suc m) x y h = omega (arith, times-le m x y h)
+      go : (t : Bool) → f .overloaded ≡ t → (ltb k (w .n) && leb (w .d k) (w .d i)) ≡ x
+      go true o = rw (says, ← so .overloaded-is, o, ← so .b-is o) refl
+      go false o = rw (says, ← so .overloaded-is, o) refl
+
+  -- the additions of one place more
+  adds-at : (x : Bool) → x ≡ (f .overloaded && leb (f .b) (w .d i)) → (m : ℕ)
+      → m ≡ f .sum .earlier + f .sum .additions + cond x 0 (additionsFor w (w .d i)) → m ≡ sum (i + 1) (additionsAt w)
+  unfolding sum
+  adds-at x says m e = rw (add-one, skips x says) (omega (arith, e, so .additions-are))
 
   -- place i shows nothing new: with the sum s
-  same-shown : (s : RunningSum) → rightOfFirst w (i + 1) ≡ k → FewAdditions (w .n) (i + 1) s
+  same-shown : (s : RunningSum) → rightOfFirst w (i + 1) ≡ k → s .earlier + s .additions ≡ sum (i + 1) (additionsAt w)
       → FindsRight w (i + 1) (record { overloaded = f .overloaded; a = f .a; b = f .b; work = f .work; sum = s })
-  same-shown s e few =
+  same-shown s e adds =
       record {
         overloaded-is = so .overloaded-is ∙ sym (ap (λ (z : ℕ). ltb z (w .n)) e);
         b-is = λ h. so .b-is h ∙ sym (ap (w .d) e);
         a-is = so .a-is;
         work-is = so .work-is;
-        few = few;
+        additions-are = adds;
+        few = few-made w (i + 1) _ adds;
       }
 
   -- its b is no smaller than the one shown
@@ -68,17 +93,19 @@ module _ (w : Windows) (i : ℕ) (f : Shown) (so : FindsRight w i f) where
       let high : w .d k ≤ w .d i = omega (arith, so .b-is (z .0), leb-true (f .b) (w .d i) (z .1)) in
       same-shown (f .sum)
       (next-is k (stays (w .n) (rightOf w) (smaller (w .d)) i k (λ q. omega (arith, q)) (le-ltb (w .d i) (w .d k) high)))
-      (rw add-one (omega (arith, so .few)))
+      (adds-at x says _ (rw e (omega arith)))
 
   -- the walk for its b was made
   module _ (e : Shown) (left : FindsLeft w (w .d i) (f .sum) e) where
-    more-few : FewAdditions (w .n) (i + 1) (e .sum)
-    more-few = rw add-one (omega (arith, so .few, left .earlier, left .reached .additions-are, boxes-few w (e .sum .a) (w .d i)))
+    more-adds : (x : Bool) → x ≡ (f .overloaded && leb (f .b) (w .d i)) → x ≡ false
+        → e .sum .earlier + e .sum .additions ≡ sum (i + 1) (additionsAt w)
+    more-adds x says q = adds-at x says _ (rw q (omega (arith, left .earlier, left .additions-are)))
 
-    pub right-none : e .overloaded ≡ false
+    pub right-none : (x : Bool) → x ≡ (f .overloaded && leb (f .b) (w .d i)) → x ≡ false → e .overloaded ≡ false
         → FindsRight w (i + 1) (record { overloaded = f .overloaded; a = f .a; b = f .b; work = f .work; sum = e .sum })
-    right-none h =
-        same-shown (e .sum) (next-is k (unfit (w .n) (rightOf w) (smaller (w .d)) i k (sym (left .overloaded-is) ∙ h))) more-few
+    right-none x says q h =
+        same-shown (e .sum) (next-is k (unfit (w .n) (rightOf w) (smaller (w .d)) i k (sym (left .overloaded-is) ∙ h)))
+        (more-adds x says q)
 
     pub right-found : i < w .n → (x : Bool) → x ≡ (f .overloaded && leb (f .b) (w .d i)) → x ≡ false → e .overloaded ≡ true
         → FindsRight w (i + 1) e
@@ -88,8 +115,9 @@ module _ (w : Windows) (i : ℕ) (f : Shown) (so : FindsRight w i f) where
           overloaded-is = h ∙ sym (rw at (lt-ltb i (w .n) l));
           b-is = λ _. left .b-is ∙ sym (ap (w .d) at);
           a-is = λ _. left .a-is h ∙ sym (ap (λ (z : ℕ). w .r (leftEnd w z)) (left .b-is));
-          work-is = λ _. left .work-is ∙ sym (ap (work w (e .a)) (left .b-is));
-          few = more-few;
+          work-is = λ _. rw (left .at, left .b-is) (left .work-is ∙ left .reached .kept-is);
+          additions-are = more-adds x says q;
+          few = few-made w (i + 1) _ (more-adds x says q);
         }
       where
         fits : rightOf w i ≡ true
@@ -112,7 +140,7 @@ pub record RightSoFar (w : Windows) (o : ℕ → ℕ) (i : ℕ) (f : Shown) : Ty
 module _ (w : Windows) (o : ℕ → ℕ) where
   pub right-start : w .n ≤ 64 → LatestReleaseFirst w o → (f : Shown) → f .overloaded ≡ false
       → f .sum .earlier + f .sum .additions ≡ 0 → RightSoFar w o 0 f
-  unfolding best
+  unfolding best sum
   right-start few order f e z =
       record {
         few = few;
@@ -123,6 +151,7 @@ module _ (w : Windows) (o : ℕ → ℕ) where
           b-is = λ h. absurd (true≢false (sym h ∙ e));
           a-is = λ h. absurd (true≢false (sym h ∙ e));
           work-is = λ h. absurd (true≢false (sym h ∙ e));
+          additions-are = z;
           few = omega (arith, z);
         };
       }

@@ -9,7 +9,7 @@ use lib.Dec.{ltb}
 use Rattle.base.specs.Counting.{larger}
 use Rattle.jackson.specs.Windows.{Windows}
 use Rattle.jackson.specs.Intervals.{work, isOverloaded, leftOf, leftEnd}
-use Rattle.jackson.specs.RunningSums.{LatestReleaseFirst, AtLeftEnd, SumSoFar, WalksDown}
+use Rattle.jackson.specs.RunningSums.{LatestReleaseFirst, boxes, AtLeftEnd, SumSoFar, WalksDown}
 use Rattle.jackson.specs.Internal.{Passes, anew, FindsLeft}
 use Rattle.jackson.specs.declared.running_sum.RunningSum.{RunningSum}
 use Rattle.jackson.specs.declared.interval.Shown.{Shown}
@@ -67,21 +67,21 @@ module _ (w : Windows) (o : ℕ → ℕ) (b : ℕ) (before s : RunningSum) (star
     module _ (t : RunningSum) (more : s′ .passed < w .n) (down : WalksDown w o b s′ t) (x : Bool)
         (says : x ≡ (ltb (t .a) b && ltb (b - t .a) (t .kept))) where
       tested : isOverloaded w (t .a) b ≡ x
-      tested = rw (← down .reached .kept-is) (sym says)
+      tested = rw (← down .reached (so .sum) .kept-is) (sym says)
 
       pub left-next : x ≡ false → NoneSoFar w o b s t
       left-next e =
           record {
             few = so .few;
             order = so .order;
-            sum = down .sum;
-            reached = λ _. down .reached;
+            sum = down .sum (so .sum);
+            reached = λ _. down .reached (so .sum);
             none =
                 λ y l over.
                 le-or-lt (s′ .passed) y
                 (λ h. true≢false (sym (rw (down .same-r y h l) at over) ∙ (tested ∙ e)))
                 (λ h. so .none y h over);
-            earlier = down .earlier ∙ so .earlier;
+            earlier = down .adds .earlier ∙ so .earlier;
           }
 
       -- the first that is overloaded is the largest
@@ -98,13 +98,18 @@ module _ (w : Windows) (o : ℕ → ℕ) (b : ℕ) (before s : RunningSum) (star
           le-or-lt (s′ .passed) (z .0)
           (λ h. omega (arith, falls w o (so .order) (s′ .passed) (z .0) h (z .1), ap (w .r) (z .2)))
           (λ h. absurd (so .none (z .0) h (rw (z .2) (found .passes)))) in
+          let a-is : t .a ≡ w .r (leftEnd w b) = omega (arith, most, least, down .a-is) in
           record {
             overloaded-is = sym (lt-ltb _ _ (found .below));
-            a-is = λ _. omega (arith, most, least, down .a-is);
+            a-is = λ _. a-is;
             b-is = refl;
-            work-is = down .reached .kept-is;
-            reached = down .reached;
-            earlier = down .earlier ∙ kept-earlier;
+            at = refl;
+            work-is = refl;
+            reached = down .reached (so .sum);
+            additions-are =
+                rw (lt-ltb (leftEnd w b) (w .n) (found .below))
+                (down .reached (so .sum) .additions-are ∙ ap (λ (z : ℕ). boxes w z b) a-is);
+            earlier = down .adds .earlier ∙ kept-earlier;
           }
 
     -- all left ends were reached
@@ -113,20 +118,37 @@ module _ (w : Windows) (o : ℕ → ℕ) (b : ℕ) (before s : RunningSum) (star
       empty : s′ .passed < 1 → AtLeftEnd w b s′
       empty none = at-left-end w o (so .order) b s′ (so .sum) (λ y l. absurd (omega arith)) (λ y l u. absurd (omega (arith, end, u)))
 
+      -- all boxes that end by b entered
+      all-entered : s′ .additions ≡ boxes w 0 b
+      all-entered =
+          at-left-end w o (so .order) b
+          (record { a = 0; passed = s′ .passed; kept = s′ .kept; additions = s′ .additions; earlier = s′ .earlier })
+          (record {
+            within = so .sum .within;
+            kept-is = so .sum .kept-is;
+            additions-are = so .sum .additions-are;
+            small = so .sum .small;
+          })
+          (λ y l. omega arith)
+          (λ y l u. absurd (omega (arith, end, l, u)))
+          .additions-are
+
       pub left-none : FindsLeft w b before (shownAt false b s′)
       unfolding leftEnd
       left-none =
-          let at = le-or-lt 1 (s′ .passed) (so .reached) empty in
+          let none : ltb (leftEnd w b) (w .n) ≡ false =
+          best-cases (w .n) (leftOf w b) (larger (w .r)) (larger-ranks (w .r)) (w .n) (omega arith) (ltb (leftEnd w b) (w .n) ≡ false)
+          (λ e _. le-ltb (leftEnd w b) (w .n) (omega (arith, e)))
+          (λ found.
+          let z = once-has (w .n) o (so .order .once) (leftEnd w b) (found .below) in
+          absurd (so .none (z .0) (omega (arith, z .1)) (rw (z .2) (found .passes)))) in
           record {
-            overloaded-is =
-                best-cases (w .n) (leftOf w b) (larger (w .r)) (larger-ranks (w .r)) (w .n) (omega arith) (false ≡ ltb (leftEnd w b) (w .n))
-                (λ e _. sym (le-ltb (leftEnd w b) (w .n) (omega (arith, e))))
-                (λ found.
-                let z = once-has (w .n) o (so .order .once) (leftEnd w b) (found .below) in
-                absurd (so .none (z .0) (omega (arith, z .1)) (rw (z .2) (found .passes))));
+            overloaded-is = sym none;
             a-is = λ e. absurd (true≢false (sym e));
             b-is = refl;
-            work-is = at .kept-is;
-            reached = at;
+            at = refl;
+            work-is = refl;
+            reached = le-or-lt 1 (s′ .passed) (so .reached) empty;
+            additions-are = rw none all-entered;
             earlier = kept-earlier;
           }

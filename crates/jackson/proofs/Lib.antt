@@ -25,6 +25,7 @@ mod RunningSums
 pub mod Alike
 -- What the code's proofs cite, case by case. Those of the crates above cite ArrayCases too, which says what arrays of windows stand for.
 pub mod ArrayCases
+mod ScanCases
 mod MinuteCases
 mod LeftEndCases
 mod IntervalCases

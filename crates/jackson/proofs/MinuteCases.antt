@@ -19,7 +19,7 @@ use Rattle.jackson.specs.declared.types.Day.{Day}
 use Rattle.base.proofs.Sums.{le-or-lt, same-cases}
 use Rattle.base.proofs.Scans.{best-some}
 use Rattle.jackson.proofs.Choices.{comes-before-ranks}
-use Rattle.base.proofs.ScanSteps.{unfit, first, wins, stays}
+use Rattle.jackson.proofs.ScanCases.{unfit, first, wins, stays}
 
 module _ (t r left : ℕ) where
   pub released : r ≤ t → ltb 0 left ≡ leb r t && ltb 0 left

@@ -2,7 +2,7 @@
 -- Assumes nothing.
 use mathlib.Core.Path.{_≡_, refl, ap, _∙_}
 use mathlib.Core.Bool.{Bool, true, false, cond, _&&_}
-use Prim.Native.Nat.{ℕ, _+_, _≤_, _<_}
+use Prim.Native.Nat.{ℕ, _*_, _≤_, _<_}
 use native.Mathlib.Numerals.{add-one}
 use native.Mathlib.Omega.{arith}
 use borrow.Author.Tests.{le-leb, lt-leb}
@@ -12,24 +12,24 @@ use Rattle.base.proofs.Sums.{same-cases, sum-cong, sum-most, sum-rest}
 use Rattle.base.proofs.Permutations.{once-sum}
 use Rattle.jackson.specs.Windows.{Windows}
 use Rattle.jackson.specs.Intervals.{work}
-use Rattle.jackson.specs.RunningSums.{LatestReleaseFirst, boxes, entered, AtLeftEnd, SumSoFar, WalksDown}
+use Rattle.jackson.specs.RunningSums.{LatestReleaseFirst, boxes, entered, AtLeftEnd, SumSoFar, Adds, WalksDown}
 use Rattle.jackson.specs.Internal.{Passes}
 use Rattle.jackson.specs.declared.running_sum.RunningSum.{RunningSum}
 
--- what is added only if a test passes is no more
-cond-le : (t : Bool) (x y : ℕ) → x ≤ y → cond t x 0 ≤ y
-cond-le true x y h = h
-cond-le false x y h = omega arith
+-- what is added if a test passes, and what if not, is no more
+pub cond-most : (t : Bool) (x y k : ℕ) → x ≤ k → y ≤ k → cond t x y ≤ k
+cond-most true x y k h l = h
+cond-most false x y k h l = l
 
 -- an interval has no more boxes than the day
 pub boxes-few : (w : Windows) (a b : ℕ) → boxes w a b ≤ w .n
-unfolding boxes
-boxes-few w a b = omega (arith, sum-most (w .n) 1 _ (λ i _. cond-le (leb a (w .r i) && leb (w .d i) b) 1 1 (omega arith)))
+unfolding work
+boxes-few w a b = omega (arith, sum-most (w .n) 1 _ (λ i _. cond-most (leb a (w .r i) && leb (w .d i) b) 1 0 1 (omega arith) (omega arith)))
 
 -- Along the order the r falls.
 module _ (w : Windows) (o : ℕ → ℕ) (order : LatestReleaseFirst w o) where
   pub falls : (x y : ℕ) → x ≤ y → y < w .n → w .r (o y) ≤ w .r (o x)
-  falls x y l b = same-cases x y (λ e _. rw e (omega arith)) (λ ne _. order .sorted x y (omega (arith, ne)) b .larger)
+  falls x y l b = same-cases x y (λ e _. rw e (omega arith)) (λ ne _. order .sorted x y (omega (arith, ne)) b .no-smaller)
 
   -- where a is at most the r of the places passed and above that of the rest, the boxes entered are those in [a, b)
   module _ (b : ℕ) (s : RunningSum) (so : SumSoFar w o b s) (over : (y : ℕ) → y < s .passed → s .a ≤ w .r (o y))
@@ -43,7 +43,7 @@ module _ (w : Windows) (o : ℕ → ℕ) (order : LatestReleaseFirst w o) where
         ∙ once-sum (w .n) o (order .once) term)
 
     pub at-left-end : AtLeftEnd w b s
-    unfolding work boxes
+    unfolding work
     at-left-end = record { kept-is = so .kept-is ∙ entered-all (w .p); additions-are = so .additions-are ∙ entered-all (λ _. 1) }
 
 module _ (w : Windows) (o : ℕ → ℕ) (b : ℕ) where
@@ -53,7 +53,8 @@ module _ (w : Windows) (o : ℕ → ℕ) (b : ℕ) where
       omega (
         arith,
         so .additions-are,
-        sum-most (s .passed) 1 (λ y. cond (leb (w .d (o y)) b) 1 0) (λ y _. cond-le (leb (w .d (o y)) b) 1 1 (omega arith)),
+        sum-most (s .passed) 1 (λ y. cond (leb (w .d (o y)) b) 1 0)
+            (λ y _. cond-most (leb (w .d (o y)) b) 1 0 1 (omega arith) (omega arith)),
       )
 
   -- the sum started anew
@@ -61,57 +62,75 @@ module _ (w : Windows) (o : ℕ → ℕ) (b : ℕ) where
   unfolding sum
   sum-anew earlier = record { within = omega arith; kept-is = refl; additions-are = refl; small = omega arith }
 
-  -- one place more
-  module _ (s s′ : RunningSum) (so : SumSoFar w o b s) (more : s .passed < w .n) where
-    abbrev i : ℕ
-    i = o (s .passed)
+  -- more places passed
+  pub sum-after : (s s′ : RunningSum) → Adds w o b s s′ → s′ .passed ≤ w .n → s′ .kept ≤ 65535 * s′ .passed → SumSoFar w o b s
+      → SumSoFar w o b s′
+  sum-after s s′ t within small so =
+      record {
+        within = within;
+        kept-is = omega (arith, t .kept, so .kept-is);
+        additions-are = omega (arith, t .additions, so .additions-are);
+        small = small;
+      }
 
-    pub sum-passed : Passes b (w .d i) (w .p i) s s′ → SumSoFar w o b s′
-    unfolding sum
-    sum-passed t =
-        record {
-          within = omega (arith, t .passed);
-          kept-is = rw (t .passed, add-one) (t .kept ∙ ap (λ (z : ℕ). z + cond (leb (w .d i) b) (w .p i) 0) (so .kept-is));
-          additions-are = rw (t .passed, add-one) (t .additions ∙ ap (λ (z : ℕ). z + cond (leb (w .d i) b) 1 0) (so .additions-are));
-          small = omega (arith, t .passed, t .kept, so .small, cond-le (leb (w .d i) b) (w .p i) 65535 (t .small));
-        }
-
--- Inside one left end, from place x of the order on: all places passed have an r of at least this one.
-pub record Walking (w : Windows) (o : ℕ → ℕ) (b x earlier : ℕ) (s : RunningSum) : Type 0 where
+-- Inside one left end, from the sum s on: all places passed have an r of at least this one.
+pub record Walking (w : Windows) (o : ℕ → ℕ) (b : ℕ) (s s′ : RunningSum) : Type 0 where
   pub few : w .n ≤ 64
   pub order : LatestReleaseFirst w o
-  pub more : x < w .n
-  pub sum : SumSoFar w o b s
-  pub a-is : s .a ≡ w .r (o x)
-  pub over : (y : ℕ) → y < s .passed → s .a ≤ w .r (o y)
-  pub started : x ≤ s .passed
-  pub earlier-is : s .earlier ≡ earlier
+  pub more : s .passed < w .n
+  pub adds : Adds w o b s s′
+  pub within : s′ .passed ≤ w .n
+  pub small : s′ .kept ≤ 65535 * s′ .passed
+  pub counted : s′ .additions ≤ s′ .passed
+  pub a-is : s′ .a ≡ w .r (o (s .passed))
+  pub over : (y : ℕ) → y < s′ .passed → s′ .a ≤ w .r (o y)
+  pub started : s .passed ≤ s′ .passed
 
 module _ (w : Windows) (o : ℕ → ℕ) (b : ℕ) (s : RunningSum) where
-  pub walking-start : w .n ≤ 64 → LatestReleaseFirst w o → SumSoFar w o b s → s .passed < w .n
-      → Walking w o b (s .passed) (s .earlier)
-      (record { a = w .r (o (s .passed)); passed = s .passed; kept = s .kept; additions = s .additions; earlier = s .earlier })
-  walking-start few order so more =
+  -- the sum s at the next left end
+  abbrev starts : RunningSum
+  starts = record { a = w .r (o (s .passed)); passed = s .passed; kept = s .kept; additions = s .additions; earlier = s .earlier }
+
+  pub walking-start : w .n ≤ 64 → LatestReleaseFirst w o → s .passed < w .n → s .kept ≤ 65535 * s .passed → s .additions ≤ s .passed
+      → Walking w o b starts starts
+  walking-start few order more small counted =
       record {
         few = few;
         order = order;
         more = more;
-        sum = record { within = so .within; kept-is = so .kept-is; additions-are = so .additions-are; small = so .small };
+        adds = record { kept = refl; additions = refl; earlier = refl };
+        within = omega arith;
+        small = small;
+        counted = counted;
         a-is = refl;
         over = λ y l. falls w o order y (s .passed) (omega arith) more;
         started = omega arith;
-        earlier-is = refl;
       }
 
-  module _ (s′ : RunningSum) (so : Walking w o b (s .passed) (s .earlier) s′) where
-    pub walking-next : (t : RunningSum) → s′ .passed < w .n → w .r (o (s .passed)) ≤ w .r (o (s′ .passed))
-        → Passes b (w .d (o (s′ .passed))) (w .p (o (s′ .passed))) s′ t → Walking w o b (s .passed) (s .earlier) t
+  module _ (s′ : RunningSum) (so : Walking w o b starts s′) where
+    abbrev i : ℕ
+    i = o (s′ .passed)
+
+    pub walking-next : (t : RunningSum) → s′ .passed < w .n → w .r (o (s .passed)) ≤ w .r i → Passes b (w .d i) (w .p i) s′ t
+        → Walking w o b starts t
+    unfolding sum
     walking-next t less high passes =
         record {
           few = so .few;
           order = so .order;
           more = so .more;
-          sum = sum-passed w o b s′ t (so .sum) less passes;
+          adds = record {
+            kept = rw (passes .passed, add-one) (omega (arith, so .adds .kept, passes .kept));
+            additions = rw (passes .passed, add-one) (omega (arith, so .adds .additions, passes .additions));
+            earlier = passes .earlier ∙ so .adds .earlier;
+          };
+          within = omega (arith, passes .passed);
+          small =
+              let one = cond-most (leb (w .d i) b) (w .p i) 0 65535 (passes .small) (omega arith) in
+              omega (arith, passes .passed, passes .kept, so .small, one);
+          counted =
+              let one = cond-most (leb (w .d i) b) 1 0 1 (omega arith) (omega arith) in
+              omega (arith, passes .passed, passes .additions, so .counted, one);
           a-is = passes .a ∙ so .a-is;
           over =
               λ y l.
@@ -120,25 +139,26 @@ module _ (w : Windows) (o : ℕ → ℕ) (b : ℕ) (s : RunningSum) where
               (λ e _. rw (so .a-is, e) high)
               (λ ne _. so .over y (omega (arith, ne, passes .passed))));
           started = omega (arith, so .started, passes .passed);
-          earlier-is = passes .earlier ∙ so .earlier-is;
         }
 
     -- it ends where the next r is smaller, or no place is left
     walked : s .passed < s′ .passed → ((y : ℕ) → s′ .passed ≤ y → y < w .n → w .r (o y) < s′ .a) → WalksDown w o b s s′
     walked further under =
+        let adds : Adds w o b s s′ = record { kept = so .adds .kept; additions = so .adds .additions; earlier = so .adds .earlier } in
+        let after = sum-after w o b s s′ adds (so .within) (so .small) in
         record {
-          sum = so .sum;
+          adds = adds;
           a-is = so .a-is;
-          reached = at-left-end w o (so .order) b s′ (so .sum) (so .over) under;
+          sum = after;
+          reached = λ sum. at-left-end w o (so .order) b s′ (after sum) (so .over) under;
           further = further;
           same-r =
               λ x l u.
-              omega (arith, so .over x u, so .a-is, falls w o (so .order) (s .passed) x l (omega (arith, so .sum .within)));
+              omega (arith, so .over x u, so .a-is, falls w o (so .order) (s .passed) x l (omega (arith, so .within)));
           smaller-r = under;
-          earlier = so .earlier-is;
         }
 
-    pub walked-below : s′ .passed < w .n → w .r (o (s′ .passed)) < w .r (o (s .passed)) → WalksDown w o b s s′
+    pub walked-below : s′ .passed < w .n → w .r i < w .r (o (s .passed)) → WalksDown w o b s s′
     walked-below less low =
         walked
         (same-cases (s .passed) (s′ .passed)

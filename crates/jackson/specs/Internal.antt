@@ -1,15 +1,15 @@
 -- What private functions promise each other. No public promise cites these.
 use Prim.Native.Nat.{ℕ, _+_, _-_, _≤_}
 use mathlib.Core.Path.{_≡_}
-use mathlib.Core.Bool.{true, cond}
+use mathlib.Core.Bool.{true, cond, _&&_}
 use mathlib.Core.List.{List}
 use lib.Dec.{leb, ltb}
 use lib.ListN.{getD}
-use Rattle.base.specs.Counting.{better, best, smaller}
+use Rattle.base.specs.Counting.{sum, better, best, smaller}
 use Rattle.jackson.specs.Windows.{Windows, columns}
 use Rattle.jackson.specs.Plans.{idle}
 use Rattle.jackson.specs.Intervals.{work, leftEnd, rightOf}
-use Rattle.jackson.specs.RunningSums.{AtLeftEnd, FewAdditions}
+use Rattle.jackson.specs.RunningSums.{AtLeftEnd, additionsFor, FewAdditions}
 use Rattle.jackson.specs.Minutes.{State, stateIn, isReady, comesBefore, after}
 use Rattle.jackson.specs.declared.types.Day.{Day}
 use Rattle.jackson.specs.declared.running_sum.RunningSum.{RunningSum}
@@ -38,13 +38,21 @@ pub record FindsLeft (w : Windows) (b : ℕ) (s : RunningSum) (x : Shown) : Type
   pub overloaded-is : x .overloaded ≡ ltb (leftEnd w b) (w .n)
   pub a-is : x .overloaded ≡ true → x .a ≡ w .r (leftEnd w b)
   pub b-is : x .b ≡ b
-  pub work-is : x .work ≡ work w (x .a) b
+  pub at : x .a ≡ x .sum .a
+  pub work-is : x .work ≡ x .sum .kept
   pub reached : AtLeftEnd w b (x .sum)
+  pub additions-are : x .sum .additions ≡ additionsFor w b
   pub earlier : x .sum .earlier ≡ s .earlier + s .additions
 
 -- of the first i places the one with the smallest right end of an overloaded interval; n if there is none
 abbrev pub rightOfFirst : Windows → ℕ → ℕ
 rightOfFirst w i = best (w .n) i (rightOf w) (smaller (w .d))
+
+-- the additions for the right end of place i: no walk is made if a right end is shown that is no larger
+abbrev pub additionsAt : Windows → ℕ → ℕ
+additionsAt w i =
+    let k = rightOfFirst w i in
+    cond (ltb k (w .n) && leb (w .d k) (w .d i)) 0 (additionsFor w (w .d i))
 
 -- what the right ends of the first i places show: whether one of an overloaded interval is among them, the smallest, with it the largest
 -- left end, and the work
@@ -53,6 +61,7 @@ pub record FindsRight (w : Windows) (i : ℕ) (x : Shown) : Type 0 where
   pub b-is : x .overloaded ≡ true → x .b ≡ w .d (rightOfFirst w i)
   pub a-is : x .overloaded ≡ true → x .a ≡ w .r (leftEnd w (x .b))
   pub work-is : x .overloaded ≡ true → x .work ≡ work w (x .a) (x .b)
+  pub additions-are : x .sum .earlier + x .sum .additions ≡ sum i (additionsAt w)
   pub few : FewAdditions (w .n) i (x .sum)
 
 -- the state at minute t of n entries held in arrays, nobody having had the minute before

@@ -1,17 +1,17 @@
 -- The running sum: for one right end b, the work of the intervals that end at b, while the left end walks down.
 use Prim.Native.Nat.{ℕ, _+_, _*_, _<_, _≤_}
 use mathlib.Core.Path.{_≡_}
-use mathlib.Core.Bool.{cond, _&&_}
-use lib.Dec.{leb}
+use mathlib.Core.Bool.{cond}
+use lib.Dec.{leb, ltb}
 use Rattle.base.specs.Counting.{sum}
 use Rattle.order.specs.Orders.{LargestFirst}
 use Rattle.jackson.specs.Windows.{Windows}
-use Rattle.jackson.specs.Intervals.{work}
+use Rattle.jackson.specs.Intervals.{work, leftEnd}
 use Rattle.jackson.specs.declared.running_sum.RunningSum.{RunningSum}
 
--- how many boxes are in [a, b): those whose p is in its work
-unfoldable pub boxes : Windows → ℕ → ℕ → ℕ
-boxes w a b = sum (w .n) (λ i. cond (leb a (w .r i) && leb (w .d i) b) 1 0)
+-- how many boxes are in [a, b): its work, if each needed 1 minute
+abbrev pub boxes : Windows → ℕ → ℕ → ℕ
+boxes w a b = work (record { h = w .h; n = w .n; r = w .r; d = w .d; p = λ _. 1 }) a b
 
 -- "at each left end reached the sum kept is that interval's work, and .. the additions made for this right end, counted along, are as many
 -- as the boxes in it"
@@ -22,6 +22,10 @@ pub record AtLeftEnd (w : Windows) (b : ℕ) (s : RunningSum) : Type 0 where
 -- the additions made for the first i right ends of n boxes, for each no more than n
 abbrev pub FewAdditions : ℕ → ℕ → RunningSum → Type 0
 FewAdditions n i s = s .earlier + s .additions ≤ i * n
+
+-- the additions of the walk for b: as many as the boxes in the interval shown, or else as all boxes that end by b
+abbrev pub additionsFor : Windows → ℕ → ℕ
+additionsFor w b = cond (ltb (leftEnd w b) (w .n)) (boxes w (w .r (leftEnd w b)) b) (boxes w 0 b)
 
 -- the places in the order in which a left end that walks down meets them
 abbrev pub LatestReleaseFirst : Windows → (ℕ → ℕ) → Type 0
@@ -38,13 +42,19 @@ pub record SumSoFar (w : Windows) (o : ℕ → ℕ) (b : ℕ) (s : RunningSum) :
   pub additions-are : s .additions ≡ entered w o b (λ _. 1) (s .passed)
   pub small : s .kept ≤ 65535 * s .passed
 
+-- "keep the sum so far and add the boxes that enter": from s to s′, whatever s has, only what the places between them add is added
+pub record Adds (w : Windows) (o : ℕ → ℕ) (b : ℕ) (s s′ : RunningSum) : Type 0 where
+  pub kept : s′ .kept + entered w o b (w .p) (s .passed) ≡ s .kept + entered w o b (w .p) (s′ .passed)
+  pub additions : s′ .additions + entered w o b (λ _. 1) (s .passed) ≡ s .additions + entered w o b (λ _. 1) (s′ .passed)
+  pub earlier : s′ .earlier ≡ s .earlier
+
 -- "while the left end walks down for a fixed right end": from s to s′ it comes to the r of the next place of the order. All boxes with this
 -- r are passed, so that the sum is the interval's, and the places left have a smaller r.
 pub record WalksDown (w : Windows) (o : ℕ → ℕ) (b : ℕ) (s s′ : RunningSum) : Type 0 where
-  pub sum : SumSoFar w o b s′
+  pub adds : Adds w o b s s′
   pub a-is : s′ .a ≡ w .r (o (s .passed))
-  pub reached : AtLeftEnd w b s′
+  pub sum : SumSoFar w o b s → SumSoFar w o b s′
+  pub reached : SumSoFar w o b s → AtLeftEnd w b s′
   pub further : s .passed < s′ .passed
   pub same-r : (x : ℕ) → s .passed ≤ x → x < s′ .passed → w .r (o x) ≡ s′ .a
   pub smaller-r : (x : ℕ) → s′ .passed ≤ x → x < w .n → w .r (o x) < s′ .a
-  pub earlier : s′ .earlier ≡ s .earlier

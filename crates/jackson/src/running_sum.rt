@@ -4,7 +4,7 @@ ghost use mathlib.Core.Path.{_≡_};
 ghost use Prim.Native.Nat.{_+_, _*_, _<_, _≤_};
 ghost use Rattle.list.specs.DayLists.{mostEntries};
 ghost use Rattle.order.specs.Orders.{valueAt};
-ghost use Rattle.jackson.specs.RunningSums.{LatestReleaseFirst, SumSoFar, WalksDown};
+ghost use Rattle.jackson.specs.RunningSums.{LatestReleaseFirst, WalksDown};
 ghost use Rattle.jackson.specs.Internal.{heldIn, anew, Passes};
 
 // The left end reached, how many places of the order are passed, the sum kept, the additions made for this b, and those made for the right
@@ -69,8 +69,9 @@ pub(crate) fn walk_down(
 ) -> RunningSum
     requires { ⌜ count ≤ mostEntries ⌝ }
     requires { ⌜ LatestReleaseFirst (heldIn count (now r) (now d) (now p)) (valueAt (now order)) ⌝ }
-    requires { ⌜ SumSoFar (heldIn count (now r) (now d) (now p)) (valueAt (now order)) b from ⌝ }
     requires { ⌜ from .passed < count ⌝ }
+    requires { ⌜ from .kept ≤ 65535 * from .passed ⌝ }
+    requires { ⌜ from .additions ≤ from .passed ⌝ }
     ensures { λ s. ⌜ WalksDown (heldIn count (now (r .entry)) (now (d .entry)) (now (p .entry))) (valueAt (now (order .entry))) b from s ⌝ }
 {
     let first = from.passed;

@@ -4,6 +4,7 @@ use borrow.Author.Needs.{needs}
 use Prim.Native.Nat.{_-_}
 use Rattle.order.specs.Orders.{valueAt}
 use Rattle.jackson.specs.Internal.{heldIn}
+use Rattle.jackson.proofs.RunningSums.{additions-few}
 use Rattle.jackson.proofs.LeftEndCases.{NoneSoFar, left-start, left-next, left-found, left-none}
 use Rattle.jackson.proofs.interval.left_end.Statement.{statement}
 use Rattle.jackson.proofs.interval.left_end.Tie as tie
@@ -25,7 +26,7 @@ loop-holds c =
 walk-down-requires : tie.Need-walk-down-requires Inv-loop μ-loop
 walk-down-requires c κs =
     let inv = c .before .before .loop .inv in
-    (inv .few, (inv .order, (inv .sum, c .if1 .taken)))
+    (inv .few, (inv .order, (c .if1 .taken, (inv .sum .small, additions-few _ _ _ _ (inv .sum)))))
 
 is-overloaded-requires : tie.Need-is-overloaded-requires Inv-loop μ-loop
 is-overloaded-requires c κs = search needs

@@ -35,7 +35,9 @@ returns-2 c =
 returns-3 : tie.Need-returns-3
 returns-3 c =
     let pre = c .before .before .before .before .before .before .pre in
-    right-none _ _ _ (pre .1 .1 .1) _ (c .before .before .left-end .ensures) (c .before .if2 .left)
+    let ends-by = c .before .before .before .before .ends-by in
+    right-none _ _ _ (pre .1 .1 .1) _ (c .before .before .left-end .ensures) _ (ends-by .ensures) (c .before .before .before .if1 .left)
+    (c .before .if2 .left)
 
 pub smaller-right-spec : {M : Type 1} → statement M
 smaller-right-spec =

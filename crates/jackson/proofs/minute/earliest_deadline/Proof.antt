@@ -7,7 +7,7 @@ use Rattle.jackson.specs.Plans.{idle}
 use Rattle.jackson.specs.Minutes.{isReady, comesBefore}
 use Rattle.jackson.specs.Internal.{stateAt}
 use Rattle.jackson.proofs.Choices.{comes-before-ranks}
-use Rattle.base.proofs.ScanSteps.{Searched, search-start, search-next, search-done, search-found}
+use Rattle.jackson.proofs.ScanCases.{Searched, search-start, search-next, search-done, search-found}
 use Rattle.jackson.proofs.minute.earliest_deadline.Statement.{statement}
 use Rattle.jackson.proofs.minute.earliest_deadline.Tie as tie
 

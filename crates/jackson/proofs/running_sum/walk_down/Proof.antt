@@ -6,12 +6,12 @@ use Prim.Native.Nat.{_-_}
 use Rattle.base.proofs.Permutations.{once-in}
 use Rattle.order.specs.Orders.{valueAt}
 use Rattle.jackson.specs.Internal.{heldIn}
-use Rattle.jackson.proofs.RunningSums.{Walking, additions-few, walking-start, walking-next, walked-below, walked-all}
+use Rattle.jackson.proofs.RunningSums.{Walking, walking-start, walking-next, walked-below, walked-all}
 use Rattle.jackson.proofs.running_sum.walk_down.Statement.{statement}
 use Rattle.jackson.proofs.running_sum.walk_down.Tie as tie
 
 abbrev Inv-loop : tie.InvT-loop
-Inv-loop count r d p order b first place a sum₀ sum = Walking (heldIn count r d p) (valueAt order) b (sum₀ .passed) (sum₀ .earlier) sum
+Inv-loop count r d p order b first place a sum₀ sum = Walking (heldIn count r d p) (valueAt order) b sum₀ sum
 
 abbrev μ-loop : tie.MeasureT-loop
 μ-loop count r d p order b first place a sum₀ sum = count - sum .passed
@@ -25,17 +25,17 @@ element-copy-out-place c = search needs
 mul-a : tie.Need-mul-a Inv-loop μ-loop
 mul-a c =
     let pre = c .before .pre in
-    search (needs, once-in _ _ (pre .1 .0 .once) _ (pre .1 .1 .1))
+    search (needs, once-in _ _ (pre .1 .0 .once) _ (pre .1 .1 .0))
 
 element-copy-out-a : tie.Need-element-copy-out-a Inv-loop μ-loop
 element-copy-out-a c =
     let pre = c .before .pre in
-    search (needs, once-in _ _ (pre .1 .0 .once) _ (pre .1 .1 .1))
+    search (needs, once-in _ _ (pre .1 .0 .once) _ (pre .1 .1 .0))
 
 loop-holds : tie.Need-loop-holds Inv-loop μ-loop
 loop-holds c =
     let pre = c .before .before .pre in
-    walking-start _ _ _ (c .before .before .args .from) (pre .0) (pre .1 .0) (pre .1 .1 .0) (pre .1 .1 .1)
+    walking-start _ _ _ (c .before .before .args .from) (pre .0) (pre .1 .0) (pre .1 .1 .0) (pre .1 .1 .1 .0) (pre .1 .1 .1 .1)
 
 mul-i : tie.Need-mul-i Inv-loop μ-loop
 mul-i c = search needs
@@ -44,10 +44,14 @@ element-copy-out-i : tie.Need-element-copy-out-i Inv-loop μ-loop
 element-copy-out-i c = search needs
 
 mul-if2 : tie.Need-mul-if2 Inv-loop μ-loop
-mul-if2 c = search (needs, once-in _ _ (c .before .before .before .loop .inv .order .once) _ (c .before .if1 .taken))
+mul-if2 c =
+    let loop = c .before .before .before .loop in
+    search (needs, once-in _ _ (loop .inv .order .once) _ (c .before .if1 .taken))
 
 element-copy-out-if2 : tie.Need-element-copy-out-if2 Inv-loop μ-loop
-element-copy-out-if2 c = search (needs, once-in _ _ (c .before .before .before .loop .inv .order .once) _ (c .before .if1 .taken))
+element-copy-out-if2 c =
+    let loop = c .before .before .before .loop in
+    search (needs, once-in _ _ (loop .inv .order .once) _ (c .before .if1 .taken))
 
 returns : tie.Need-returns Inv-loop μ-loop
 returns c =
@@ -83,7 +87,7 @@ element-copy-out-pass-2 c =
 pass-requires : tie.Need-pass-requires Inv-loop μ-loop
 pass-requires c κs =
     let loop = c .before .before .before .before .before .before .before .loop in
-    search (needs, loop .inv .sum .small, additions-few _ _ _ _ (loop .inv .sum))
+    search (needs, loop .inv .small, loop .inv .counted)
 
 loop-less : tie.Need-loop-less Inv-loop μ-loop
 loop-less c = search needs
