@@ -46,6 +46,11 @@ same-refl a = rw (eq-eqb a a refl)
 pub same-ne : (a b : ℕ) → (a ≡ b → ⊥) → same a b ≡ 0
 same-ne a b h = rw (ne-eqb a b h)
 
+-- whatever a test says, no more than a bound of both answers
+pub cond-most : (t : Bool) (x y k : ℕ) → x ≤ k → y ≤ k → cond t x y ≤ k
+cond-most true x y k h l = h
+cond-most false x y k h l = l
+
 -- x, counted only if a ≤ r and d ≤ b
 pub between-is : (a b r d x : ℕ) → a ≤ r → d ≤ b → cond (leb a r && leb d b) x 0 ≡ x
 between-is a b r d x h k = rw (le-leb a r h, le-leb d b k)

@@ -16,11 +16,11 @@ use Rattle.jackson.specs.RunningSums.{LatestReleaseFirst, boxes, additio
 use Rattle.jackson.specs.Internal.{heldIn, FindsLeft, rightOfFirst, additionsAt, FindsRight}
 use Rattle.jackson.specs.declared.types.WindowSet.{WindowSet}
 use Rattle.jackson.specs.declared.running_sum.RunningSum.{RunningSum}
-use Rattle.jackson.specs.declared.interval.Shown.{Shown}
+use Rattle.jackson.specs.declared.interval.ShownInterval.{ShownInterval}
 use Rattle.base.proofs.Scans.{smaller-ranks, best-cases}
 use Rattle.jackson.proofs.ScanCases.{unfit, first, wins, stays}
-use Rattle.base.proofs.Sums.{sum-most}
-use Rattle.jackson.proofs.RunningSums.{cond-most, boxes-few}
+use Rattle.base.proofs.Sums.{cond-most, sum-most}
+use Rattle.jackson.proofs.RunningSums.{boxes-few}
 
 -- for each right end no more additions than boxes
 module _ (w : Windows) where
@@ -36,7 +36,7 @@ module _ (w : Windows) where
   few-made i m e = omega (arith, e, sum-most i (w .n) (additionsAt w) (λ j _. few-at j))
 
 -- The right end of place i, if those before it show f.
-module _ (w : Windows) (i : ℕ) (f : Shown) (so : FindsRight w i f) where
+module _ (w : Windows) (i : ℕ) (f : ShownInterval) (so : FindsRight w i f) where
   abbrev k : ℕ
   k = rightOfFirst w i
 
@@ -73,16 +73,16 @@ module _ (w : Windows) (i : ℕ) (f : Shown) (so : FindsRight w i f) where
   adds-at x says m e = rw (add-one, skips x says) (omega (arith, e, so .additions-are))
 
   -- place i shows nothing new: with the sum s
-  same-shown : (s : RunningSum) → rightOfFirst w (i + 1) ≡ k → s .earlier + s .additions ≡ sum (i + 1) (additionsAt w)
+  still-shown : (s : RunningSum) → rightOfFirst w (i + 1) ≡ k → s .earlier + s .additions ≡ sum (i + 1) (additionsAt w)
       → FindsRight w (i + 1) (record { overloaded = f .overloaded; a = f .a; b = f .b; work = f .work; sum = s })
-  same-shown s e adds =
+  still-shown s e adds =
       record {
         overloaded-is = so .overloaded-is ∙ sym (ap (λ (z : ℕ). ltb z (w .n)) e);
         b-is = λ h. so .b-is h ∙ sym (ap (w .d) e);
         a-is = so .a-is;
         work-is = so .work-is;
         additions-are = adds;
-        few = few-made w (i + 1) _ adds;
+        bounded = few-made w (i + 1) _ adds;
       }
 
   -- its b is no smaller than the one shown
@@ -91,12 +91,12 @@ module _ (w : Windows) (i : ℕ) (f : Shown) (so : FindsRight w i f) where
       let z = and-eq-true-iff (f .overloaded) (leb (f .b) (w .d i)) .0 (sym says ∙ e) in
       let below : k < w .n = found-in (z .0) in
       let high : w .d k ≤ w .d i = omega (arith, so .b-is (z .0), leb-true (f .b) (w .d i) (z .1)) in
-      same-shown (f .sum)
+      still-shown (f .sum)
       (next-is k (stays (w .n) (rightOf w) (smaller (w .d)) i k (λ q. omega (arith, q)) (le-ltb (w .d i) (w .d k) high)))
       (adds-at x says _ (rw e (omega arith)))
 
   -- the walk for its b was made
-  module _ (e : Shown) (left : FindsLeft w (w .d i) (f .sum) e) where
+  module _ (e : ShownInterval) (left : FindsLeft w (w .d i) (f .sum) e) where
     more-adds : (x : Bool) → x ≡ (f .overloaded && leb (f .b) (w .d i)) → x ≡ false
         → e .sum .earlier + e .sum .additions ≡ sum (i + 1) (additionsAt w)
     more-adds x says q = adds-at x says _ (rw q (omega (arith, left .earlier, left .additions-are)))
@@ -104,12 +104,12 @@ module _ (w : Windows) (i : ℕ) (f : Shown) (so : FindsRight w i f) where
     pub right-none : (x : Bool) → x ≡ (f .overloaded && leb (f .b) (w .d i)) → x ≡ false → e .overloaded ≡ false
         → FindsRight w (i + 1) (record { overloaded = f .overloaded; a = f .a; b = f .b; work = f .work; sum = e .sum })
     right-none x says q h =
-        same-shown (e .sum) (next-is k (unfit (w .n) (rightOf w) (smaller (w .d)) i k (sym (left .overloaded-is) ∙ h)))
+        still-shown (e .sum) (next-is k (unfit (w .n) (rightOf w) (smaller (w .d)) i k (sym (left .overloaded-is) ∙ h)))
         (more-adds x says q)
 
-    pub right-found : i < w .n → (x : Bool) → x ≡ (f .overloaded && leb (f .b) (w .d i)) → x ≡ false → e .overloaded ≡ true
+    pub right-shown : i < w .n → (x : Bool) → x ≡ (f .overloaded && leb (f .b) (w .d i)) → x ≡ false → e .overloaded ≡ true
         → FindsRight w (i + 1) e
-    right-found l x says q h =
+    right-shown l x says q h =
         let at = next-is i (better-is (f .overloaded) refl) in
         record {
           overloaded-is = h ∙ sym (rw at (lt-ltb i (w .n) l));
@@ -117,7 +117,7 @@ module _ (w : Windows) (i : ℕ) (f : Shown) (so : FindsRight w i f) where
           a-is = λ _. left .a-is h ∙ sym (ap (λ (z : ℕ). w .r (leftEnd w z)) (left .b-is));
           work-is = λ _. rw (left .at, left .b-is) (left .work-is ∙ left .reached .kept-is);
           additions-are = more-adds x says q;
-          few = few-made w (i + 1) _ (more-adds x says q);
+          bounded = few-made w (i + 1) _ (more-adds x says q);
         }
       where
         fits : rightOf w i ≡ true
@@ -131,14 +131,14 @@ module _ (w : Windows) (i : ℕ) (f : Shown) (so : FindsRight w i f) where
             (lt-ltb (w .d i) (w .d k) (omega (arith, low, so .b-is o)))
 
 -- All right ends, one after the other.
-pub record RightSoFar (w : Windows) (o : ℕ → ℕ) (i : ℕ) (f : Shown) : Type 0 where
+pub record RightSoFar (w : Windows) (o : ℕ → ℕ) (i : ℕ) (f : ShownInterval) : Type 0 where
   pub few : w .n ≤ 64
   pub order : LatestReleaseFirst w o
   pub within : i ≤ w .n
   pub shown : FindsRight w i f
 
 module _ (w : Windows) (o : ℕ → ℕ) where
-  pub right-start : w .n ≤ 64 → LatestReleaseFirst w o → (f : Shown) → f .overloaded ≡ false
+  pub right-start : w .n ≤ 64 → LatestReleaseFirst w o → (f : ShownInterval) → f .overloaded ≡ false
       → f .sum .earlier + f .sum .additions ≡ 0 → RightSoFar w o 0 f
   unfolding best sum
   right-start few order f e z =
@@ -152,19 +152,19 @@ module _ (w : Windows) (o : ℕ → ℕ) where
           a-is = λ h. absurd (true≢false (sym h ∙ e));
           work-is = λ h. absurd (true≢false (sym h ∙ e));
           additions-are = z;
-          few = omega (arith, z);
+          bounded = omega (arith, z);
         };
       }
 
-  module _ (i : ℕ) (f : Shown) (so : RightSoFar w o i f) where
-    pub right-next : i < w .n → (f′ : Shown) → FindsRight w (i + 1) f′ → RightSoFar w o (i + 1) f′
+  module _ (i : ℕ) (f : ShownInterval) (so : RightSoFar w o i f) where
+    pub right-next : i < w .n → (f′ : ShownInterval) → FindsRight w (i + 1) f′ → RightSoFar w o (i + 1) f′
     right-next l f′ shown = record { few = so .few; order = so .order; within = omega arith; shown = shown }
 
     pub right-done : w .n ≤ i → FindsRight w (w .n) f
     right-done l = let z : i ≡ w .n = omega (arith, so .within) in subst (λ (m : ℕ). FindsRight w m f) z (so .shown)
 
 -- The whole test, of the n places that the arrays hold.
-module _ (s : WindowSet) (n : ℕ) (holds : n ≡ min (s .n) 64) (f : Shown) (so : FindsRight (heldIn n (s .r) (s .d) (s .p)) n f) where
+module _ (s : WindowSet) (n : ℕ) (holds : n ≡ min (s .n) 64) (f : ShownInterval) (so : FindsRight (heldIn n (s .r) (s .d) (s .p)) n f) where
   abbrev held : Windows
   held = heldIn n (s .r) (s .d) (s .p)
 

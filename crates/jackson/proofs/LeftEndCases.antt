@@ -12,7 +12,7 @@ use Rattle.jackson.specs.Intervals.{work, isOverloaded, leftOf, leftEnd}
 use Rattle.jackson.specs.RunningSums.{LatestReleaseFirst, boxes, AtLeftEnd, SumSoFar, WalksDown}
 use Rattle.jackson.specs.Internal.{Passes, anew, FindsLeft}
 use Rattle.jackson.specs.declared.running_sum.RunningSum.{RunningSum}
-use Rattle.jackson.specs.declared.interval.Shown.{Shown}
+use Rattle.jackson.specs.declared.interval.ShownInterval.{ShownInterval}
 use Rattle.base.proofs.Sums.{le-or-lt}
 use Rattle.base.proofs.Scans.{larger-ranks, best-cases, best-some, best-largest}
 use Rattle.base.proofs.Permutations.{once-in, once-has}
@@ -36,13 +36,13 @@ module _ (b d p : ℕ) (s : RunningSum) (small : p ≤ 65535) where
 pub record NoneSoFar (w : Windows) (o : ℕ → ℕ) (b : ℕ) (s s′ : RunningSum) : Type 0 where
   pub few : w .n ≤ 64
   pub order : LatestReleaseFirst w o
-  pub sum : SumSoFar w o b s′
+  pub so-far : SumSoFar w o b s′
   pub reached : 1 ≤ s′ .passed → AtLeftEnd w b s′
   pub none : (y : ℕ) → y < s′ .passed → isOverloaded w (w .r (o y)) b ≡ true → ⊥
   pub earlier : s′ .earlier ≡ s .earlier
 
 -- what is shown where the walk ends with the sum t
-abbrev shownAt : Bool → ℕ → RunningSum → Shown
+abbrev shownAt : Bool → ℕ → RunningSum → ShownInterval
 shownAt x b t = record { overloaded = x; a = t .a; b = b; work = t .kept; sum = t }
 
 module _ (w : Windows) (o : ℕ → ℕ) (b : ℕ) (before s : RunningSum) (starts : s ≡ anew before) where
@@ -52,7 +52,7 @@ module _ (w : Windows) (o : ℕ → ℕ) (b : ℕ) (before s : RunningSum) (star
       (record {
         few = few;
         order = order;
-        sum = sum-anew w o b _;
+        so-far = sum-anew w o b _;
         reached = λ l. absurd (omega (arith, l));
         none = λ y l _. omega (arith, l);
         earlier = refl;
@@ -66,31 +66,31 @@ module _ (w : Windows) (o : ℕ → ℕ) (b : ℕ) (before s : RunningSum) (star
     -- the next left end is reached, where the test of the sum kept says x
     module _ (t : RunningSum) (more : s′ .passed < w .n) (down : WalksDown w o b s′ t) (x : Bool)
         (says : x ≡ (ltb (t .a) b && ltb (b - t .a) (t .kept))) where
-      tested : isOverloaded w (t .a) b ≡ x
-      tested = rw (← down .reached (so .sum) .kept-is) (sym says)
+      test-is : isOverloaded w (t .a) b ≡ x
+      test-is = rw (← down .reached (so .so-far) .kept-is) (sym says)
 
       pub left-next : x ≡ false → NoneSoFar w o b s t
       left-next e =
           record {
             few = so .few;
             order = so .order;
-            sum = down .sum (so .sum);
-            reached = λ _. down .reached (so .sum);
+            so-far = down .so-far (so .so-far);
+            reached = λ _. down .reached (so .so-far);
             none =
                 λ y l over.
                 le-or-lt (s′ .passed) y
-                (λ h. true≢false (sym (rw (down .same-r y h l) at over) ∙ (tested ∙ e)))
+                (λ h. true≢false (sym (rw (down .same-r y h l) at over) ∙ (test-is ∙ e)))
                 (λ h. so .none y h over);
             earlier = down .adds .earlier ∙ so .earlier;
           }
 
       -- the first that is overloaded is the largest
-      pub left-found : x ≡ true → FindsLeft w b before (shownAt true b t)
+      pub left-shown : x ≡ true → FindsLeft w b before (shownAt true b t)
       unfolding leftEnd
-      left-found e =
+      left-shown e =
           let i = o (s′ .passed) in
           let place = once-in (w .n) o (so .order .once) (s′ .passed) more in
-          let over : isOverloaded w (w .r i) b ≡ true = rw (← down .a-is) (tested ∙ e) in
+          let over : isOverloaded w (w .r i) b ≡ true = rw (← down .a-is) (test-is ∙ e) in
           let found = best-some (w .n) (leftOf w b) _ (larger-ranks (w .r)) (w .n) (omega arith) i place over in
           let z = once-has (w .n) o (so .order .once) (leftEnd w b) (found .below) in
           let most : w .r i ≤ w .r (leftEnd w b) = best-largest (w .n) _ (w .r) _ found i place over in
@@ -105,10 +105,10 @@ module _ (w : Windows) (o : ℕ → ℕ) (b : ℕ) (before s : RunningSum) (star
             b-is = refl;
             at = refl;
             work-is = refl;
-            reached = down .reached (so .sum);
+            reached = down .reached (so .so-far);
             additions-are =
                 rw (lt-ltb (leftEnd w b) (w .n) (found .below))
-                (down .reached (so .sum) .additions-are ∙ ap (λ (z : ℕ). boxes w z b) a-is);
+                (down .reached (so .so-far) .additions-are ∙ ap (λ (z : ℕ). boxes w z b) a-is);
             earlier = down .adds .earlier ∙ kept-earlier;
           }
 
@@ -116,7 +116,7 @@ module _ (w : Windows) (o : ℕ → ℕ) (b : ℕ) (before s : RunningSum) (star
     module _ (end : w .n ≤ s′ .passed) where
       -- without a place nothing was added
       empty : s′ .passed < 1 → AtLeftEnd w b s′
-      empty none = at-left-end w o (so .order) b s′ (so .sum) (λ y l. absurd (omega arith)) (λ y l u. absurd (omega (arith, end, u)))
+      empty none = at-left-end w o (so .order) b s′ (so .so-far) (λ y l. absurd (omega arith)) (λ y l u. absurd (omega (arith, end, u)))
 
       -- all boxes that end by b entered
       all-entered : s′ .additions ≡ boxes w 0 b
@@ -124,10 +124,10 @@ module _ (w : Windows) (o : ℕ → ℕ) (b : ℕ) (before s : RunningSum) (star
           at-left-end w o (so .order) b
           (record { a = 0; passed = s′ .passed; kept = s′ .kept; additions = s′ .additions; earlier = s′ .earlier })
           (record {
-            within = so .sum .within;
-            kept-is = so .sum .kept-is;
-            additions-are = so .sum .additions-are;
-            small = so .sum .small;
+            within = so .so-far .within;
+            kept-is = so .so-far .kept-is;
+            additions-are = so .so-far .additions-are;
+            small = so .so-far .small;
           })
           (λ y l. omega arith)
           (λ y l u. absurd (omega (arith, end, l, u)))

@@ -1,25 +1,20 @@
 -- The walk of the left end for a fixed right end: the sum kept is the interval's work, and the first overloaded left end is the largest.
 -- Assumes nothing.
 use mathlib.Core.Path.{_≡_, refl, ap, _∙_}
-use mathlib.Core.Bool.{Bool, true, false, cond, _&&_}
+use mathlib.Core.Bool.{cond, _&&_}
 use Prim.Native.Nat.{ℕ, _*_, _≤_, _<_}
 use native.Mathlib.Numerals.{add-one}
 use native.Mathlib.Omega.{arith}
 use borrow.Author.Tests.{le-leb, lt-leb}
 use lib.Dec.{leb}
 use Rattle.base.specs.Counting.{sum}
-use Rattle.base.proofs.Sums.{same-cases, sum-cong, sum-most, sum-rest}
+use Rattle.base.proofs.Sums.{same-cases, cond-most, sum-cong, sum-most, sum-rest}
 use Rattle.base.proofs.Permutations.{once-sum}
 use Rattle.jackson.specs.Windows.{Windows}
 use Rattle.jackson.specs.Intervals.{work}
 use Rattle.jackson.specs.RunningSums.{LatestReleaseFirst, boxes, entered, AtLeftEnd, SumSoFar, Adds, WalksDown}
 use Rattle.jackson.specs.Internal.{Passes}
 use Rattle.jackson.specs.declared.running_sum.RunningSum.{RunningSum}
-
--- what is added if a test passes, and what if not, is no more
-pub cond-most : (t : Bool) (x y k : ℕ) → x ≤ k → y ≤ k → cond t x y ≤ k
-cond-most true x y k h l = h
-cond-most false x y k h l = l
 
 -- an interval has no more boxes than the day
 pub boxes-few : (w : Windows) (a b : ℕ) → boxes w a b ≤ w .n
@@ -149,7 +144,7 @@ module _ (w : Windows) (o : ℕ → ℕ) (b : ℕ) (s : RunningSum) where
         record {
           adds = adds;
           a-is = so .a-is;
-          sum = after;
+          so-far = after;
           reached = λ sum. at-left-end w o (so .order) b s′ (after sum) (so .over) under;
           further = further;
           same-r =

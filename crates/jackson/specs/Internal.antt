@@ -13,7 +13,7 @@ use Rattle.jackson.specs.RunningSums.{AtLeftEnd, additionsFor, FewAdditi
 use Rattle.jackson.specs.Minutes.{State, stateIn, isReady, comesBefore, after}
 use Rattle.jackson.specs.declared.types.Day.{Day}
 use Rattle.jackson.specs.declared.running_sum.RunningSum.{RunningSum}
-use Rattle.jackson.specs.declared.interval.Shown.{Shown}
+use Rattle.jackson.specs.declared.interval.ShownInterval.{ShownInterval}
 
 -- the windows of n entries held in arrays: their work and their intervals ask for no H
 abbrev pub heldIn : ℕ → List ℕ → List ℕ → List ℕ → Windows
@@ -34,7 +34,7 @@ anew s = record { a = 0; passed = 0; kept = 0; additions = 0; earlier = s .earli
 
 -- what the walk for the right end b shows, after the sum s of the right end before: whether an overloaded interval ends at b, the largest
 -- left end of one, or else the last one reached, its work, and the sum there
-pub record FindsLeft (w : Windows) (b : ℕ) (s : RunningSum) (x : Shown) : Type 0 where
+pub record FindsLeft (w : Windows) (b : ℕ) (s : RunningSum) (x : ShownInterval) : Type 0 where
   pub overloaded-is : x .overloaded ≡ ltb (leftEnd w b) (w .n)
   pub a-is : x .overloaded ≡ true → x .a ≡ w .r (leftEnd w b)
   pub b-is : x .b ≡ b
@@ -56,13 +56,13 @@ additionsAt w i =
 
 -- what the right ends of the first i places show: whether one of an overloaded interval is among them, the smallest, with it the largest
 -- left end, and the work
-pub record FindsRight (w : Windows) (i : ℕ) (x : Shown) : Type 0 where
+pub record FindsRight (w : Windows) (i : ℕ) (x : ShownInterval) : Type 0 where
   pub overloaded-is : x .overloaded ≡ ltb (rightOfFirst w i) (w .n)
   pub b-is : x .overloaded ≡ true → x .b ≡ w .d (rightOfFirst w i)
   pub a-is : x .overloaded ≡ true → x .a ≡ w .r (leftEnd w (x .b))
   pub work-is : x .overloaded ≡ true → x .work ≡ work w (x .a) (x .b)
   pub additions-are : x .sum .earlier + x .sum .additions ≡ sum i (additionsAt w)
-  pub few : FewAdditions (w .n) i (x .sum)
+  pub bounded : FewAdditions (w .n) i (x .sum)
 
 -- the state at minute t of n entries held in arrays, nobody having had the minute before
 abbrev pub stateAt : ℕ → ℕ → List ℕ → List ℕ → List ℕ → State

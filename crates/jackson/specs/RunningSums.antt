@@ -5,27 +5,19 @@ use mathlib.Core.Bool.{cond}
 use lib.Dec.{leb, ltb}
 use Rattle.base.specs.Counting.{sum}
 use Rattle.order.specs.Orders.{LargestFirst}
-use Rattle.jackson.specs.Windows.{Windows}
+use Rattle.jackson.specs.Windows.{Windows, withLeft}
 use Rattle.jackson.specs.Intervals.{work, leftEnd}
 use Rattle.jackson.specs.declared.running_sum.RunningSum.{RunningSum}
 
--- how many boxes are in [a, b): its work, if each needed 1 minute
+-- how many boxes are in [a, b): its work, if each needed one minute
 abbrev pub boxes : Windows → ℕ → ℕ → ℕ
-boxes w a b = work (record { h = w .h; n = w .n; r = w .r; d = w .d; p = λ _. 1 }) a b
+boxes w a b = work (withLeft w (λ _. 1)) a b
 
 -- "at each left end reached the sum kept is that interval's work, and .. the additions made for this right end, counted along, are as many
 -- as the boxes in it"
 pub record AtLeftEnd (w : Windows) (b : ℕ) (s : RunningSum) : Type 0 where
   pub kept-is : s .kept ≡ work w (s .a) b
   pub additions-are : s .additions ≡ boxes w (s .a) b
-
--- the additions made for the first i right ends of n boxes, for each no more than n
-abbrev pub FewAdditions : ℕ → ℕ → RunningSum → Type 0
-FewAdditions n i s = s .earlier + s .additions ≤ i * n
-
--- the additions of the walk for b: as many as the boxes in the interval shown, or else as all boxes that end by b
-abbrev pub additionsFor : Windows → ℕ → ℕ
-additionsFor w b = cond (ltb (leftEnd w b) (w .n)) (boxes w (w .r (leftEnd w b)) b) (boxes w 0 b)
 
 -- the places in the order in which a left end that walks down meets them
 abbrev pub LatestReleaseFirst : Windows → (ℕ → ℕ) → Type 0
@@ -53,8 +45,17 @@ pub record Adds (w : Windows) (o : ℕ → ℕ) (b : ℕ) (s s′ : RunningSum) 
 pub record WalksDown (w : Windows) (o : ℕ → ℕ) (b : ℕ) (s s′ : RunningSum) : Type 0 where
   pub adds : Adds w o b s s′
   pub a-is : s′ .a ≡ w .r (o (s .passed))
-  pub sum : SumSoFar w o b s → SumSoFar w o b s′
+  pub so-far : SumSoFar w o b s → SumSoFar w o b s′
   pub reached : SumSoFar w o b s → AtLeftEnd w b s′
   pub further : s .passed < s′ .passed
   pub same-r : (x : ℕ) → s .passed ≤ x → x < s′ .passed → w .r (o x) ≡ s′ .a
   pub smaller-r : (x : ℕ) → s′ .passed ≤ x → x < w .n → w .r (o x) < s′ .a
+
+-- the additions of the whole walk for b, which ends at the first overloaded left end, the largest, or has passed all places: as many as the
+-- boxes in that interval, or as all boxes with a d of at most b
+abbrev pub additionsFor : Windows → ℕ → ℕ
+additionsFor w b = cond (ltb (leftEnd w b) (w .n)) (boxes w (w .r (leftEnd w b)) b) (boxes w 0 b)
+
+-- the additions made for i right ends of n boxes are no more than n for each
+abbrev pub FewAdditions : ℕ → ℕ → RunningSum → Type 0
+FewAdditions n i s = s .earlier + s .additions ≤ i * n

@@ -24,7 +24,7 @@ ghost use Rattle.jackson.specs.Calls.{Tests};
 ghost use Rattle.jackson.specs.Internal.{heldIn, FindsLeft, FindsRight};
 
 // Whether an interval is overloaded, one that is, with its work, and the sum as the last right end left it.
-pub(crate) struct Shown {
+pub(crate) struct ShownInterval {
     pub overloaded: bool,
     pub a: u16,
     pub b: u16,
@@ -51,7 +51,7 @@ fn left_end(
     order: &[usize; ENTRIES],
     b: u16,
     before: RunningSum,
-) -> Shown
+) -> ShownInterval
     requires { ⌜ count ≤ mostEntries ⌝ }
     requires { ⌜ LatestReleaseFirst (heldIn count (now r) (now d) (now p)) (valueAt (now order)) ⌝ }
     requires { ⌜ before .earlier + before .additions ≤ mostEntries * mostEntries ⌝ }
@@ -61,7 +61,7 @@ fn left_end(
     while sum.passed < count {
         sum = walk_down(count, r, d, p, order, b, sum);
         if is_overloaded(sum.a, b, sum.kept) {
-            return Shown {
+            return ShownInterval {
                 overloaded: true,
                 a: sum.a,
                 b: b,
@@ -70,7 +70,7 @@ fn left_end(
             };
         }
     }
-    Shown {
+    ShownInterval {
         overloaded: false,
         a: sum.a,
         b: b,
@@ -80,7 +80,7 @@ fn left_end(
 }
 
 // Whether an overloaded interval is shown that ends at b or before it.
-fn ends_by(shown: Shown, b: u16) -> bool
+fn ends_by(shown: ShownInterval, b: u16) -> bool
     ensures { λ x. ⌜ x ≡ (shown .overloaded && leb (shown .b) b) ⌝ }
 {
     if shown.overloaded {
@@ -98,8 +98,8 @@ fn smaller_right(
     p: &[u16; ENTRIES],
     order: &[usize; ENTRIES],
     i: usize,
-    shown: Shown,
-) -> Shown
+    shown: ShownInterval,
+) -> ShownInterval
     requires { ⌜ count ≤ mostEntries ⌝ }
     requires { ⌜ LatestReleaseFirst (heldIn count (now r) (now d) (now p)) (valueAt (now order)) ⌝ }
     requires { ⌜ i < count ⌝ }
@@ -115,7 +115,7 @@ fn smaller_right(
         return left;
     }
     let sum = left.sum;
-    Shown {
+    ShownInterval {
         overloaded: shown.overloaded,
         a: shown.a,
         b: shown.b,
@@ -131,12 +131,12 @@ fn right_end(
     d: &[u16; ENTRIES],
     p: &[u16; ENTRIES],
     order: &[usize; ENTRIES],
-) -> Shown
+) -> ShownInterval
     requires { ⌜ count ≤ mostEntries ⌝ }
     requires { ⌜ LatestReleaseFirst (heldIn count (now r) (now d) (now p)) (valueAt (now order)) ⌝ }
     ensures { λ x. ⌜ FindsRight (heldIn count (now (r .entry)) (now (d .entry)) (now (p .entry))) count x ⌝ }
 {
-    let mut shown = Shown {
+    let mut shown = ShownInterval {
         overloaded: false,
         a: 0,
         b: 0,

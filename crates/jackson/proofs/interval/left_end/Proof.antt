@@ -5,7 +5,7 @@ use Prim.Native.Nat.{_-_}
 use Rattle.order.specs.Orders.{valueAt}
 use Rattle.jackson.specs.Internal.{heldIn}
 use Rattle.jackson.proofs.RunningSums.{additions-few}
-use Rattle.jackson.proofs.LeftEndCases.{NoneSoFar, left-start, left-next, left-found, left-none}
+use Rattle.jackson.proofs.LeftEndCases.{NoneSoFar, left-start, left-next, left-shown, left-none}
 use Rattle.jackson.proofs.interval.left_end.Statement.{statement}
 use Rattle.jackson.proofs.interval.left_end.Tie as tie
 
@@ -26,7 +26,7 @@ loop-holds c =
 walk-down-requires : tie.Need-walk-down-requires Inv-loop μ-loop
 walk-down-requires c κs =
     let inv = c .before .before .loop .inv in
-    (inv .few, (inv .order, (c .if1 .taken, (inv .sum .small, additions-few _ _ _ _ (inv .sum)))))
+    (inv .few, (inv .order, (c .if1 .taken, (inv .so-far .small, additions-few _ _ _ _ (inv .so-far)))))
 
 is-overloaded-requires : tie.Need-is-overloaded-requires Inv-loop μ-loop
 is-overloaded-requires c κs = search needs
@@ -37,7 +37,7 @@ returns c =
     let if1 = c .before .before .before .if1 in
     let loop = c .before .before .before .before .before .loop in
     let start-anew = c .before .before .before .before .before .before .start-anew in
-    left-found _ _ _ _ _ (start-anew .ensures) _ (loop .inv) _ (if1 .taken) (walk-down .ensures) _ (c .before .is-overloaded .ensures)
+    left-shown _ _ _ _ _ (start-anew .ensures) _ (loop .inv) _ (if1 .taken) (walk-down .ensures) _ (c .before .is-overloaded .ensures)
     (c .if2 .taken)
 
 loop-less : tie.Need-loop-less Inv-loop μ-loop

@@ -2,7 +2,7 @@
 -- Assumes nothing.
 use borrow.Author.Needs.{needs}
 use native.Mathlib.Omega.{arith}
-use Rattle.jackson.proofs.IntervalCases.{additions-most, right-stays, right-found, right-none}
+use Rattle.jackson.proofs.IntervalCases.{additions-most, right-stays, right-shown, right-none}
 use Rattle.jackson.proofs.interval.smaller_right.Statement.{statement}
 use Rattle.jackson.proofs.interval.smaller_right.Tie as tie
 
@@ -29,7 +29,7 @@ returns-2 : tie.Need-returns-2
 returns-2 c =
     let ends-by = c .before .before .before .ends-by in
     let pre = c .before .before .before .before .before .pre in
-    right-found _ _ _ (pre .1 .1 .1) _ (c .before .left-end .ensures) (pre .1 .1 .0) _ (ends-by .ensures) (c .before .before .if1 .left)
+    right-shown _ _ _ (pre .1 .1 .1) _ (c .before .left-end .ensures) (pre .1 .1 .0) _ (ends-by .ensures) (c .before .before .if1 .left)
     (c .if2 .taken)
 
 returns-3 : tie.Need-returns-3
