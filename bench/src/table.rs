@@ -21,7 +21,7 @@ Plain Rust goes minute by minute and tries every start and end, one after the ot
 Jackson's schedule, made minute by minute, is one; that ends when all work is done, or an entry has minutes
 left at its d. Row 9 is tested for all intervals, with the work of each added up anew.
 
-Each program does each job once untimed, and then both in turn, at least {LEAST} times, and up to {MOST} times
+Each program does each job once untimed, and then all in turn, at least {LEAST} times, and up to {MOST} times
 within {} seconds. Buffers are not cleared first: each holds what the time before left in it. For 'plan,
 cleared' all that is lent is set to 0 before each call, and that is timed too.
 ",
