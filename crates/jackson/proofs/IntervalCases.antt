@@ -12,8 +12,8 @@ use Rattle.base.specs.Outcomes.{code, answered, refused}
 use Rattle.base.specs.Counting.{sum, better, best, smaller}
 use Rattle.jackson.specs.Windows.{Windows, windowsIn}
 use Rattle.jackson.specs.Intervals.{work, leftEnd, rightOf, rightEnd, overloadOf}
-use Rattle.jackson.specs.RunningSums.{LatestReleaseFirst, boxes, additionsFor}
-use Rattle.jackson.specs.Internal.{heldIn, FindsLeft, rightOfFirst, additionsAt, FindsRight}
+use Rattle.jackson.specs.RunningSums.{LatestReleaseFirst, boxes, additionsFor, rightOfFirst, additionsAt}
+use Rattle.jackson.specs.Internal.{heldIn, FindsLeft, FindsRight}
 use Rattle.jackson.specs.declared.types.WindowSet.{WindowSet}
 use Rattle.jackson.specs.declared.running_sum.RunningSum.{RunningSum}
 use Rattle.jackson.specs.declared.interval.ShownInterval.{ShownInterval}
@@ -96,7 +96,7 @@ module _ (w : Windows) (i : ℕ) (f : ShownInterval) (so : FindsRight w i f) whe
       (adds-at x says _ (rw e (omega arith)))
 
   -- the walk for its b was made
-  module _ (e : ShownInterval) (left : FindsLeft w (w .d i) (f .sum) e) where
+  module _ (o : ℕ → ℕ) (e : ShownInterval) (left : FindsLeft w o (w .d i) (f .sum) e) where
     more-adds : (x : Bool) → x ≡ (f .overloaded && leb (f .b) (w .d i)) → x ≡ false
         → e .sum .earlier + e .sum .additions ≡ sum (i + 1) (additionsAt w)
     more-adds x says q = adds-at x says _ (rw q (omega (arith, left .earlier, left .additions-are)))

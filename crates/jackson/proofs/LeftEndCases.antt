@@ -1,6 +1,6 @@
 -- The running sum and the walk over the left ends for one right end, in each case that the code meets.
 -- Assumes nothing.
-use mathlib.Core.Path.{_≡_, refl, sym, ap, _∙_}
+use mathlib.Core.Path.{_≡_, refl, sym, ap, subst, _∙_}
 use mathlib.Core.Bool.{Bool, true, false, _&&_, true≢false}
 use Prim.Native.Nat.{ℕ, _+_, _-_, _<_, _≤_}
 use native.Mathlib.Omega.{arith}
@@ -9,14 +9,14 @@ use lib.Dec.{ltb}
 use Rattle.base.specs.Counting.{larger}
 use Rattle.jackson.specs.Windows.{Windows}
 use Rattle.jackson.specs.Intervals.{work, isOverloaded, leftOf, leftEnd}
-use Rattle.jackson.specs.RunningSums.{LatestReleaseFirst, boxes, AtLeftEnd, SumSoFar, WalksDown}
-use Rattle.jackson.specs.Internal.{Passes, anew, FindsLeft}
+use Rattle.jackson.specs.RunningSums.{LatestReleaseFirst, boxes, AtLeftEnd, SumSoFar, WalksDown, anew, Reaches, at-start, next-end}
+use Rattle.jackson.specs.Internal.{Passes, FindsLeft}
 use Rattle.jackson.specs.declared.running_sum.RunningSum.{RunningSum}
 use Rattle.jackson.specs.declared.interval.ShownInterval.{ShownInterval}
 use Rattle.base.proofs.Sums.{le-or-lt}
 use Rattle.base.proofs.Scans.{larger-ranks, best-cases, best-some, best-largest}
 use Rattle.base.proofs.Permutations.{once-in, once-has}
-use Rattle.jackson.proofs.RunningSums.{falls, at-left-end, sum-anew}
+use Rattle.jackson.proofs.RunningSums.{falls, at-left-end, sum-anew, sum-law}
 
 -- A place that is passed: its box ends after b, or enters.
 module _ (b d p : ℕ) (s : RunningSum) (small : p ≤ 65535) where
@@ -37,7 +37,7 @@ pub record NoneSoFar (w : Windows) (o : ℕ → ℕ) (b : ℕ) (s s′ : Running
   pub few : w .n ≤ 64
   pub order : LatestReleaseFirst w o
   pub so-far : SumSoFar w o b s′
-  pub reached : 1 ≤ s′ .passed → AtLeftEnd w b s′
+  pub walk : Reaches w o b s s′
   pub none : (y : ℕ) → y < s′ .passed → isOverloaded w (w .r (o y)) b ≡ true → ⊥
   pub earlier : s′ .earlier ≡ s .earlier
 
@@ -53,7 +53,7 @@ module _ (w : Windows) (o : ℕ → ℕ) (b : ℕ) (before s : RunningSum) (star
         few = few;
         order = order;
         so-far = sum-anew w o b _;
-        reached = λ l. absurd (omega (arith, l));
+        walk = at-start;
         none = λ y l _. omega (arith, l);
         earlier = refl;
       })
@@ -75,7 +75,7 @@ module _ (w : Windows) (o : ℕ → ℕ) (b : ℕ) (before s : RunningSum) (star
             few = so .few;
             order = so .order;
             so-far = down .so-far (so .so-far);
-            reached = λ _. down .reached (so .so-far);
+            walk = next-end (so .walk) down;
             none =
                 λ y l over.
                 le-or-lt (s′ .passed) y
@@ -85,7 +85,7 @@ module _ (w : Windows) (o : ℕ → ℕ) (b : ℕ) (before s : RunningSum) (star
           }
 
       -- the first that is overloaded is the largest
-      pub left-shown : x ≡ true → FindsLeft w b before (shownAt true b t)
+      pub left-shown : x ≡ true → FindsLeft w o b before (shownAt true b t)
       unfolding leftEnd
       left-shown e =
           let i = o (s′ .passed) in
@@ -105,6 +105,7 @@ module _ (w : Windows) (o : ℕ → ℕ) (b : ℕ) (before s : RunningSum) (star
             b-is = refl;
             at = refl;
             work-is = refl;
+            walk = subst (λ (z : RunningSum). Reaches w o b z t) starts (next-end (so .walk) down);
             reached = down .reached (so .so-far);
             additions-are =
                 rw (lt-ltb (leftEnd w b) (w .n) (found .below))
@@ -133,9 +134,10 @@ module _ (w : Windows) (o : ℕ → ℕ) (b : ℕ) (before s : RunningSum) (star
           (λ y l u. absurd (omega (arith, end, l, u)))
           .additions-are
 
-      pub left-none : FindsLeft w b before (shownAt false b s′)
+      pub left-none : FindsLeft w o b before (shownAt false b s′)
       unfolding leftEnd
       left-none =
+          let walk = subst (λ (z : RunningSum). Reaches w o b z s′) starts (so .walk) in
           let none : ltb (leftEnd w b) (w .n) ≡ false =
           best-cases (w .n) (leftOf w b) (larger (w .r)) (larger-ranks (w .r)) (w .n) (omega arith) (ltb (leftEnd w b) (w .n) ≡ false)
           (λ e _. le-ltb (leftEnd w b) (w .n) (omega (arith, e)))
@@ -148,7 +150,8 @@ module _ (w : Windows) (o : ℕ → ℕ) (b : ℕ) (before s : RunningSum) (star
             b-is = refl;
             at = refl;
             work-is = refl;
-            reached = le-or-lt 1 (s′ .passed) (so .reached) empty;
+            walk = walk;
+            reached = le-or-lt 1 (s′ .passed) (sum-law w o b before s′ walk) empty;
             additions-are = rw none all-entered;
             earlier = kept-earlier;
           }

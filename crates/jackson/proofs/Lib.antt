@@ -20,7 +20,7 @@ pub mod OneSchedule
 pub mod Law
 pub mod ListLaws
 -- The walk of the left end, with the sum that it keeps.
-mod RunningSums
+pub mod RunningSums
 -- Lists that are planned alike.
 pub mod Alike
 -- What the code's proofs cite, case by case. Those of the crates above cite ArrayCases too, which says what arrays of windows stand for.

@@ -12,7 +12,8 @@ use Rattle.base.proofs.Sums.{same-cases, cond-most, sum-cong, sum-most, sum-res
 use Rattle.base.proofs.Permutations.{once-sum}
 use Rattle.jackson.specs.Windows.{Windows}
 use Rattle.jackson.specs.Intervals.{work}
-use Rattle.jackson.specs.RunningSums.{LatestReleaseFirst, boxes, entered, AtLeftEnd, SumSoFar, Adds, WalksDown}
+use Rattle.jackson.specs.RunningSums.{LatestReleaseFirst, boxes, entered, AtLeftEnd, SumSoFar, Adds, WalksDown, anew}
+use Rattle.jackson.specs.RunningSums.{Reaches, at-start, next-end, SumLaw}
 use Rattle.jackson.specs.Internal.{Passes}
 use Rattle.jackson.specs.declared.running_sum.RunningSum.{RunningSum}
 
@@ -163,3 +164,12 @@ module _ (w : Windows) (o : ℕ → ℕ) (b : ℕ) (s : RunningSum) where
 
     pub walked-all : w .n ≤ s′ .passed → WalksDown w o b s s′
     walked-all end = walked (omega (arith, so .more)) (λ y l u. absurd (omega (arith, u)))
+
+-- Along the whole walk the sum is that of the places passed, and at each left end reached the interval's.
+module _ (w : Windows) (o : ℕ → ℕ) (b : ℕ) (s : RunningSum) where
+  walk-law : {t : RunningSum} → Reaches w o b (anew s) t → SumSoFar w o b t × (1 ≤ t .passed → AtLeftEnd w b t)
+  walk-law at-start = (sum-anew w o b _, λ l. absurd (omega (arith, l)))
+  walk-law (next-end walk down) = let so = walk-law walk .0 in (down .so-far so, λ _. down .reached so)
+
+pub sum-law : SumLaw
+sum-law w o b s t walk = walk-law w o b s walk .1

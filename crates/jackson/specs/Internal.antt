@@ -1,15 +1,15 @@
 -- What private functions promise each other. No public promise cites these.
 use Prim.Native.Nat.{ℕ, _+_, _-_, _≤_}
 use mathlib.Core.Path.{_≡_}
-use mathlib.Core.Bool.{true, cond, _&&_}
+use mathlib.Core.Bool.{true, cond}
 use mathlib.Core.List.{List}
 use lib.Dec.{leb, ltb}
 use lib.ListN.{getD}
-use Rattle.base.specs.Counting.{sum, better, best, smaller}
+use Rattle.base.specs.Counting.{sum, better}
 use Rattle.jackson.specs.Windows.{Windows, columns}
 use Rattle.jackson.specs.Plans.{idle}
-use Rattle.jackson.specs.Intervals.{work, leftEnd, rightOf}
-use Rattle.jackson.specs.RunningSums.{AtLeftEnd, additionsFor, FewAdditions}
+use Rattle.jackson.specs.Intervals.{work, leftEnd}
+use Rattle.jackson.specs.RunningSums.{AtLeftEnd, anew, Reaches, additionsFor, rightOfFirst, additionsAt, FewAdditions}
 use Rattle.jackson.specs.Minutes.{State, stateIn, isReady, comesBefore, after}
 use Rattle.jackson.specs.declared.types.Day.{Day}
 use Rattle.jackson.specs.declared.running_sum.RunningSum.{RunningSum}
@@ -19,7 +19,7 @@ use Rattle.jackson.specs.declared.interval.ShownInterval.{ShownInterval}
 abbrev pub heldIn : ℕ → List ℕ → List ℕ → List ℕ → Windows
 heldIn n r d p = columns 0 n r d p
 
--- one place more is passed, with this d and p: its box enters if d is at most b
+-- one place more is passed, with this d and p: its box enters if d is at most b. That p has 16 bits, an array does not tell the caller.
 pub record Passes (b d p : ℕ) (s s′ : RunningSum) : Type 0 where
   pub a : s′ .a ≡ s .a
   pub passed : s′ .passed ≡ s .passed + 1
@@ -28,31 +28,18 @@ pub record Passes (b d p : ℕ) (s s′ : RunningSum) : Type 0 where
   pub earlier : s′ .earlier ≡ s .earlier
   pub small : p ≤ 65535
 
--- the sum started anew for the next right end: the additions made are earlier ones now
-abbrev pub anew : RunningSum → RunningSum
-anew s = record { a = 0; passed = 0; kept = 0; additions = 0; earlier = s .earlier + s .additions }
-
 -- what the walk for the right end b shows, after the sum s of the right end before: whether an overloaded interval ends at b, the largest
--- left end of one, or else the last one reached, its work, and the sum there
-pub record FindsLeft (w : Windows) (b : ℕ) (s : RunningSum) (x : ShownInterval) : Type 0 where
+-- left end of one, or else the last one reached, 0 if there is no place, its work, and the sum that the walk comes to there
+pub record FindsLeft (w : Windows) (o : ℕ → ℕ) (b : ℕ) (s : RunningSum) (x : ShownInterval) : Type 0 where
   pub overloaded-is : x .overloaded ≡ ltb (leftEnd w b) (w .n)
   pub a-is : x .overloaded ≡ true → x .a ≡ w .r (leftEnd w b)
   pub b-is : x .b ≡ b
   pub at : x .a ≡ x .sum .a
   pub work-is : x .work ≡ x .sum .kept
+  pub walk : Reaches w o b (anew s) (x .sum)
   pub reached : AtLeftEnd w b (x .sum)
   pub additions-are : x .sum .additions ≡ additionsFor w b
   pub earlier : x .sum .earlier ≡ s .earlier + s .additions
-
--- of the first i places the one with the smallest right end of an overloaded interval; n if there is none
-abbrev pub rightOfFirst : Windows → ℕ → ℕ
-rightOfFirst w i = best (w .n) i (rightOf w) (smaller (w .d))
-
--- the additions for the right end of place i: no walk is made if a right end is shown that is no larger
-abbrev pub additionsAt : Windows → ℕ → ℕ
-additionsAt w i =
-    let k = rightOfFirst w i in
-    cond (ltb k (w .n) && leb (w .d k) (w .d i)) 0 (additionsFor w (w .d i))
 
 -- what the right ends of the first i places show: whether one of an overloaded interval is among them, the smallest, with it the largest
 -- left end, and the work

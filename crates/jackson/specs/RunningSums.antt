@@ -1,12 +1,12 @@
 -- The running sum: for one right end b, the work of the intervals that end at b, while the left end walks down.
 use Prim.Native.Nat.{ℕ, _+_, _*_, _<_, _≤_}
 use mathlib.Core.Path.{_≡_}
-use mathlib.Core.Bool.{cond}
+use mathlib.Core.Bool.{cond, _&&_}
 use lib.Dec.{leb, ltb}
-use Rattle.base.specs.Counting.{sum}
+use Rattle.base.specs.Counting.{sum, best, smaller}
 use Rattle.order.specs.Orders.{LargestFirst}
 use Rattle.jackson.specs.Windows.{Windows, withLeft}
-use Rattle.jackson.specs.Intervals.{work, leftEnd}
+use Rattle.jackson.specs.Intervals.{work, leftEnd, rightOf}
 use Rattle.jackson.specs.declared.running_sum.RunningSum.{RunningSum}
 
 -- how many boxes are in [a, b): its work, if each needed one minute
@@ -51,10 +51,33 @@ pub record WalksDown (w : Windows) (o : ℕ → ℕ) (b : ℕ) (s s′ : Running
   pub same-r : (x : ℕ) → s .passed ≤ x → x < s′ .passed → w .r (o x) ≡ s′ .a
   pub smaller-r : (x : ℕ) → s′ .passed ≤ x → x < w .n → w .r (o x) < s′ .a
 
+-- the sum started anew for the next right end: the additions made are earlier ones now
+abbrev pub anew : RunningSum → RunningSum
+anew s = record { a = 0; passed = 0; kept = 0; additions = 0; earlier = s .earlier + s .additions }
+
+-- the walk for b, from the sum s on, comes to the sum t, left end by left end
+pub data Reaches (w : Windows) (o : ℕ → ℕ) (b : ℕ) (s : RunningSum) : RunningSum → Type 0 where
+  at-start : Reaches w o b s s
+  next-end : {t u : RunningSum} → Reaches w o b s t → WalksDown w o b t u → Reaches w o b s u
+
+-- the request's sentence, of each left end that the walk for b reaches from a sum started anew
+abbrev pub SumLaw : Type 0
+SumLaw = (w : Windows) (o : ℕ → ℕ) (b : ℕ) (s t : RunningSum) → Reaches w o b (anew s) t → 1 ≤ t .passed → AtLeftEnd w b t
+
 -- the additions of the whole walk for b, which ends at the first overloaded left end, the largest, or has passed all places: as many as the
 -- boxes in that interval, or as all boxes with a d of at most b
 abbrev pub additionsFor : Windows → ℕ → ℕ
 additionsFor w b = cond (ltb (leftEnd w b) (w .n)) (boxes w (w .r (leftEnd w b)) b) (boxes w 0 b)
+
+-- of the first i places the one with the smallest right end of an overloaded interval; n if there is none
+abbrev pub rightOfFirst : Windows → ℕ → ℕ
+rightOfFirst w i = best (w .n) i (rightOf w) (smaller (w .d))
+
+-- the additions for the right end of place i: no walk is made if a right end is shown that is no larger
+abbrev pub additionsAt : Windows → ℕ → ℕ
+additionsAt w i =
+    let k = rightOfFirst w i in
+    cond (ltb k (w .n) && leb (w .d k) (w .d i)) 0 (additionsFor w (w .d i))
 
 -- the additions made for i right ends of n boxes are no more than n for each
 abbrev pub FewAdditions : ℕ → ℕ → RunningSum → Type 0

@@ -23,7 +23,7 @@ ghost use Rattle.jackson.specs.RunningSums.{LatestReleaseFirst};
 ghost use Rattle.jackson.specs.Calls.{Tests};
 ghost use Rattle.jackson.specs.Internal.{heldIn, FindsLeft, FindsRight};
 
-// Whether an interval is overloaded, one that is, with its work, and the sum as the last right end left it.
+// Whether an overloaded interval is shown, and then its a, b and work; and the sum as the last walk left it.
 pub(crate) struct ShownInterval {
     pub overloaded: bool,
     pub a: u16,
@@ -50,14 +50,14 @@ fn left_end(
     p: &[u16; ENTRIES],
     order: &[usize; ENTRIES],
     b: u16,
-    before: RunningSum,
+    from: RunningSum,
 ) -> ShownInterval
     requires { ⌜ count ≤ mostEntries ⌝ }
     requires { ⌜ LatestReleaseFirst (heldIn count (now r) (now d) (now p)) (valueAt (now order)) ⌝ }
-    requires { ⌜ before .earlier + before .additions ≤ mostEntries * mostEntries ⌝ }
-    ensures { λ x. ⌜ FindsLeft (heldIn count (now (r .entry)) (now (d .entry)) (now (p .entry))) b before x ⌝ }
+    requires { ⌜ from .earlier + from .additions ≤ mostEntries * mostEntries ⌝ }
+    ensures { λ x. ⌜ FindsLeft (heldIn count (now (r .entry)) (now (d .entry)) (now (p .entry))) (valueAt (now (order .entry))) b from x ⌝ }
 {
-    let mut sum = start_anew(before);
+    let mut sum = start_anew(from);
     while sum.passed < count {
         sum = walk_down(count, r, d, p, order, b, sum);
         if is_overloaded(sum.a, b, sum.kept) {
@@ -90,7 +90,8 @@ fn ends_by(shown: ShownInterval, b: u16) -> bool
     }
 }
 
-// What the right ends up to that of place i show, if those before it show this. The walk is made only for a smaller b.
+// What the right ends up to that of place i show, if those before it show `shown`. No walk is made if an overloaded interval is shown whose
+// b is no larger.
 fn smaller_right(
     count: usize,
     r: &[u16; ENTRIES],

@@ -4,8 +4,8 @@ ghost use mathlib.Core.Path.{_≡_};
 ghost use Prim.Native.Nat.{_+_, _*_, _<_, _≤_};
 ghost use Rattle.list.specs.DayLists.{mostEntries};
 ghost use Rattle.order.specs.Orders.{valueAt};
-ghost use Rattle.jackson.specs.RunningSums.{LatestReleaseFirst, WalksDown};
-ghost use Rattle.jackson.specs.Internal.{heldIn, anew, Passes};
+ghost use Rattle.jackson.specs.RunningSums.{LatestReleaseFirst, WalksDown, anew};
+ghost use Rattle.jackson.specs.Internal.{heldIn, Passes};
 
 // The left end reached, how many places of the order are passed, the sum kept, the additions made for this b, and those made for the right
 // ends before it.
@@ -57,7 +57,7 @@ fn pass(sum: RunningSum, b: u16, d: u16, p: u16) -> RunningSum
     }
 }
 
-// Walks on to the next left end: all boxes with that r enter.
+// Walks on to the next left end: all places with that r are passed.
 pub(crate) fn walk_down(
     count: usize,
     r: &[u16; ENTRIES],

@@ -21,7 +21,7 @@ start-anew-requires c κs = search needs
 loop-holds : tie.Need-loop-holds Inv-loop μ-loop
 loop-holds c =
     let pre = c .before .pre in
-    left-start _ _ _ (c .before .args .before) _ (c .start-anew .ensures) (pre .0) (pre .1 .0)
+    left-start _ _ _ (c .before .args .from) _ (c .start-anew .ensures) (pre .0) (pre .1 .0)
 
 walk-down-requires : tie.Need-walk-down-requires Inv-loop μ-loop
 walk-down-requires c κs =
@@ -50,7 +50,7 @@ loop-again c =
     let loop = c .before .before .before .before .before .loop in
     let start-anew = c .before .before .before .before .before .before .start-anew in
     let args = c .before .before .before .before .before .before .before .args in
-    left-next _ _ _ (args .before) _ (start-anew .ensures) _ (loop .inv) _ (if1 .taken) (walk-down .ensures) _
+    left-next _ _ _ (args .from) _ (start-anew .ensures) _ (loop .inv) _ (if1 .taken) (walk-down .ensures) _
     (c .before .is-overloaded .ensures) (c .if2 .left)
 
 returns-2 : tie.Need-returns-2 Inv-loop μ-loop

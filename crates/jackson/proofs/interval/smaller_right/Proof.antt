@@ -29,14 +29,14 @@ returns-2 : tie.Need-returns-2
 returns-2 c =
     let ends-by = c .before .before .before .ends-by in
     let pre = c .before .before .before .before .before .pre in
-    right-shown _ _ _ (pre .1 .1 .1) _ (c .before .left-end .ensures) (pre .1 .1 .0) _ (ends-by .ensures) (c .before .before .if1 .left)
+    right-shown _ _ _ (pre .1 .1 .1) _ _ (c .before .left-end .ensures) (pre .1 .1 .0) _ (ends-by .ensures) (c .before .before .if1 .left)
     (c .if2 .taken)
 
 returns-3 : tie.Need-returns-3
 returns-3 c =
     let pre = c .before .before .before .before .before .before .pre in
     let ends-by = c .before .before .before .before .ends-by in
-    right-none _ _ _ (pre .1 .1 .1) _ (c .before .before .left-end .ensures) _ (ends-by .ensures) (c .before .before .before .if1 .left)
+    right-none _ _ _ (pre .1 .1 .1) _ _ (c .before .before .left-end .ensures) _ (ends-by .ensures) (c .before .before .before .if1 .left)
     (c .before .if2 .left)
 
 pub smaller-right-spec : {M : Type 1} → statement M
