@@ -80,6 +80,7 @@ impl Program for Asked<'_> {
 
 /// The numbers of a line.
 fn numbers<const N: usize>(line: &str) -> [u64; N] {
-    let numbers = Vec::from_iter(line.split_whitespace().map_while(|word| word.parse().ok()));
-    numbers.try_into().unwrap_or_else(|_| panic!("a line of {N} numbers is due, and not {line:?}"))
+    let numbers: Result<Vec<u64>, _> = line.split_whitespace().map(str::parse).collect();
+    let numbers = numbers.ok().and_then(|numbers| numbers.try_into().ok());
+    numbers.unwrap_or_else(|| panic!("a line of {N} numbers is due, and not {line:?}"))
 }

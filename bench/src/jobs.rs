@@ -136,7 +136,7 @@ impl Program for Linked<'_> {
     }
 }
 
-/// The same for the same values in every build of this program.
+/// The same for the same values in both builds of this program, which one compiler makes.
 fn digest(Lent { plan, narrowed, bounds }: &Lent) -> u64 {
     let mut hasher = DefaultHasher::new();
     (plan, narrowed, bounds).hash(&mut hasher);

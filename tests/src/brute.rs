@@ -2,6 +2,7 @@
 //! between plans and intervals is used.
 
 use crate::day::{Day, Interval, IDLE};
+use std::collections::BTreeSet;
 
 /// "A plan gives each minute 0 to H-1 to one entry or none; entry i has exactly p minutes, all in [r, d)."
 pub fn is_plan(day: &Day, bytes: &[u8]) -> bool {
@@ -80,21 +81,21 @@ impl Search<'_> {
     }
 }
 
-/// All overloaded intervals of a day: each pair of minutes is tried, whether it is an interval of the list,
-/// and whether the work is more than the minutes.
+/// All overloaded intervals of a day: each r is tried with each d behind it, whether the work is more than the
+/// minutes.
 pub fn overloaded_intervals(day: &Day) -> Vec<Interval> {
+    let earliest = BTreeSet::from_iter(day.entries.iter().map(|entry| entry.r));
+    let latest = BTreeSet::from_iter(day.entries.iter().map(|entry| entry.d));
     let mut all = vec![];
-    for a in 0..=day.h {
-        for b in a + 1..=day.h {
-            let starts = day.entries.iter().any(|entry| entry.r == a);
-            let ends = day.entries.iter().any(|entry| entry.d == b);
+    for &a in &earliest {
+        for &b in latest.range(a + 1..) {
             let mut work = 0;
             for entry in &day.entries {
                 if a <= entry.r && entry.d <= b {
                     work += u64::from(entry.p);
                 }
             }
-            if starts && ends && work > u64::from(b) - u64::from(a) {
+            if work > u64::from(b) - u64::from(a) {
                 all.push(Interval { a, b, work });
             }
         }

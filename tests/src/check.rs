@@ -98,7 +98,7 @@ pub fn overload(fields: &Fields) -> Result<(), Refusal> {
     expected
 }
 
-/// Tests a list for overload that may be refused with 9 alone, and gives the interval shown, if there is one.
+/// Tests a list for overload that no row but 9 may refuse, and gives the interval shown, if there is one.
 #[track_caller]
 pub fn shown(day: &Day) -> Option<Interval> {
     match overload(&flat::of_day(day)) {

@@ -1,7 +1,7 @@
 //! Wrong ways to keep the sum of document 02's "Adding up the same boxes again", each with a day on which it shows
 //! another interval, or another work, than document 01 names: "while the left end walks down for a fixed right end,
-//! keep the sum so far and add the boxes that enter. .. The interval shown is the one document 01 names." Where the day
-//! is small it is the first on which that is so, by minutes, then by entries, in the order of `small::days`.
+//! keep the sum so far and add the boxes that enter. .. The interval shown is the one document 01 names." Where `differs`
+//! is used, it is the first such day, by minutes, then by entries, in the order of `small::days`.
 
 use dock_tests::check;
 use dock_tests::day::{Day, Entry, Interval, LONGEST_DAY};
@@ -312,7 +312,7 @@ fn the_last_place_never_met() {
     differs(way, 1, "p[0,1)1 p[0,1)1", Some((0, 1, 2)), None);
 }
 
-/// 256 is 1 more than 255, and not a small number.
+/// The low byte of 256 is 0.
 #[test]
 fn boxes_put_in_order_by_the_low_byte_of_r() {
     let way = Way { order: |day| by_key(&day.entries, |entry| Reverse(entry.r as u8)), ..RIGHT };

@@ -1,8 +1,9 @@
 //! The overload test by a sum that is kept (document 02, "Adding up the same boxes again"): "while the left end walks
 //! down for a fixed right end, keep the sum so far and add the boxes that enter. .. The interval shown is the one
 //! document 01 names." The days here have what a sum that is kept may get wrong: many equal r and d, many left ends for
-//! one right end and many right ends, and places in every order. Each answer is held against sums made afresh.
+//! one right end and many right ends, and places in many orders. Each answer is held against sums made afresh.
 
+use dock_tests::brute;
 use dock_tests::check::{self, planned};
 use dock_tests::day::{Day, Entry, Interval, Refusal, LONGEST_DAY, MOST_ENTRIES};
 use dock_tests::flat;
@@ -16,38 +17,19 @@ type Window = (u16, u16, u16);
 /// a, b and the work of the interval shown, if there is one.
 type Shown = Option<(u16, u16, u64)>;
 
-/// All pairs of an entry's r and an entry's d that are overloaded intervals.
-fn overloaded_pairs(day: &Day) -> Vec<Interval> {
-    let mut all = vec![];
-    for a in day.entries.iter().map(|entry| entry.r) {
-        for b in day.entries.iter().map(|entry| entry.d).filter(|&b| a < b) {
-            let mut work = 0;
-            for entry in &day.entries {
-                if a <= entry.r && entry.d <= b {
-                    work += u64::from(entry.p);
-                }
-            }
-            if u64::from(a) + work > u64::from(b) {
-                all.push(Interval { a, b, work });
-            }
-        }
-    }
-    all
-}
-
 /// "The interval shown has the smallest b, and with it the largest a."
 fn named(day: &Day) -> Option<Interval> {
-    let all = overloaded_pairs(day);
+    let all = brute::overloaded_intervals(day);
     let b = all.iter().map(|interval| interval.b).min()?;
     let a = all.iter().filter(|interval| interval.b == b).map(|interval| interval.a).max()?;
     all.into_iter().find(|interval| (interval.a, interval.b) == (a, b))
 }
 
-/// What the library shows of a day: the interval of the second planner, and of all pairs the one that is named.
+/// What the library shows of a day: the interval of the second planner, and of all overloaded ones the one that is named.
 #[track_caller]
 fn shown(day: &Day) -> Shown {
     let shown = check::shown(day);
-    assert_eq!(shown, named(day), "of all pairs in {day:?}");
+    assert_eq!(shown, named(day), "of all overloaded intervals of {day:?}");
     shown.map(|Interval { a, b, work }| (a, b, work))
 }
 
@@ -80,7 +62,7 @@ fn turned(entries: &[Window]) -> Vec<Vec<Window>> {
     (0..entries.len()).flat_map(from).collect()
 }
 
-/// 64 entries as they stand, backwards, the two halves in turn, and each one 5 or 27 places after the last.
+/// 64 entries as they stand, backwards after the first, the two halves in turn, and each one 5 or 27 places after the last.
 fn arranged(entries: &[Window]) -> Vec<Vec<Window>> {
     assert_eq!(entries.len(), MOST_ENTRIES);
     let stride = |by: usize| (0..MOST_ENTRIES).map(|place| entries[place * by % MOST_ENTRIES]).collect();
@@ -95,13 +77,14 @@ fn with_a_minute_more(entries: &[Window], place: usize) -> Vec<Window> {
     more
 }
 
-/// A part of the day, down to a minute, of which r and d are multiples: the larger it is, the more of them are equal.
+/// A part of the day, down to a minute, of which r and d are multiples, but for a d at its end: the larger it is, the
+/// more of them are equal.
 fn grid(random: &mut Random, h: u16) -> u16 {
     h.div_ceil(random.pick(&[1, 2, 3, 5, 12, 60, h]))
 }
 
 /// Up to 64 boxes with any windows on a grid, and so much work that it is open whether there is a plan.
-fn loose_day(random: &mut Random) -> Day {
+fn any_day(random: &mut Random) -> Day {
     let h = random.within(1, LONGEST_DAY);
     let n = 1 + random.below(MOST_ENTRIES);
     let grid = grid(random, h);
@@ -136,7 +119,7 @@ fn each_day(seed: u64, days: usize, mut check: impl FnMut(&mut Random, &Day, Sho
     let mut random = Random::new(seed);
     let (mut planned, mut overloaded, mut by_one) = (0, 0, 0);
     for turn in 0..days {
-        let day = if turn % 2 == 0 { loose_day(&mut random) } else { tight_day(&mut random) };
+        let day = if turn % 2 == 0 { any_day(&mut random) } else { tight_day(&mut random) };
         let before = shown(&day);
         check(&mut random, &day, before);
         match before {
@@ -418,7 +401,7 @@ fn any_interval_of_a_row() {
     }
 }
 
-/// The places in the order of r, up or down, but for one box.
+/// The places in the order of d, up or down, but for one box.
 #[test]
 fn one_box_out_of_place() {
     let mut entries = row(20);
