@@ -59,7 +59,7 @@ module _ (w : Windows) (o : ℕ → ℕ) (b : ℕ) where
   sum-anew earlier = record { within = omega arith; kept-is = refl; additions-are = refl; small = omega arith }
 
   -- more places passed
-  pub sum-after : (s s′ : RunningSum) → Adds w o b s s′ → s′ .passed ≤ w .n → s′ .kept ≤ 65535 * s′ .passed → SumSoFar w o b s
+  sum-after : (s s′ : RunningSum) → Adds w o b s s′ → s′ .passed ≤ w .n → s′ .kept ≤ 65535 * s′ .passed → SumSoFar w o b s
       → SumSoFar w o b s′
   sum-after s s′ t within small so =
       record {
