@@ -9,14 +9,14 @@ use lib.Dec.{ltb}
 use Rattle.base.specs.Counting.{larger}
 use Rattle.jackson.specs.Windows.{Windows}
 use Rattle.jackson.specs.Intervals.{work, isOverloaded, leftOf, leftEnd}
-use Rattle.jackson.specs.RunningSums.{LatestReleaseFirst, boxes, AtLeftEnd, SumSoFar, WalksDown, anew, Reaches, at-start, next-end}
+use Rattle.jackson.specs.RunningSums.{LatestReleaseFirst, boxes, AtLeftEnd, WalksDown, anew, Reaches, at-start, next-end}
 use Rattle.jackson.specs.Internal.{Passes, FindsLeft}
 use Rattle.jackson.specs.declared.running_sum.RunningSum.{RunningSum}
 use Rattle.jackson.specs.declared.interval.ShownInterval.{ShownInterval}
 use Rattle.base.proofs.Sums.{le-or-lt}
 use Rattle.base.proofs.Scans.{larger-ranks, best-cases, best-some, best-largest}
 use Rattle.base.proofs.Permutations.{once-in, once-has}
-use Rattle.jackson.proofs.RunningSums.{falls, at-left-end, sum-anew, sum-law}
+use Rattle.jackson.proofs.RunningSums.{SumSoFar, falls, at-left-end, sum-anew, sum-after, end-reached, sum-law}
 
 -- A place that is passed: its box ends after b, or enters.
 module _ (b d p : ℕ) (s : RunningSum) (small : p ≤ 65535) where
@@ -66,15 +66,18 @@ module _ (w : Windows) (o : ℕ → ℕ) (b : ℕ) (before s : RunningSum) (star
     -- the next left end is reached, where the test of the sum kept says x
     module _ (t : RunningSum) (more : s′ .passed < w .n) (down : WalksDown w o b s′ t) (x : Bool)
         (says : x ≡ (ltb (t .a) b && ltb (b - t .a) (t .kept))) where
+      reached : AtLeftEnd w b t
+      reached = end-reached w o b (so .order) s′ t down (so .so-far)
+
       test-is : isOverloaded w (t .a) b ≡ x
-      test-is = rw (← down .reached (so .so-far) .kept-is) (sym says)
+      test-is = rw (← reached .kept-is) (sym says)
 
       pub left-next : x ≡ false → NoneSoFar w o b s t
       left-next e =
           record {
             few = so .few;
             order = so .order;
-            so-far = down .so-far (so .so-far);
+            so-far = sum-after w o b s′ t down (so .so-far);
             walk = next-end (so .walk) down;
             none =
                 λ y l over.
@@ -106,10 +109,10 @@ module _ (w : Windows) (o : ℕ → ℕ) (b : ℕ) (before s : RunningSum) (star
             at = refl;
             work-is = refl;
             walk = subst (λ (z : RunningSum). Reaches w o b z t) starts (next-end (so .walk) down);
-            reached = down .reached (so .so-far);
+            reached = reached;
             additions-are =
                 rw (lt-ltb (leftEnd w b) (w .n) (found .below))
-                (down .reached (so .so-far) .additions-are ∙ ap (λ (z : ℕ). boxes w z b) a-is);
+                (reached .additions-are ∙ ap (λ (z : ℕ). boxes w z b) a-is);
             earlier = down .adds .earlier ∙ kept-earlier;
           }
 
@@ -151,7 +154,7 @@ module _ (w : Windows) (o : ℕ → ℕ) (b : ℕ) (before s : RunningSum) (star
             at = refl;
             work-is = refl;
             walk = walk;
-            reached = le-or-lt 1 (s′ .passed) (sum-law w o b before s′ walk) empty;
+            reached = le-or-lt 1 (s′ .passed) (sum-law w o (so .order) b before s′ walk) empty;
             additions-are = rw none all-entered;
             earlier = kept-earlier;
           }

@@ -8,11 +8,11 @@ use native.Mathlib.Omega.{arith}
 use borrow.Author.Tests.{le-leb, lt-leb}
 use lib.Dec.{leb}
 use Rattle.base.specs.Counting.{sum}
-use Rattle.base.proofs.Sums.{same-cases, cond-most, sum-cong, sum-most, sum-rest}
+use Rattle.base.proofs.Sums.{le-or-lt, same-cases, cond-most, sum-cong, sum-most, sum-rest}
 use Rattle.base.proofs.Permutations.{once-sum}
 use Rattle.jackson.specs.Windows.{Windows}
 use Rattle.jackson.specs.Intervals.{work}
-use Rattle.jackson.specs.RunningSums.{LatestReleaseFirst, boxes, entered, AtLeftEnd, SumSoFar, Adds, WalksDown, anew}
+use Rattle.jackson.specs.RunningSums.{LatestReleaseFirst, boxes, entered, AtLeftEnd, Adds, WalksDown, anew}
 use Rattle.jackson.specs.RunningSums.{Reaches, at-start, next-end, SumLaw}
 use Rattle.jackson.specs.Internal.{Passes}
 use Rattle.jackson.specs.declared.running_sum.RunningSum.{RunningSum}
@@ -21,6 +21,13 @@ use Rattle.jackson.specs.declared.running_sum.RunningSum.{RunningSum}
 pub boxes-few : (w : Windows) (a b : ℕ) → boxes w a b ≤ w .n
 unfolding work
 boxes-few w a b = omega (arith, sum-most (w .n) 1 _ (λ i _. cond-most (leb a (w .r i) && leb (w .d i) b) 1 0 1 (omega arith) (omega arith)))
+
+-- The sum kept and the additions made are those of the places of the order that are passed.
+pub record SumSoFar (w : Windows) (o : ℕ → ℕ) (b : ℕ) (s : RunningSum) : Type 0 where
+  pub within : s .passed ≤ w .n
+  pub kept-is : s .kept ≡ entered w o b (w .p) (s .passed)
+  pub additions-are : s .additions ≡ entered w o b (λ _. 1) (s .passed)
+  pub small : s .kept ≤ 65535 * s .passed
 
 -- Along the order the r falls.
 module _ (w : Windows) (o : ℕ → ℕ) (order : LatestReleaseFirst w o) where
@@ -58,16 +65,25 @@ module _ (w : Windows) (o : ℕ → ℕ) (b : ℕ) where
   unfolding sum
   sum-anew earlier = record { within = omega arith; kept-is = refl; additions-are = refl; small = omega arith }
 
-  -- more places passed
-  sum-after : (s s′ : RunningSum) → Adds w o b s s′ → s′ .passed ≤ w .n → s′ .kept ≤ 65535 * s′ .passed → SumSoFar w o b s
-      → SumSoFar w o b s′
-  sum-after s s′ t within small so =
+  -- a step further
+  pub sum-after : (s s′ : RunningSum) → WalksDown w o b s s′ → SumSoFar w o b s → SumSoFar w o b s′
+  sum-after s s′ down so =
       record {
-        within = within;
-        kept-is = omega (arith, t .kept, so .kept-is);
-        additions-are = omega (arith, t .additions, so .additions-are);
-        small = small;
+        within = down .within;
+        kept-is = omega (arith, down .adds .kept, so .kept-is);
+        additions-are = omega (arith, down .adds .additions, so .additions-are);
+        small = down .small;
       }
+
+  -- it comes to a left end
+  pub end-reached : LatestReleaseFirst w o → (s s′ : RunningSum) → WalksDown w o b s s′ → SumSoFar w o b s → AtLeftEnd w b s′
+  end-reached order s s′ down so = at-left-end w o order b s′ (sum-after s s′ down so) over (down .smaller-r)
+    where
+      over : (y : ℕ) → y < s′ .passed → s′ .a ≤ w .r (o y)
+      over y l =
+          le-or-lt (s .passed) y
+          (λ h. omega (arith, down .same-r y h l))
+          (λ h. omega (arith, down .a-is, falls w o order y (s .passed) (omega arith) (omega (arith, down .further, down .within))))
 
 -- Inside one left end, from the sum s on: all places passed have an r of at least this one.
 pub record Walking (w : Windows) (o : ℕ → ℕ) (b : ℕ) (s s′ : RunningSum) : Type 0 where
@@ -140,14 +156,12 @@ module _ (w : Windows) (o : ℕ → ℕ) (b : ℕ) (s : RunningSum) where
     -- it ends where the next r is smaller, or no place is left
     walked : s .passed < s′ .passed → ((y : ℕ) → s′ .passed ≤ y → y < w .n → w .r (o y) < s′ .a) → WalksDown w o b s s′
     walked further under =
-        let adds : Adds w o b s s′ = record { kept = so .adds .kept; additions = so .adds .additions; earlier = so .adds .earlier } in
-        let after = sum-after w o b s s′ adds (so .within) (so .small) in
         record {
-          adds = adds;
+          adds = record { kept = so .adds .kept; additions = so .adds .additions; earlier = so .adds .earlier };
+          small = so .small;
           a-is = so .a-is;
-          so-far = after;
-          reached = λ sum. at-left-end w o (so .order) b s′ (after sum) (so .over) under;
           further = further;
+          within = so .within;
           same-r =
               λ x l u.
               omega (arith, so .over x u, so .a-is, falls w o (so .order) (s .passed) x l (omega (arith, so .within)));
@@ -166,10 +180,12 @@ module _ (w : Windows) (o : ℕ → ℕ) (b : ℕ) (s : RunningSum) where
     walked-all end = walked (omega (arith, so .more)) (λ y l u. absurd (omega (arith, u)))
 
 -- Along the whole walk the sum is that of the places passed, and at each left end reached the interval's.
-module _ (w : Windows) (o : ℕ → ℕ) (b : ℕ) (s : RunningSum) where
+module _ (w : Windows) (o : ℕ → ℕ) (order : LatestReleaseFirst w o) (b : ℕ) (s : RunningSum) where
   walk-law : {t : RunningSum} → Reaches w o b (anew s) t → SumSoFar w o b t × (1 ≤ t .passed → AtLeftEnd w b t)
   walk-law at-start = (sum-anew w o b _, λ l. absurd (omega (arith, l)))
-  walk-law (next-end walk down) = let so = walk-law walk .0 in (down .so-far so, λ _. down .reached so)
+  walk-law (next-end walk down) =
+      let so = walk-law walk .0 in
+      (sum-after w o b _ _ down so, λ _. end-reached w o b order _ _ down so)
 
 pub sum-law : SumLaw
-sum-law w o b s t walk = walk-law w o b s walk .1
+sum-law w o order b s t walk = walk-law w o order b s walk .1

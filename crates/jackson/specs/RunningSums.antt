@@ -27,27 +27,20 @@ LatestReleaseFirst w o = LargestFirst (w .n) (w .r) o
 abbrev pub entered : Windows → (ℕ → ℕ) → ℕ → (ℕ → ℕ) → ℕ → ℕ
 entered w o b f x = sum x (λ y. cond (leb (w .d (o y)) b) (f (o y)) 0)
 
--- "keep the sum so far": that of the places of the order that are passed. A p has 16 bits.
-pub record SumSoFar (w : Windows) (o : ℕ → ℕ) (b : ℕ) (s : RunningSum) : Type 0 where
-  pub within : s .passed ≤ w .n
-  pub kept-is : s .kept ≡ entered w o b (w .p) (s .passed)
-  pub additions-are : s .additions ≡ entered w o b (λ _. 1) (s .passed)
-  pub small : s .kept ≤ 65535 * s .passed
-
 -- "keep the sum so far and add the boxes that enter": from s to s′, whatever s has, only what the places between them add is added
 pub record Adds (w : Windows) (o : ℕ → ℕ) (b : ℕ) (s s′ : RunningSum) : Type 0 where
   pub kept : s′ .kept + entered w o b (w .p) (s .passed) ≡ s .kept + entered w o b (w .p) (s′ .passed)
   pub additions : s′ .additions + entered w o b (λ _. 1) (s .passed) ≡ s .additions + entered w o b (λ _. 1) (s′ .passed)
   pub earlier : s′ .earlier ≡ s .earlier
 
--- "while the left end walks down for a fixed right end": from s to s′ it comes to the r of the next place of the order. All boxes with this
--- r are passed, so that the sum is the interval's, and the places left have a smaller r.
+-- "while the left end walks down for a fixed right end": from s to s′ it comes to the r of the next place of the order. All places with
+-- this r are passed, and those left have a smaller r. A p has 16 bits, so the sum fits 32.
 pub record WalksDown (w : Windows) (o : ℕ → ℕ) (b : ℕ) (s s′ : RunningSum) : Type 0 where
   pub adds : Adds w o b s s′
+  pub small : s′ .kept ≤ 65535 * s′ .passed
   pub a-is : s′ .a ≡ w .r (o (s .passed))
-  pub so-far : SumSoFar w o b s → SumSoFar w o b s′
-  pub reached : SumSoFar w o b s → AtLeftEnd w b s′
   pub further : s .passed < s′ .passed
+  pub within : s′ .passed ≤ w .n
   pub same-r : (x : ℕ) → s .passed ≤ x → x < s′ .passed → w .r (o x) ≡ s′ .a
   pub smaller-r : (x : ℕ) → s′ .passed ≤ x → x < w .n → w .r (o x) < s′ .a
 
@@ -60,9 +53,11 @@ pub data Reaches (w : Windows) (o : ℕ → ℕ) (b : ℕ) (s : RunningSum) : Ru
   at-start : Reaches w o b s s
   next-end : {t u : RunningSum} → Reaches w o b s t → WalksDown w o b t u → Reaches w o b s u
 
--- the request's sentence, of each left end that the walk for b reaches from a sum started anew
+-- the request's sentence, of each left end that the walk for b reaches from a sum started anew, in this order of the places
 abbrev pub SumLaw : Type 0
-SumLaw = (w : Windows) (o : ℕ → ℕ) (b : ℕ) (s t : RunningSum) → Reaches w o b (anew s) t → 1 ≤ t .passed → AtLeftEnd w b t
+SumLaw =
+    (w : Windows) (o : ℕ → ℕ) → LatestReleaseFirst w o → (b : ℕ) (s t : RunningSum) → Reaches w o b (anew s) t → 1 ≤ t .passed
+    → AtLeftEnd w b t
 
 -- the additions of the whole walk for b, which ends at the first overloaded left end, the largest, or has passed all places: as many as the
 -- boxes in that interval, or as all boxes with a d of at most b
