@@ -8,7 +8,7 @@ use borrow.Author.Tests.{le-leb, lt-leb, lt-ltb, le-ltb}
 use lib.Dec.{ltb}
 use Rattle.base.specs.Counting.{larger}
 use Rattle.jackson.specs.Windows.{Windows}
-use Rattle.jackson.specs.Intervals.{work, isOverloaded, leftOf, leftEnd}
+use Rattle.jackson.specs.Intervals.{isOverloaded, leftOf, leftEnd}
 use Rattle.jackson.specs.RunningSums.{LatestReleaseFirst, boxes, AtLeftEnd, WalksDown, anew, Reaches, at-start, next-end}
 use Rattle.jackson.specs.Internal.{Passes, FindsLeft}
 use Rattle.jackson.specs.declared.running_sum.RunningSum.{RunningSum}

@@ -1,5 +1,5 @@
--- All boxes of the next left end enter. The loop's invariant is the sum so far, over places whose r is at least this one; the measure is
--- what is left of the order.
+-- All places with the next r are passed. The loop's invariant is what was added since, over places whose r is at least this one; the
+-- measure is what is left of the order.
 -- Assumes nothing.
 use borrow.Author.Needs.{needs}
 use Prim.Native.Nat.{_-_}
