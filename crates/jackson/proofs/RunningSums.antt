@@ -1,7 +1,7 @@
 -- The walk of the left end for a fixed right end: the sum kept is the interval's work, and the first overloaded left end is the largest.
 -- Assumes nothing.
 use mathlib.Core.Path.{_≡_, refl, ap, _∙_}
-use mathlib.Core.Bool.{cond, _&&_}
+use mathlib.Core.Bool.{cond}
 use Prim.Native.Nat.{ℕ, _*_, _≤_, _<_}
 use native.Mathlib.Numerals.{add-one}
 use native.Mathlib.Omega.{arith}
@@ -10,17 +10,18 @@ use lib.Dec.{leb}
 use Rattle.base.specs.Counting.{sum}
 use Rattle.base.proofs.Sums.{le-or-lt, same-cases, cond-most, sum-cong, sum-most, sum-rest}
 use Rattle.base.proofs.Permutations.{once-sum}
-use Rattle.jackson.specs.Windows.{Windows}
+use Rattle.jackson.specs.Windows.{Windows, withLeft}
 use Rattle.jackson.specs.Intervals.{work}
 use Rattle.jackson.specs.RunningSums.{LatestReleaseFirst, boxes, entered, AtLeftEnd, Adds, WalksDown, anew}
 use Rattle.jackson.specs.RunningSums.{Reaches, at-start, next-end, SumLaw}
 use Rattle.jackson.specs.Internal.{Passes}
 use Rattle.jackson.specs.declared.running_sum.RunningSum.{RunningSum}
+use Rattle.jackson.proofs.IntervalWork.{inInterval, in-interval-le}
 
 -- an interval has no more boxes than the day
 pub boxes-few : (w : Windows) (a b : ℕ) → boxes w a b ≤ w .n
 unfolding work
-boxes-few w a b = omega (arith, sum-most (w .n) 1 _ (λ i _. cond-most (leb a (w .r i) && leb (w .d i) b) 1 0 1 (omega arith) (omega arith)))
+boxes-few w a b = omega (arith, sum-most (w .n) 1 _ (λ i _. in-interval-le (withLeft w (λ _. 1)) a b i 1 (λ _ _. omega arith)))
 
 -- The sum kept and the additions made are those of the places of the order that are passed.
 pub record SumSoFar (w : Windows) (o : ℕ → ℕ) (b : ℕ) (s : RunningSum) : Type 0 where
@@ -37,16 +38,15 @@ module _ (w : Windows) (o : ℕ → ℕ) (order : LatestReleaseFirst w o) where
   -- where a is at most the r of the places passed and above that of the rest, the boxes entered are those in [a, b)
   module _ (b : ℕ) (s : RunningSum) (so : SumSoFar w o b s) (over : (y : ℕ) → y < s .passed → s .a ≤ w .r (o y))
       (under : (y : ℕ) → s .passed ≤ y → y < w .n → w .r (o y) < s .a) where
-    entered-all : (f : ℕ → ℕ)
-        → entered w o b f (s .passed) ≡ sum (w .n) (λ i. cond (leb (s .a) (w .r i) && leb (w .d i) b) (f i) 0)
+    entered-all : (f : ℕ → ℕ) → entered w o b f (s .passed) ≡ work (withLeft w f) (s .a) b
+    unfolding work
     entered-all f =
-        let term : ℕ → ℕ = λ i. cond (leb (s .a) (w .r i) && leb (w .d i) b) (f i) 0 in
+        let term = inInterval (withLeft w f) (s .a) b in
         sum-cong (s .passed) _ _ (λ y l. rw (le-leb (s .a) (w .r (o y)) (over y l)) refl)
         ∙ (sum-rest (w .n) (s .passed) (λ y. term (o y)) (so .within) (λ y l u. rw (lt-leb (s .a) (w .r (o y)) (under y l u)) refl)
         ∙ once-sum (w .n) o (order .once) term)
 
     pub at-left-end : AtLeftEnd w b s
-    unfolding work
     at-left-end = record { kept-is = so .kept-is ∙ entered-all (w .p); additions-are = so .additions-are ∙ entered-all (λ _. 1) }
 
 module _ (w : Windows) (o : ℕ → ℕ) (b : ℕ) where

@@ -22,12 +22,13 @@ pub(crate) fn start_anew(sum: RunningSum) -> RunningSum
     requires { ⌜ sum .earlier + sum .additions ≤ mostEntries * mostEntries ⌝ }
     ensures { λ s. ⌜ s ≡ anew sum ⌝ }
 {
+    let earlier = sum.earlier + sum.additions;
     RunningSum {
         a: 0,
         passed: 0,
         kept: 0,
         additions: 0,
-        earlier: sum.earlier + sum.additions,
+        earlier: earlier,
     }
 }
 
