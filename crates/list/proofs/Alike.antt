@@ -10,7 +10,7 @@ use Rattle.base.proofs.Searches.{first-cong}
 use Rattle.list.specs.Entries.{entryFault}
 use Rattle.list.specs.DayLists.{entriesOf, blank, SameList, checkedFields, SameSerials}
 use Rattle.list.specs.Clashes.{clash, clashesEarlier, firstClash}
-use Rattle.list.specs.Checks.{headerFault, entriesFault, valuesFault, checkOf, WellFormed}
+use Rattle.list.specs.Checks.{headerFault, openingFault, entriesFault, valuesFault, checkOf, WellFormed}
 use Rattle.list.specs.declared.types.Entry.{Entry}
 use Rattle.list.specs.declared.types.Frame.{Frame}
 use Rattle.list.specs.declared.types.DayList.{DayList}
@@ -19,7 +19,7 @@ use Rattle.list.specs.declared.types.DayList.{DayList}
 pub both-pass : (a b : DayList) → WellFormed a → WellFormed b → checkOf a ≡ checkOf b
 both-pass a b x y = x ∙ sym y
 
--- rows 6 and 7 do not look at seals and kinds
+-- rows 16, 6 and 7 do not look at seals and kinds
 entries-part : (f : Frame) (i : ℕ) (es : List Entry) → entriesFault f i es ≡ entriesFault f i (map checkedFields es)
 unfolding entriesFault entryFault
 entries-part f i [] = refl
@@ -41,7 +41,7 @@ module _ (es : List Entry) where
 module _ {a b : DayList} (s : SameSerials a b) where
   values-alike : valuesFault a ≡ valuesFault b
   unfolding valuesFault
-  values-alike = λ j. andThen (headerFault 0 (s .frame j) (s .n j)) (λ _. faults j)
+  values-alike = λ j. andThen (headerFault 0 (s .frame j .h) (s .n j)) (λ _. andThen (openingFault 0 (s .frame j)) (λ _. faults j))
     where
       faults : entriesFault (a .frame) 0 (entriesOf a) ≡ entriesFault (b .frame) 0 (entriesOf b)
       faults =

@@ -2,7 +2,7 @@
 -- Assumes nothing.
 use mathlib.Core.Path.{_≡_, refl, ap, subst}
 use mathlib.Core.List.{List, [], _∷_}
-use Prim.Native.Nat.{ℕ, _<_}
+use Prim.Native.Nat.{ℕ}
 use native.Mathlib.Omega.{arith}
 use borrow.Author.Tests.{lt-ltb}
 use lib.ListN.{length, getD}
@@ -28,11 +28,11 @@ module _ (l : DayList) where
   clashing : (k : ℕ) → checkOf l ≡ refused (code 14 (k ∷ [])) → (valuesFault l ≡ answered tt) × FirstClash es k
   clashing k e =
       let told : Says (λ _. WellFormed l) Told (checkOf l) =
-      check-says l Told (other 2 (omega arith) 0) (other 3 (omega arith) 0) (other 6 (omega arith)) (other 7 (omega arith)) fourteen in
+      check-says l Told (λ n x h. other n x (omega arith)) (λ n x h. other n x (omega arith)) fourteen in
       (rw e at told) k refl
     where
-      other : (n : ℕ) → n < 14 → (x : ℕ) → Told (code n (x ∷ []))
-      other n h x j q = let z : n ≡ 14 = ap (λ (y : Code). y .number) q in absurd (omega arith)
+      other : (n x : ℕ) → (n ≡ 14 → ⊥) → Told (code n (x ∷ []))
+      other n x h j q = let z : n ≡ 14 = ap (λ (y : Code). y .number) q in absurd (h z)
 
       fourteen : valuesFault l ≡ answered tt → FirstClash es (firstClash es) → Told (code 14 (firstClash es ∷ []))
       fourteen values f j q =

@@ -1,18 +1,18 @@
--- What the value check accepts: a header and entries that rows 2, 3, 6 and 7 leave, of which no two clash, and exactly those.
+-- What the value check accepts: a header and entries that rows 2, 3, 15, 16, 6 and 7 leave, of which no two clash, and exactly those.
 -- Assumes nothing.
 use mathlib.Core.Path.{_≡_, refl}
 use mathlib.Core.Bool.{_||_}
 use mathlib.Core.List.{List, [], _∷_}
-use Prim.Native.Nat.{ℕ, _+_, _≤_}
+use Prim.Native.Nat.{ℕ, _+_, _≤_, _<_}
 use native.Mathlib.Omega.{arith}
-use borrow.Author.Tests.{ltb-true, ltb-false, eqb-false, le-ltb, ne-eqb}
-use lib.Dec.{eqb, ltb}
+use borrow.Author.Tests.{ltb-true, ltb-false, eqb-false, le-ltb, ne-eqb, leb-false, lt-leb}
+use lib.Dec.{eqb, leb, ltb}
 use lib.ListN.{length}
 use Rattle.base.specs.Outcomes.{Code, code, Outcome, answered, refused}
 use Rattle.list.specs.Entries.{entryFault}
 use Rattle.list.specs.DayLists.{entriesOf}
 use Rattle.list.specs.Clashes.{firstClash, Apart, FirstClash}
-use Rattle.list.specs.Checks.{headerFault, entriesFault, valuesFault, checkOf, WellFormed}
+use Rattle.list.specs.Checks.{headerFault, openingFault, entriesFault, valuesFault, checkOf, WellFormed}
 use Rattle.list.specs.declared.types.Entry.{Entry}
 use Rattle.list.specs.declared.types.Frame.{Frame}
 use Rattle.list.specs.declared.types.DayList.{DayList}
@@ -20,70 +20,100 @@ use Rattle.base.proofs.Inversion.{Says, by-row, by-step, Anything, neither}
 use Rattle.list.proofs.ClashFacts.{apart, first-clash, apart-told}
 
 -- what rows 2 and 3 leave
-pub record Header (f : Frame) (n : ℕ) : Type 0 where
-  pub some-minutes : 1 ≤ f .h
-  pub one-day : f .h ≤ 1440
+pub record Header (h n : ℕ) : Type 0 where
+  pub some-minutes : 1 ≤ h
+  pub one-day : h ≤ 1440
   pub room : n ≤ 64
 
-module _ (place : ℕ) (f : Frame) (n : ℕ) where
+module _ (place h n : ℕ) where
   -- what rows 2 and 3 say: of a refusal, whatever holds of both
-  pub header-says : (R : Code → Type 0) → R (code 2 (0 ∷ [])) → R (code 3 (place ∷ [])) → Says (λ _. Header f n) R (headerFault place f n)
+  pub header-says : (R : Code → Type 0) → R (code 2 (0 ∷ [])) → R (code 3 (place ∷ [])) → Says (λ _. Header h n) R (headerFault place h n)
   unfolding headerFault
   header-says R two three =
-      by-row (λ _. Header f n) R (eqb (f .h) 0 || ltb 1440 (f .h)) _ _ (λ t. two)
-      (λ h. by-row (λ _. Header f n) R (ltb 64 n) _ _ (λ t. three)
+      by-row (λ _. Header h n) R (eqb h 0 || ltb 1440 h) _ _ (λ t. two)
+      (λ w. by-row (λ _. Header h n) R (ltb 64 n) _ _ (λ t. three)
       (λ t.
-      let z = neither (eqb (f .h) 0) (ltb 1440 (f .h)) h in
-      record { some-minutes = omega (arith, eqb-false (f .h) 0 (z .0)); one-day = ltb-false _ _ (z .1); room = ltb-false _ _ t }))
+      let z = neither (eqb h 0) (ltb 1440 h) w in
+      record { some-minutes = omega (arith, eqb-false h 0 (z .0)); one-day = ltb-false _ _ (z .1); room = ltb-false _ _ t }))
 
   -- a header is accepted exactly if it is sound
-  pub header-of : headerFault place f n ≡ answered tt → Header f n
+  pub header-of : headerFault place h n ≡ answered tt → Header h n
   header-of e = rw e at (header-says Anything tt tt)
 
-  pub header-passes : Header f n → headerFault place f n ≡ answered tt
+  pub header-passes : Header h n → headerFault place h n ≡ answered tt
   unfolding headerFault
-  header-passes h =
-      let z : f .h ≡ 0 → ⊥ = omega arith in
-      simp (ne-eqb _ _ z, le-ltb _ _ (h .one-day), le-ltb _ _ (h .room))
+  header-passes s =
+      let z : h ≡ 0 → ⊥ = omega arith in
+      simp (ne-eqb _ _ z, le-ltb _ _ (s .one-day), le-ltb _ _ (s .room))
 
--- what rows 6 and 7 leave
+-- what row 15 leaves: the room opens before the day ends
+abbrev pub OpensIn : Frame → Type 0
+OpensIn f = f .opening < f .h
+
+module _ (place : ℕ) (f : Frame) where
+  -- what row 15 says
+  pub opening-says : (R : Code → Type 0) → R (code 15 (place ∷ [])) → Says (λ _. OpensIn f) R (openingFault place f)
+  unfolding openingFault
+  opening-says R fifteen = by-row (λ _. OpensIn f) R (leb (f .h) (f .opening)) _ _ (λ t. fifteen) (λ t. leb-false _ _ t)
+
+  pub opening-passes : OpensIn f → openingFault place f ≡ answered tt
+  unfolding openingFault
+  opening-passes o = simp (lt-leb _ _ o)
+
+-- what rows 16, 6 and 7 leave
 pub record Sound (f : Frame) (e : Entry) : Type 0 where
+  pub opened : f .opening ≤ e .r
   pub some-minutes : 1 ≤ e .p
   pub in-day : e .d ≤ f .h
   pub room : e .r + e .p ≤ e .d
 
 module _ (f : Frame) (at : ℕ) (e : Entry) where
-  -- what rows 6 and 7 say: of a refusal, whatever holds of both
-  pub fault-says : (R : Code → Type 0) → R (code 6 (at ∷ [])) → R (code 7 (at ∷ [])) → Says (λ _. Sound f e) R (entryFault f at e)
+  -- what rows 16, 6 and 7 say: of a refusal, whatever holds of each
+  pub fault-says : (R : Code → Type 0) → R (code 16 (at ∷ [])) → R (code 6 (at ∷ [])) → R (code 7 (at ∷ []))
+      → Says (λ _. Sound f e) R (entryFault f at e)
   unfolding entryFault
-  fault-says R six seven =
-      by-row (λ _. Sound f e) R (eqb (e .p) 0) _ _ (λ t. six)
+  fault-says R sixteen six seven =
+      by-row (λ _. Sound f e) R (ltb (e .r) (f .opening)) _ _ (λ t. sixteen)
+      (λ o. by-row (λ _. Sound f e) R (eqb (e .p) 0) _ _ (λ t. six)
       (λ p. by-row (λ _. Sound f e) R (ltb (f .h) (e .d) || ltb (e .d) (e .r + e .p)) _ _ (λ t. seven)
       (λ w.
       let z = neither _ _ w in
-      record { some-minutes = omega (arith, eqb-false (e .p) 0 p); in-day = ltb-false _ _ (z .0); room = ltb-false _ _ (z .1) }))
+      record {
+        opened = ltb-false _ _ o;
+        some-minutes = omega (arith, eqb-false (e .p) 0 p);
+        in-day = ltb-false _ _ (z .0);
+        room = ltb-false _ _ (z .1);
+      })))
 
   -- a sound entry has no fault, at any place
   pub faultless : Sound f e → entryFault f at e ≡ answered tt
   unfolding entryFault
   faultless s =
       let z : e .p ≡ 0 → ⊥ = omega arith in
-      simp (ne-eqb _ _ z, le-ltb _ _ (s .in-day), le-ltb _ _ (s .room))
+      simp (le-ltb _ _ (s .opened), ne-eqb _ _ z, le-ltb _ _ (s .in-day), le-ltb _ _ (s .room))
 
 -- every one of the entries
 abbrev pub Every : (Entry → Type 0) → List Entry → Type 0
 Every P [] = Unit {0}
 Every P (e ∷ es) = P e × Every P es
 
+-- a fact of every refusal up to row 7, and of every one from row 15 on, whatever value it carries
+abbrev pub Low : (Code → Type 0) → Type 0
+Low R = (k at : ℕ) → k ≤ 7 → R (code k (at ∷ []))
+
+abbrev pub High : (Code → Type 0) → Type 0
+High R = (k at : ℕ) → 15 ≤ k → R (code k (at ∷ []))
+
 module _ (f : Frame) where
-  -- what follows from sound entries, an answer of their check says; a refusal says whatever holds of rows 6 and 7 at every place
-  checked-say : (R : Code → Type 0) → ((at : ℕ) → R (code 6 (at ∷ []))) → ((at : ℕ) → R (code 7 (at ∷ [])))
+  -- what follows from sound entries, an answer of their check says; a refusal says whatever holds of rows 16, 6 and 7 at every place
+  checked-say : (R : Code → Type 0) → Low R → High R
       → (Q : Type 0) (i : ℕ) (es : List Entry) → (Every (Sound f) es → Q) → Says (λ _. Q) R (entriesFault f i es)
   unfolding entriesFault
-  checked-say R six seven Q i [] q = q tt
-  checked-say R six seven Q i (e ∷ es) q =
-      by-step (λ _. Sound f e) R (λ _. Q) (entryFault f i e) _ (fault-says f i e R (six i) (seven i))
-      (λ _ s. checked-say R six seven Q (i + 1) es (λ more. q (s, more)))
+  checked-say R low high Q i [] q = q tt
+  checked-say R low high Q i (e ∷ es) q =
+      by-step (λ _. Sound f e) R (λ _. Q) (entryFault f i e) _
+      (fault-says f i e R (high 16 i (omega arith)) (low 6 i (omega arith)) (low 7 i (omega arith)))
+      (λ _ s. checked-say R low high Q (i + 1) es (λ more. q (s, more)))
 
   checked-passes : (i : ℕ) (es : List Entry) → Every (Sound f) es → entriesFault f i es ≡ answered tt
   unfolding entriesFault
@@ -92,39 +122,39 @@ module _ (f : Frame) where
 
 -- a list's header and each of its entries are sound
 pub record SoundList (l : DayList) : Type 0 where
-  pub header : Header (l .frame) (l .n)
+  pub header : Header (l .frame .h) (l .n)
+  pub opening : OpensIn (l .frame)
   pub entries : Every (Sound (l .frame)) (entriesOf l)
 
 module _ (l : DayList) where
-  -- what rows 2, 3, 6 and 7 say: of a refusal, whatever holds of each
-  values-say : (R : Code → Type 0)
-      → R (code 2 (0 ∷ []))
-      → R (code 3 (0 ∷ []))
-      → ((at : ℕ) → R (code 6 (at ∷ [])))
-      → ((at : ℕ) → R (code 7 (at ∷ [])))
-      → Says (λ _. SoundList l) R (valuesFault l)
+  -- what rows 2, 3, 15, 16, 6 and 7 say: of a refusal, whatever holds of each
+  values-say : (R : Code → Type 0) → Low R → High R → Says (λ _. SoundList l) R (valuesFault l)
   unfolding valuesFault
-  values-say R two three six seven =
+  values-say R low high =
       let f = l .frame in
-      by-step (λ _. Header f (l .n)) R (λ _. SoundList l) (headerFault 0 f (l .n)) _ (header-says 0 f (l .n) R two three)
-      (λ _ h. checked-say (l .frame) R six seven (SoundList l) 0 (entriesOf l) (λ s. record { header = h; entries = s }))
+      let S : Unit {0} → Type 0 = λ _. SoundList l in
+      by-step (λ _. Header (f .h) (l .n)) R S (headerFault 0 (f .h) (l .n)) _
+      (header-says 0 (f .h) (l .n) R (low 2 0 (omega arith)) (low 3 0 (omega arith)))
+      (λ _ h. by-step (λ _. OpensIn f) R S (openingFault 0 f) _ (opening-says 0 f R (high 15 0 (omega arith)))
+      (λ _ o. checked-say f R low high (SoundList l) 0 (entriesOf l) (λ s. record { header = h; opening = o; entries = s })))
 
   pub sound-values : SoundList l → valuesFault l ≡ answered tt
   unfolding valuesFault
-  sound-values s = rw (header-passes 0 (l .frame) (l .n) (s .header)) (checked-passes (l .frame) 0 (entriesOf l) (s .entries))
+  sound-values s =
+      rw (header-passes 0 (l .frame .h) (l .n) (s .header), opening-passes 0 (l .frame) (s .opening))
+      (checked-passes (l .frame) 0 (entriesOf l) (s .entries))
 
   abbrev es : List Entry
   es = entriesOf l
 
-  -- what the value check says: of a refusal, whatever holds of rows 2, 3, 6, 7 and 14
-  module _ (R : Code → Type 0) (two : R (code 2 (0 ∷ []))) (three : R (code 3 (0 ∷ []))) (six : (at : ℕ) → R (code 6 (at ∷ [])))
-      (seven : (at : ℕ) → R (code 7 (at ∷ [])))
+  -- what the value check says: of a refusal, whatever holds of those rows and of 14
+  module _ (R : Code → Type 0) (low : Low R) (high : High R)
       (fourteen : valuesFault l ≡ answered tt → FirstClash es (firstClash es) → R (code 14 (firstClash es ∷ [])))
     where
       passes-say : Says (λ _. SoundList l × Apart es) R (checkOf l)
       unfolding checkOf
       passes-say =
-          by-step (λ _. SoundList l) R (λ _. SoundList l × Apart es) (valuesFault l) _ (values-say R two three six seven)
+          by-step (λ _. SoundList l) R (λ _. SoundList l × Apart es) (valuesFault l) _ (values-say R low high)
           (λ _ s. by-row (λ _. SoundList l × Apart es) R (ltb (firstClash es) (length es)) _ _
           (λ t. fourteen (sound-values s) (first-clash es (ltb-true _ _ t)))
           (λ t. (s, apart es (ltb-false _ _ t))))
@@ -138,7 +168,7 @@ module _ (l : DayList) where
 
   -- a list is well-formed exactly if its header and its entries are sound and no two entries clash
   passed : WellFormed l → SoundList l × Apart es
-  passed w = rw w at (passes-say Anything tt tt (λ _. tt) (λ _. tt) (λ _ _. tt))
+  passed w = rw w at (passes-say Anything (λ _ _ _. tt) (λ _ _ _. tt) (λ _ _. tt))
 
   pub sound-list : WellFormed l → SoundList l
   sound-list w = passed w .0

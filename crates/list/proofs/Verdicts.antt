@@ -9,7 +9,7 @@ use Rattle.list.specs.Refusals.{codeOf, outcomeOf, verdictOf, writeAnswe
 use Rattle.list.specs.declared.types.Refusal.{Refusal}
 use Rattle.list.specs.declared.types.Refusal.the-variants.{BytesMissing, BadDayLength, TooManyEntries, BadMapByte, DefaultWritten}
 use Rattle.list.specs.declared.types.Refusal.the-variants.{NoMinutes, BadWindow, BytesLeftOver, Overloaded, NoPlace, PlanBufferShort}
-use Rattle.list.specs.declared.types.Refusal.the-variants.{ListBufferShort, UnknownPlace, SerialClash}
+use Rattle.list.specs.declared.types.Refusal.the-variants.{ListBufferShort, UnknownPlace, SerialClash, BadOpening, BeforeOpening}
 use Rattle.list.specs.declared.types.Verdict.{Verdict}
 use Rattle.list.specs.declared.types.Verdict.the-variants.{Accepted, Refused}
 use Rattle.list.specs.declared.types.WriteAnswer.{WriteAnswer}
@@ -40,7 +40,9 @@ refusalOf k =
     (cond (eqb n 10) (NoPlace x)
     (cond (eqb n 11) (PlanBufferShort x)
     (cond (eqb n 12) (ListBufferShort x)
-    (cond (eqb n 13) (UnknownPlace x) (SerialClash x)))))))))))))
+    (cond (eqb n 13) (UnknownPlace x)
+    (cond (eqb n 14) (SerialClash x)
+    (cond (eqb n 15) (BadOpening x) (BeforeOpening x)))))))))))))))
 
 refusal-is : (x : Refusal) → refusalOf (codeOf x) ≡ x
 refusal-is (BytesMissing x) = refl
@@ -57,6 +59,8 @@ refusal-is (PlanBufferShort x) = refl
 refusal-is (ListBufferShort x) = refl
 refusal-is (UnknownPlace x) = refl
 refusal-is (SerialClash x) = refl
+refusal-is (BadOpening x) = refl
+refusal-is (BeforeOpening x) = refl
 
 -- so no two refusals have the same number and values
 one-refusal : (j k : Refusal) → codeOf j ≡ codeOf k → j ≡ k

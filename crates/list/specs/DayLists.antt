@@ -45,9 +45,10 @@ dayList f es = record { frame = f; n = length es; entries = es ++ replicate (mos
 
 -- the list value that stands beside a refusal
 abbrev pub emptyList : DayList
-emptyList = dayList (record { h = 0 }) []
+emptyList = dayList (record { h = 0; opening = 0 }) []
 
--- "Two list values are equal if H, n and the first n entries are."
+-- "Two list values are equal if H, n and the first n entries are." And document 02: "The list value carries and compares that minute", at
+-- which the room opens.
 pub record SameList (a b : DayList) : Type 0 where
   pub frame : a .frame ≡ b .frame
   pub n : a .n ≡ b .n
@@ -57,7 +58,7 @@ pub record SameList (a b : DayList) : Type 0 where
 abbrev pub checkedFields : Entry → Entry
 checkedFields e = record { serial = e .serial; seal = Missing; r = e .r; d = e .d; p = e .p; kind = Pause }
 
--- two lists with the same H and n, and of each entry the same serial, r, d and p: seals and kinds are not compared
+-- two lists with the same H, opening minute and n, and of each entry the same serial, r, d and p: seals and kinds are not compared
 pub record SameSerials (a b : DayList) : Type 0 where
   pub frame : a .frame ≡ b .frame
   pub n : a .n ≡ b .n

@@ -9,7 +9,7 @@ use Rattle.list.specs.Checks.{valuesFault, checkOf, WellFormed}
 use Rattle.list.specs.declared.types.DayList.{DayList}
 
 pub record ClashLaw (l : DayList) : Type 0 where
-  -- rows 2, 3, 6 and 7 come first
+  -- rows 2, 3, 15, 16, 6 and 7 come first
   pub before : (k : Code) → valuesFault l ≡ refused k → checkOf l ≡ refused k
   -- a well-formed list has no two entries of one serial that share a minute
   pub accepted : WellFormed l → Apart (entriesOf l)

@@ -21,7 +21,7 @@ pub fn empty_list() -> DayList
         kind: Kind::Pause,
     };
     DayList {
-        frame: Frame { h: 0 },
+        frame: Frame { h: 0, opening: 0 },
         n: 0,
         entries: [blank; ENTRIES],
     }

@@ -1,4 +1,4 @@
-// The tests of list values: rows 2, 3, 6, 7 and 14; and whether a verdict is no refusal.
+// The tests of list values: rows 2, 3, 15, 16, 6, 7 and 14; and whether a verdict is no refusal.
 use crate::clashes::first_clash;
 use crate::places::places_held;
 use crate::types::DayList;
@@ -12,13 +12,12 @@ ghost use mathlib.Core.Path.{_≡_};
 ghost use Rattle.base.specs.Outcomes.{accepts};
 ghost use Rattle.list.specs.Refusals.{verdictOf};
 ghost use Rattle.list.specs.Entries.{entryFault};
-ghost use Rattle.list.specs.Checks.{headerFault, valuesFault, checkOf};
+ghost use Rattle.list.specs.Checks.{headerFault, openingFault, valuesFault, checkOf};
 
 // Rows 2 and 3; 3 carries the place given.
-pub fn header_fault(place: usize, frame: Frame, n: u8) -> Verdict
-    ensures { λ v. ⌜ verdictOf v ≡ headerFault place frame n ⌝ }
+pub fn header_fault(place: usize, h: u16, n: u8) -> Verdict
+    ensures { λ v. ⌜ verdictOf v ≡ headerFault place h n ⌝ }
 {
-    let h = frame.h;
     if h == 0 {
         return Verdict::Refused(Refusal::BadDayLength);
     }
@@ -31,10 +30,24 @@ pub fn header_fault(place: usize, frame: Frame, n: u8) -> Verdict
     Verdict::Accepted
 }
 
-// Rows 6 and 7 of one entry, which carry the place given. The sum r + p may pass 65,535.
+// Row 15: an opening minute of H or more. It carries the place given.
+pub fn opening_fault(place: usize, frame: Frame) -> Verdict
+    ensures { λ v. ⌜ verdictOf v ≡ openingFault place frame ⌝ }
+{
+    if frame.opening < frame.h {
+        Verdict::Accepted
+    } else {
+        Verdict::Refused(Refusal::BadOpening(place))
+    }
+}
+
+// Rows 16, 6 and 7 of one entry, which carry the place given. The sum r + p may pass 65,535.
 pub fn entry_fault(frame: Frame, place: usize, e: Entry) -> Verdict
     ensures { λ v. ⌜ verdictOf v ≡ entryFault frame place e ⌝ }
 {
+    if e.r < frame.opening {
+        return Verdict::Refused(Refusal::BeforeOpening(place));
+    }
     if e.p == 0 {
         return Verdict::Refused(Refusal::NoMinutes(place));
     }
@@ -47,14 +60,18 @@ pub fn entry_fault(frame: Frame, place: usize, e: Entry) -> Verdict
     Verdict::Accepted
 }
 
-// Rows 2, 3, then 6 and 7 entry by entry. Only the first n entries are looked at.
+// Rows 2, 3 and 15, then 16, 6 and 7 entry by entry. Only the first n entries are looked at.
 fn values_fault(list: DayList) -> Verdict
     ensures { λ v. ⌜ verdictOf v ≡ valuesFault list ⌝ }
 {
     let n = list.n;
-    let header = header_fault(0, list.frame, n);
+    let header = header_fault(0, list.frame.h, n);
     let Verdict::Accepted = header else {
         return header;
+    };
+    let opening = opening_fault(0, list.frame);
+    let Verdict::Accepted = opening else {
+        return opening;
     };
     let count = n as usize;
     let mut i: usize = 0;
@@ -68,7 +85,7 @@ fn values_fault(list: DayList) -> Verdict
     Verdict::Accepted
 }
 
-// The value check: 2, 3, then 6 and 7 entry by entry, then 14.
+// The value check: 2, 3, 15, then 16, 6 and 7 entry by entry, then 14.
 pub fn check(list: DayList) -> Verdict
     ensures { λ v. ⌜ verdictOf v ≡ checkOf list ⌝ }
 {

@@ -28,9 +28,10 @@ pub struct Entry {
     pub kind: Kind,
 }
 
-// What the header says of every entry: the day's length H in minutes.
+// What the header says of every entry: the day's length H in minutes, and the minute at which the room opens; 0 is no opening minute.
 pub struct Frame {
     pub h: u16,
+    pub opening: u16,
 }
 
 // A day's list: the first n entries count, known by their place from 0.
@@ -71,6 +72,10 @@ pub enum Refusal {
     UnknownPlace(usize),
     // 14: the window shares a minute with that of an earlier entry of the same serial; the map byte's place, or the entry's for a value.
     SerialClash(usize),
+    // 15: the opening minute is H or more, or is written as 0; its place in the bytes, 0 for a value.
+    BadOpening(usize),
+    // 16: r is before the opening minute; the map byte's place, or the entry's for a value.
+    BeforeOpening(usize),
 }
 
 // What a test of a list answers.

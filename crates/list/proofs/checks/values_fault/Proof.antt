@@ -10,7 +10,7 @@ use Rattle.list.specs.Checks.{valuesFault}
 use Rattle.base.proofs.Walk.{length-mapped}
 use Rattle.list.proofs.Verdicts.{by-accepted}
 use Rattle.list.proofs.Sound.{header-of}
-use Rattle.list.proofs.CheckCases.{faultFrom, values-header, values-entries, values-refused, values-next, values-done}
+use Rattle.list.proofs.CheckCases.{faultFrom, values-header, values-opening, values-entries, values-refused, values-next, values-done}
 use Rattle.list.proofs.checks.values_fault.Statement.{statement}
 use Rattle.list.proofs.checks.values_fault.Tie as tie
 
@@ -31,18 +31,37 @@ enum-told-2 c = search needs
 
 returns : tie.Need-returns Inv-loop μ-loop
 returns c =
-    let list = c .before .before .before .before .args .t1 in
-    values-header list _ _ (c .before .before .header-fault .ensures) (c .enum-told2 .given .1)
+    let list = c .before .before .before .args .t1 in
+    values-header list _ (c .before .before .header-fault .ensures) _ (c .enum-told2 .given .1)
+
+opening-fault-requires : tie.Need-opening-fault-requires Inv-loop μ-loop
+opening-fault-requires c κs = search needs
+
+enum-told-3 : tie.Need-enum-told-3 Inv-loop μ-loop
+enum-told-3 c = search needs
+
+enum-told-4 : tie.Need-enum-told-4 Inv-loop μ-loop
+enum-told-4 c = search needs
+
+returns-2 : tie.Need-returns-2 Inv-loop μ-loop
+returns-2 c =
+    let list = c .before .before .before .before .before .before .before .args .t1 in
+    let header-fault = c .before .before .before .before .before .before .header-fault in
+    let passed = c .before .before .before .before .enum-told .given .1 in
+    values-opening list _ (header-fault .ensures) passed _ (c .before .before .opening-fault .ensures) _ (c .enum-told4 .given .1)
 
 cast-count : tie.Need-cast-count Inv-loop μ-loop
 cast-count c = search needs
 
 loop-holds : tie.Need-loop-holds Inv-loop μ-loop
 loop-holds c =
-    let list = c .before .before .before .before .args .t1 in
-    let w = c .before .before .header-fault .ensures in
-    let a = c .enum-told .given .1 in
-    (zero≤, header-of 0 (list .frame) (list .n) (by-accepted w a) .room, values-entries list _ w a)
+    let list = c .before .before .before .before .before .before .before .args .t1 in
+    let header-fault = c .before .before .before .before .before .before .header-fault in
+    let passed = c .before .before .before .before .enum-told .given .1 in (
+      zero≤,
+      header-of 0 (list .frame .h) (list .n) (by-accepted (header-fault .ensures) passed) .room,
+      values-entries list _ (header-fault .ensures) passed _ (c .before .before .opening-fault .ensures) (c .enum-told3 .given .1),
+    )
 
 mul-entry-fault : tie.Need-mul-entry-fault Inv-loop μ-loop
 mul-entry-fault c = search needs
@@ -53,21 +72,21 @@ element-copy-out-entry-fault c = search needs
 entry-fault-requires : tie.Need-entry-fault-requires Inv-loop μ-loop
 entry-fault-requires c κs = search needs
 
-enum-told-3 : tie.Need-enum-told-3 Inv-loop μ-loop
-enum-told-3 c = search needs
+enum-told-5 : tie.Need-enum-told-5 Inv-loop μ-loop
+enum-told-5 c = search needs
 
-enum-told-4 : tie.Need-enum-told-4 Inv-loop μ-loop
-enum-told-4 c = search needs
+enum-told-6 : tie.Need-enum-told-6 Inv-loop μ-loop
+enum-told-6 c = search needs
 
-returns-2 : tie.Need-returns-2 Inv-loop μ-loop
-returns-2 c =
-    let list = c .before .before .before .before .before .before .before .before .before .before .before .args .t1 in
+returns-3 : tie.Need-returns-3 Inv-loop μ-loop
+returns-3 c =
+    let list = c .before .before .before .before .before .before .before .before .before .before .before .before .before .before .args .t1 in
     let loop = c .before .before .before .before .before .before .loop in
     let loop-test = c .before .before .before .before .before .loop-test in
     let entry-fault = c .before .before .entry-fault in
     let len : length (list .entries) ≡ 64 = search (needs, length-mapped) in
     values-refused list (omega (arith, len, loop .inv .1)) (loop .i) _ (entry-fault .result) (entry-fault .ensures)
-    (loop-test .taken) _ (c .enum-told4 .given .1) ∙ sym (loop .inv .2)
+    (loop-test .taken) _ (c .enum-told6 .given .1) ∙ sym (loop .inv .2)
 
 add-i : tie.Need-add-i Inv-loop μ-loop
 add-i c = search needs
@@ -77,7 +96,7 @@ loop-less c = search needs
 
 loop-again : tie.Need-loop-again Inv-loop μ-loop
 loop-again c =
-    let list = c .before .before .before .before .before .before .before .before .before .before .before .args .t1 in
+    let list = c .before .before .before .before .before .before .before .before .before .before .before .before .before .before .args .t1 in
     let loop = c .before .before .before .before .before .before .loop in
     let loop-test = c .before .before .before .before .before .loop-test in
     let entry-fault = c .before .before .entry-fault in
@@ -85,12 +104,12 @@ loop-again c =
       omega (arith, loop-test .taken),
       loop .inv .1,
       loop .inv .2 ∙ values-next list (omega (arith, len, loop .inv .1)) (loop .i) _ (entry-fault .result) (entry-fault .ensures)
-          (loop-test .taken) (c .enum-told3 .given .1),
+          (loop-test .taken) (c .enum-told5 .given .1),
     )
 
-returns-3 : tie.Need-returns-3 Inv-loop μ-loop
-returns-3 c =
-    let list = c .before .before .before .before .before .before .args .t1 in
+returns-4 : tie.Need-returns-4 Inv-loop μ-loop
+returns-4 c =
+    let list = c .before .before .before .before .before .before .before .before .before .args .t1 in
     let loop = c .before .loop in
     let len : length (list .entries) ≡ 64 = search (needs, length-mapped) in
     sym (loop .inv .2 ∙ values-done list (omega (arith, len, loop .inv .1)) (loop .i) (c .loop-test .left))
@@ -105,15 +124,19 @@ values-fault-spec =
     enum-told
     enum-told-2
     returns
+    opening-fault-requires
+    enum-told-3
+    enum-told-4
+    returns-2
     cast-count
     loop-holds
     mul-entry-fault
     element-copy-out-entry-fault
     entry-fault-requires
-    enum-told-3
-    enum-told-4
-    returns-2
+    enum-told-5
+    enum-told-6
+    returns-3
     add-i
     loop-less
     loop-again
-    returns-3)
+    returns-4)
