@@ -1,5 +1,5 @@
 // Refusals as numbers, for printing and for callers in other languages.
-// Promises: `numbers_of` gives every refusal document 01's number and the values that it carries, by equality with the definition of
+// Promises: `numbers_of` gives every refusal its number in the documents and the values that it carries, by equality with the definition of
 // specs/. Uses the crates base and list.
 use list::types::Refusal;
 ghost use mathlib.Core.Path.{_≡_};
@@ -53,5 +53,8 @@ pub fn numbers_of(x: Refusal) -> RefusalCode
         Refusal::ListBufferShort(needed) => with_one(12, needed),
         Refusal::UnknownPlace(place) => with_one(13, place),
         Refusal::SerialClash(at) => with_one(14, at),
+        Refusal::BadOpening(at) => with_one(15, at),
+        Refusal::BeforeOpening(at) => with_one(16, at),
+        Refusal::BadRow(numbers) => with_one(100, numbers),
     }
 }

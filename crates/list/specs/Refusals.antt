@@ -5,7 +5,7 @@ use Rattle.base.specs.Outcomes.{Code, code, Outcome, answered, refused}
 use Rattle.list.specs.declared.types.Refusal.{Refusal}
 use Rattle.list.specs.declared.types.Refusal.the-variants.{BytesMissing, BadDayLength, TooManyEntries, BadMapByte, DefaultWritten}
 use Rattle.list.specs.declared.types.Refusal.the-variants.{NoMinutes, BadWindow, BytesLeftOver, Overloaded, NoPlace, PlanBufferShort}
-use Rattle.list.specs.declared.types.Refusal.the-variants.{ListBufferShort, UnknownPlace, SerialClash, BadOpening, BeforeOpening}
+use Rattle.list.specs.declared.types.Refusal.the-variants.{ListBufferShort, UnknownPlace, SerialClash, BadOpening, BeforeOpening, BadRow}
 use Rattle.list.specs.declared.types.Verdict.{Verdict}
 use Rattle.list.specs.declared.types.Verdict.the-variants.{Accepted, Refused}
 use Rattle.list.specs.declared.types.DayList.{DayList}
@@ -30,6 +30,7 @@ codeOf (UnknownPlace place) = code 13 (place ∷ [])
 codeOf (SerialClash at) = code 14 (at ∷ [])
 codeOf (BadOpening at) = code 15 (at ∷ [])
 codeOf (BeforeOpening at) = code 16 (at ∷ [])
+codeOf (BadRow numbers) = code 100 (numbers ∷ [])
 
 -- a verdict with what stands beside Accepted
 abbrev pub outcomeOf : {A : Type 0} → Verdict → A → Outcome A

@@ -101,6 +101,24 @@ enum-known-x-13 c = search needs
 with-one-requires-13 : tie.Need-with-one-requires-13
 with-one-requires-13 c κs = search needs
 
+enum-known-x-14 : tie.Need-enum-known-x-14
+enum-known-x-14 c = search needs
+
+with-one-requires-14 : tie.Need-with-one-requires-14
+with-one-requires-14 c κs = search needs
+
+enum-known-x-15 : tie.Need-enum-known-x-15
+enum-known-x-15 c = search needs
+
+with-one-requires-15 : tie.Need-with-one-requires-15
+with-one-requires-15 c κs = search needs
+
+enum-known-x-16 : tie.Need-enum-known-x-16
+enum-known-x-16 c = search needs
+
+with-one-requires-16 : tie.Need-with-one-requires-16
+with-one-requires-16 c κs = search needs
+
 returns : tie.Need-returns
 returns c = carried (c .with-one .ensures) (c .before .before .x .given .1) refl
 
@@ -143,6 +161,15 @@ returns-13 c = carried (c .with-one12 .ensures) (c .before .before .x12 .given .
 returns-14 : tie.Need-returns-14
 returns-14 c = carried (c .with-one13 .ensures) (c .before .before .x13 .given .1) refl
 
+returns-15 : tie.Need-returns-15
+returns-15 c = carried (c .with-one14 .ensures) (c .before .before .x14 .given .1) refl
+
+returns-16 : tie.Need-returns-16
+returns-16 c = carried (c .with-one15 .ensures) (c .before .before .x15 .given .1) refl
+
+returns-17 : tie.Need-returns-17
+returns-17 c = carried (c .with-one16 .ensures) (c .before .before .x16 .given .1) refl
+
 pub numbers-of-spec : {M : Type 1} → statement M
 numbers-of-spec =
     tie.close
@@ -175,6 +202,12 @@ numbers-of-spec =
     with-one-requires-12
     enum-known-x-13
     with-one-requires-13
+    enum-known-x-14
+    with-one-requires-14
+    enum-known-x-15
+    with-one-requires-15
+    enum-known-x-16
+    with-one-requires-16
     returns
     returns-2
     returns-3
@@ -188,4 +221,7 @@ numbers-of-spec =
     returns-11
     returns-12
     returns-13
-    returns-14)
+    returns-14
+    returns-15
+    returns-16
+    returns-17)
