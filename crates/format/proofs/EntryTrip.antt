@@ -3,11 +3,12 @@
 -- Assumes nothing.
 use mathlib.Core.Path.{_≡_, refl, sym, ap, _∙_}
 use mathlib.Core.Bool.{Bool, true, false, cond, not, _&&_, not-and-self}
+use mathlib.Core.Logic.{inl, inr}
 use mathlib.Core.List.{List, [], _∷_, _++_, append-assoc}
 use Prim.Native.Nat.{ℕ, _+_, _^_, _≤_, _<_}
 use native.Mathlib.Nat.{add-zero}
 use native.Mathlib.Omega.{arith}
-use borrow.Author.Tests.{ltb-false, eqb-true, eqb-false, eq-eqb, not-false}
+use borrow.Author.Tests.{ltb-false, eqb-false, not-false}
 use lib.Dec.{eqb, ltb}
 use lib.ListN.{length, getD, drop, length-append}
 use Rattle.base.specs.Outcomes.{code, answered}
@@ -16,7 +17,7 @@ use Rattle.format.specs.Maps.{legalMap, fieldsOf, mapOf, rPlace, dPlace,
 use Rattle.list.specs.Entries.{entryFault}
 use Rattle.format.specs.EntryFields.{defaultR, defaultD, sealOf, entryAt, entryOf, fieldsEntry, defaultWritten}
 use Rattle.format.specs.Forms.{sealed, fieldsIn, sealBytes, minuteBytes, entryBytes}
-use Rattle.format.specs.Laws.{PlaceIn}
+use Rattle.format.specs.Laws.{ReadingRow, PlaceIn}
 use Rattle.list.specs.Machine.{Bytes, SealFits}
 use Rattle.list.specs.declared.types.Seal.{Seal}
 use Rattle.list.specs.declared.types.Seal.the-variants.{Missing, Number}
@@ -27,6 +28,7 @@ use Rattle.format.specs.declared.map.Fields.{Fields}
 use Rattle.format.specs.declared.map.MapAnswer.the-variants.{Follow}
 use Rattle.format.proofs.Places.{p-place-small}
 use Rattle.format.proofs.FieldTrip.{past-field, u16-read, u32-read, u32-small, byte-stands, u16-stands, u32-stands}
+use Rattle.format.proofs.FieldTrip.{minute-read, written-again, minute-stands}
 use Rattle.format.proofs.MapBytes.{map-form, map-back}
 use Rattle.base.proofs.Inversion.{Says, by-row, by-step, neither}
 use Rattle.format.proofs.CarriedPlaces.{at-end, at-place}
@@ -57,11 +59,6 @@ module _ (bs : List ℕ) (i : ℕ) (tail : List ℕ) where
   seal-read Missing h e = refl
   seal-read (Number x) h e = ap Number (sym (u32-read bs i x tail h e))
 
-  minute-read : (x x₀ : ℕ) → x < 65536 → (t : Bool) → eqb x x₀ ≡ t → drop i bs ≡ minuteBytes (not t) x ++ tail
-      → x ≡ cond (not t) (u16At bs i) x₀
-  minute-read x x₀ h true q e = eqb-true _ _ q
-  minute-read x x₀ h false q e = sym (u16-read bs i x tail h e)
-
 entry-back : (f : Frame) (e : Entry) (rest : List ℕ) → f .h < 65536 → EntryFits e → Sound f e
     → e ≡ entryAt f (fieldsIn f e) (formBefore f e rest)
 entry-back f e rest h fits s =
@@ -73,8 +70,8 @@ entry-back f e rest h fits s =
     entry-is f m bs _ _ _ _ _ _ _ _ _ _
     (sym (u32-read bs 1 (e .serial) _ (fits .serial) refl))
     (seal-read bs 5 _ (e .seal) (fits .seal) refl)
-    (minute-read bs (rPlace m) _ (e .r) (defaultR f) (omega arith) _ refl r-here) refl refl
-    (minute-read bs (dPlace m) _ (e .d) (defaultD f) (omega arith) _ refl d-here) refl refl
+    (minute-read bs (rPlace m) (e .r) (defaultR f) (omega arith) _ refl _ r-here) refl refl
+    (minute-read bs (dPlace m) (e .d) (defaultD f) (omega arith) _ refl _ d-here) refl refl
     (sym (u16-read bs (pPlace m) (e .p) _ (omega arith) p-here)) refl
 
 -- an entry that fits and is sound is read back from its one form, whatever follows
@@ -90,21 +87,11 @@ entry-reads-back f at e rest h fits s =
     (fields-taken f at m bs e Accepted back long (simp not-and-self) (sym (faultless f at e s)) _ size refl
     ∙ entry-legal f at bs (omega arith) (Follow m) (map-back m) m refl))
 
--- a minute that is not a written default: its field follows again exactly if it did
-written-again : (w : Bool) (x x₀ : ℕ) → w && eqb (cond w x x₀) x₀ ≡ false → not (eqb (cond w x x₀) x₀) ≡ w
-written-again true x x₀ e = rw e
-written-again false x x₀ e = rw (eq-eqb x₀ x₀ refl)
-
 sealed-again : (w : Bool) (x : ℕ) → sealed (sealOf w x) ≡ w
 sealed-again true x = refl
 sealed-again false x = refl
 
 module _ (bs : List ℕ) (b : Bytes bs) (i : ℕ) where
-  minute-stands : (w : Bool) (x₀ : ℕ) → i + cond w 2 0 ≤ length bs → w && eqb (cond w (u16At bs i) x₀) x₀ ≡ false
-      → drop i bs ≡ minuteBytes (not (eqb (cond w (u16At bs i) x₀) x₀)) (cond w (u16At bs i) x₀) ++ drop (i + cond w 2 0) bs
-  minute-stands true x₀ l e = simp e (u16-stands bs b i l)
-  minute-stands false x₀ l e = simp (eq-eqb x₀ x₀ refl, add-zero)
-
   seal-stands : (w : Bool) → i + cond w 4 0 ≤ length bs → drop i bs ≡ sealBytes (sealOf w (u32At bs i)) ++ drop (i + cond w 4 0) bs
   seal-stands true l = u32-stands bs b i l
   seal-stands false l = simp add-zero
@@ -170,7 +157,7 @@ module _ (f : Frame) (at : ℕ) (bs : List ℕ) (len : ℕ) (all : at + length b
         fits = λ b. record { serial = u32-small bs b 1; seal = seal-fits bs b 5 (m .seal) };
       }
 
-  here : 1 ≤ length bs → (n : ℕ) → 2 ≤ n → n ≤ 8 → PlaceIn len (code n (at ∷ []))
+  here : 1 ≤ length bs → (n : ℕ) → 2 ≤ n → ReadingRow n → PlaceIn len (code n (at ∷ []))
   here h n other row = at-place len n at other row (omega arith)
 
   fields-say : legalMap (getD bs 0 0) ≡ true → 1 ≤ length bs → Says (TakenEntry f bs) (PlaceIn len) (fieldsEntry f at m bs)
@@ -179,9 +166,10 @@ module _ (f : Frame) (at : ℕ) (bs : List ℕ) (len : ℕ) (all : at + length b
       let P = TakenEntry f bs in
       let R = PlaceIn len in
       by-row P R (ltb (length bs) (sizeOf m)) _ _ (λ t. at-end len _ all)
-      (λ l. by-row P R (defaultWritten f m e) _ _ (λ t. here h 5 (omega arith) (omega arith))
+      (λ l. by-row P R (defaultWritten f m e) _ _ (λ t. here h 5 (omega arith) (inl (omega arith)))
       (λ w. by-step (λ _. Sound f e) R P (entryFault f at e) _
-      (fault-says f at e R (here h 6 (omega arith) (omega arith)) (here h 7 (omega arith) (omega arith)))
+      (fault-says f at e R (here h 16 (omega arith) (inr (inr refl))) (here h 6 (omega arith) (inl (omega arith)))
+      (here h 7 (omega arith) (inl (omega arith))))
       (λ _ s. taken legal (ltb-false _ _ l) w s)))
 
   -- what reading one entry says
@@ -196,6 +184,6 @@ module _ (f : Frame) (at : ℕ) (bs : List ℕ) (len : ℕ) (all : at + length b
       let h : 1 ≤ length bs = omega (arith, eqb-false (length bs) 0 n) in
       by-step (λ n. Says P R (fieldsEntry f at n bs)) R P (mapFields at map) _
       (by-row (λ n. Says P R (fieldsEntry f at n bs)) R (not (legalMap map)) _ _
-      (λ t. here h 4 (omega arith) (omega arith))
+      (λ t. here h 4 (omega arith) (inl (omega arith)))
       (λ t. fields-say (not-false _ t) h))
       (λ n s. s))

@@ -1,14 +1,28 @@
--- The examples of lists that have a serial twice hold: the definitions compute.
+-- The examples hold: the definitions compute.
 -- Assumes nothing.
 use mathlib.Core.Path.{refl}
 use Rattle.base.specs.Counting.{firstBelow}
 use Rattle.list.specs.Entries.{entryFault}
 use Rattle.list.specs.Clashes.{firstClash}
-use Rattle.list.specs.Checks.{headerFault}
+use Rattle.list.specs.Checks.{headerFault, openingFault}
 use Rattle.format.specs.EntryFields.{entryAt, fieldsEntry, entryOf}
-use Rattle.format.specs.Reading.{entriesFrom, bodyOf, decodeOf, mapPlace, readOf}
+use Rattle.format.specs.Reading.{entriesFrom, bodyOf, openedOf, decodeOf, mapPlace, readOf}
 use Rattle.format.specs.Examples.{ReadExamples}
 
 pub read-examples : ReadExamples
-unfolding firstBelow entryFault firstClash headerFault entryAt fieldsEntry entryOf entriesFrom bodyOf decodeOf mapPlace readOf
-read-examples = record { clash = refl; left-over = refl; two-clashes = refl; only-touch = refl }
+unfolding firstBelow entryFault firstClash headerFault openingFault entryAt fieldsEntry entryOf entriesFrom bodyOf openedOf decodeOf mapPlace readOf
+read-examples =
+    record {
+      clash = refl;
+      left-over = refl;
+      two-clashes = refl;
+      only-touch = refl;
+      opening-meant = refl;
+      default-written = refl;
+      before-opening = refl;
+      after-opening = refl;
+      minute-missing = refl;
+      too-many = refl;
+      zero-written = refl;
+      opens-late = refl;
+    }

@@ -1,15 +1,19 @@
--- Numbers as bytes and back: what is written is read again, and bytes that are read are the number's own bytes.
+-- Fields and back: what is written is read again, and bytes that are read are the field's own bytes. A minute's field may be missing.
 -- Assumes nothing.
-use mathlib.Core.Path.{_≡_, sym, ap, _∙_}
+use mathlib.Core.Path.{_≡_, refl, sym, ap, _∙_}
+use mathlib.Core.Bool.{Bool, true, false, cond, not, _&&_}
 use mathlib.Core.List.{List, [], _∷_, _++_}
 use Prim.Native.Nat.{ℕ, _+_, _*_, _/_, _%_, _^_, _≤_, _<_}
 use native.Mathlib.Nat.{add-assoc, add-zero}
 use native.Mathlib.Numerals.{add-one}
 use native.Mathlib.Omega.{arith}
+use borrow.Author.Tests.{eqb-true, eq-eqb}
+use lib.Dec.{eqb}
 use lib.ListN.{length, getD, drop}
 use lib.Seq.{drop-cons, drop-drop, drop-at, getD-drop}
 use Rattle.list.specs.Machine.{Bytes}
 use Rattle.format.specs.LittleEndian.{u16At, u32At, u16Bytes, u32Bytes}
+use Rattle.format.specs.Forms.{minuteBytes}
 
 pub bytes-drop : (bs : List ℕ) (k : ℕ) → Bytes bs → Bytes (drop k bs)
 bytes-drop bs k h i = rw getD-drop (h (k + i))
@@ -51,6 +55,12 @@ module _ (bs : List ℕ) (i : ℕ) where
   pub u32-read : (x : ℕ) (tail : List ℕ) → x < 2 ^ 32 → drop i bs ≡ u32Bytes x ++ tail → u32At bs i ≡ x
   u32-read x tail h e = sym u32-place ∙ rw e (u32-back x tail h)
 
+  -- a minute is read back, where its field is missing as its default
+  pub minute-read : (x x₀ : ℕ) → x < 65536 → (t : Bool) → eqb x x₀ ≡ t → (tail : List ℕ) → drop i bs ≡ minuteBytes (not t) x ++ tail
+      → x ≡ cond (not t) (u16At bs i) x₀
+  minute-read x x₀ h true q tail e = eqb-true _ _ q
+  minute-read x x₀ h false q tail e = sym (u16-read x tail h e)
+
   pub byte-stands : i < length bs → drop i bs ≡ getD bs i 0 ∷ drop (i + 1) bs
   byte-stands h = rw add-one (drop-cons bs i 0 h)
 
@@ -72,3 +82,15 @@ module _ (bs : List ℕ) (b : Bytes bs) where
       u16-stands i (omega arith)
       ∙ ap (λ (l : List ℕ). u16Bytes (u16At bs i) ++ l) (rw (add-assoc i 2 2) at (u16-stands (i + 2) (omega arith)))
       ∙ ap (λ (l : List ℕ). l ++ drop (i + 4) bs) (sym (u32-form _ _ (u16-small i) (u16-small (i + 2))))
+
+-- a minute that is not a written default: its field follows again exactly if it did
+pub written-again : (w : Bool) (x x₀ : ℕ) → w && eqb (cond w x x₀) x₀ ≡ false → not (eqb (cond w x x₀) x₀) ≡ w
+written-again true x x₀ e = rw e
+written-again false x x₀ e = rw (eq-eqb x₀ x₀ refl)
+
+-- and its bytes stand where it was read
+pub minute-stands : (bs : List ℕ) → Bytes bs → (i : ℕ) (w : Bool) (x₀ : ℕ) → i + cond w 2 0 ≤ length bs
+    → w && eqb (cond w (u16At bs i) x₀) x₀ ≡ false
+    → drop i bs ≡ minuteBytes (not (eqb (cond w (u16At bs i) x₀) x₀)) (cond w (u16At bs i) x₀) ++ drop (i + cond w 2 0) bs
+minute-stands bs b i true x₀ l e = simp e (u16-stands bs b i l)
+minute-stands bs b i false x₀ l e = simp (eq-eqb x₀ x₀ refl, add-zero)

@@ -1,8 +1,8 @@
--- The first 964 bytes of an input decide how it is read: the entries end by place 963, so in a longer input bytes are left over if no
+-- The first 966 bytes of an input decide how it is read: the entries end by place 965, so in a longer input bytes are left over if no
 -- other row holds.
 -- Assumes nothing.
 use mathlib.Core.Path.{_≡_, refl, ap}
-use mathlib.Core.Bool.{Bool, true, false}
+use mathlib.Core.Bool.{Bool, true, false, cond}
 use mathlib.Core.List.{List}
 use Prim.Native.Nat.{ℕ, zero, suc, _+_, _*_, _≤_, _<_}
 use native.Mathlib.Omega.{arith}
@@ -11,17 +11,19 @@ use lib.Dec.{ltb, leb}
 use lib.ListN.{length, getD, take, drop, length-take, length-drop}
 use lib.Seq.{take-all, getD-take, getD-drop}
 use Rattle.format.specs.LittleEndian.{u16At, u32At}
-use Rattle.format.specs.Maps.{rPlace, dPlace, pPlace, sizeOf}
+use Rattle.format.specs.Maps.{bit, rPlace, dPlace, pPlace, sizeOf}
 use Rattle.format.specs.EntryFields.{entryAt, fieldsEntry, entryOf}
-use Rattle.list.specs.Checks.{headerFault}
-use Rattle.format.specs.Reading.{entriesFrom, frameOf, countOf, bodyOf, decodeOf, readOf}
+use Rattle.list.specs.Checks.{headerFault, openingFault}
+use Rattle.format.specs.Headers.{openingWritten, countOf, frameOf, entriesPlace, zeroWritten}
+use Rattle.format.specs.Reading.{entriesFrom, entriesRead, bodyOf, openedOf, decodeOf, readOf}
 use Rattle.format.specs.Laws.{PlaceIn}
 use Rattle.format.specs.Writing.{readLimit}
 use Rattle.list.specs.declared.types.Frame.{Frame}
 use Rattle.format.specs.declared.map.Fields.{Fields}
 use Rattle.format.proofs.Places.{r-place-small, d-place-small, p-place-small}
 use Rattle.base.proofs.Inversion.{Says, Anything, by-row, by-step, says-refusal, same-after}
-use Rattle.list.proofs.Sound.{Header, header-says}
+use Rattle.list.proofs.Sound.{Header, header-says, OpensIn, opening-says}
+use Rattle.format.proofs.HeaderTrip.{header-short}
 use Rattle.format.proofs.EntryTrip.{TakenEntry, entry-says}
 use Rattle.format.proofs.ListTrip.{TakenEntries, entries-say}
 
@@ -88,54 +90,80 @@ module _ {xs ys : List ℕ} (a : Agree readLimit xs ys) where
   abbrev n : ℕ
   n = countOf ys
 
-  frame-same : frameOf xs ≡ f
-  frame-same = ap (λ (x : ℕ). record { h = x }) (u16-same a 0 (omega arith))
+  abbrev from : ℕ
+  from = entriesPlace ys
 
-  -- the entries end by place 963, so bytes are left over in both
+  -- the count byte is the same, and so is what it says
+  count-same : getD xs 2 0 ≡ getD ys 2 0
+  count-same = a .byte 2 (omega arith)
+
+  frame-same : frameOf xs ≡ f
+  frame-same =
+      λ j. record { h = u16-same a 0 (omega arith) j; opening = cond (bit 7 (count-same j)) (u16-same a 3 (omega arith) j) 0 }
+
+  from-short : from ≤ 5
+  from-short = header-short (openingWritten ys)
+
+  -- the entries end by place 965, so bytes are left over in both
   body-same : n ≤ 64 → bodyOf xs ≡ bodyOf ys
   unfolding bodyOf
   body-same room =
-      let all : 3 + length (drop 3 ys) ≡ length ys = omega (arith, length-drop 3 ys) in
-      rw (frame-same, a .byte 2 (omega arith), entries-same f n 3 (agree-drop a 3 (15 * n) (omega arith)))
-      (same-after (TakenEntries f n (drop 3 ys) (length ys)) (PlaceIn (length ys)) (entriesFrom f n 3 (drop 3 ys)) _ _
-      (entries-say f n 3 (drop 3 ys) (length ys) all)
+      let all : from + length (drop from ys) ≡ length ys = omega (arith, from-short, length-drop from ys) in
+      rw (frame-same, count-same, entries-same f n from (agree-drop a from (15 * n) (omega (arith, from-short))))
+      (same-after (TakenEntries f n (drop from ys) (length ys)) (PlaceIn (length ys)) (entriesRead ys n) _ _
+      (entries-say f n from (drop from ys) (length ys) all)
       (λ x es.
-      let p : x .1 < length xs = omega arith in
-      let q : x .1 < length ys = omega arith in
+      let p : x .1 < length xs = omega (arith, from-short) in
+      let q : x .1 < length ys = omega (arith, from-short) in
       simp (lt-ltb _ _ p, lt-ltb _ _ q)))
+
+  opened-same : n ≤ 64 → openedOf xs ≡ openedOf ys
+  unfolding openedOf
+  opened-same room =
+      let p : from ≤ length xs = omega (arith, from-short) in
+      let q : from ≤ length ys = omega (arith, from-short) in
+      rw (frame-same, count-same, u16-same a 3 (omega arith), le-ltb _ _ p, le-ltb _ _ q, body-same room) refl
 
   decode-same : decodeOf xs ≡ decodeOf ys
   unfolding decodeOf
   decode-same =
       let p : 3 ≤ length xs = omega arith in
       let q : 3 ≤ length ys = omega arith in
-      rw (frame-same, a .byte 2 (omega arith), le-ltb _ _ p, le-ltb _ _ q)
-      (same-after (λ _. Header f n) Anything (headerFault 2 f n) _ _ (header-says 2 f n Anything tt tt) (λ _ h. body-same (h .room)))
+      rw (u16-same a 0 (omega arith), count-same, le-ltb _ _ p, le-ltb _ _ q)
+      (same-after (λ _. Header (f .h) n) Anything (headerFault 2 (f .h) n) _ _ (header-says 2 (f .h) n Anything tt tt)
+      (λ _ h. opened-same (h .room)))
 
-  -- so rows 1 to 8 leave no list
+  -- so those rows leave no list
   body-over : n ≤ 64 → Says (λ _. ⊥) Anything (bodyOf ys)
   unfolding bodyOf
   body-over room =
-      let all : 3 + length (drop 3 ys) ≡ length ys = omega (arith, length-drop 3 ys) in
-      let Taken = TakenEntries f n (drop 3 ys) (length ys) in
-      let o = entriesFrom f n 3 (drop 3 ys) in
+      let all : from + length (drop from ys) ≡ length ys = omega (arith, from-short, length-drop from ys) in
+      let Taken = TakenEntries f n (drop from ys) (length ys) in
+      let o = entriesRead ys n in
       by-step Taken Anything (λ _. ⊥) o _
-      (says-refusal Taken (PlaceIn (length ys)) Anything o (λ _ _. tt) (entries-say f n 3 (drop 3 ys) (length ys) all))
+      (says-refusal Taken (PlaceIn (length ys)) Anything o (λ _ _. tt) (entries-say f n from (drop from ys) (length ys) all))
       (λ x es. by-row (λ _. ⊥) Anything (ltb (x .1) (length ys)) _ _ (λ _. tt)
-      (λ t. let z : length ys ≤ x .1 = ltb-false _ _ t in omega arith))
+      (λ t. let z : length ys ≤ x .1 = ltb-false _ _ t in omega (arith, from-short)))
+
+  opened-over : n ≤ 64 → Says (λ _. ⊥) Anything (openedOf ys)
+  unfolding openedOf
+  opened-over room =
+      by-row (λ _. ⊥) Anything (ltb (length ys) from) _ _ (λ _. tt)
+      (λ _. by-row (λ _. ⊥) Anything (zeroWritten ys) _ _ (λ _. tt)
+      (λ _. by-step (λ _. OpensIn f) Anything (λ _. ⊥) (openingFault 3 f) _ (opening-says 3 f Anything tt) (λ _ _. body-over room)))
 
   decode-over : Says (λ _. ⊥) Anything (decodeOf ys)
   unfolding decodeOf
   decode-over =
       by-row (λ _. ⊥) Anything (ltb (length ys) 3) _ _ (λ _. tt)
-      (λ _. by-step (λ _. Header f n) Anything (λ _. ⊥) (headerFault 2 f n) _ (header-says 2 f n Anything tt tt)
-      (λ _ h. body-over (h .room)))
+      (λ _. by-step (λ _. Header (f .h) n) Anything (λ _. ⊥) (headerFault 2 (f .h) n) _ (header-says 2 (f .h) n Anything tt tt)
+      (λ _ h. opened-over (h .room)))
 
   read-same : readOf xs ≡ readOf ys
   unfolding readOf
   read-same = rw decode-same (same-after (λ _. ⊥) Anything (decodeOf ys) _ _ decode-over (λ l none. absurd none))
 
--- an input is read as its first 964 bytes are
+-- an input is read as its first 966 bytes are
 pub first-bytes : (bs : List ℕ) → readOf (take readLimit bs) ≡ readOf bs
 first-bytes bs = go (leb (length bs) readLimit) refl
   where

@@ -1,9 +1,10 @@
 -- What reading says of an input, and the round trips, with what they rest on: map bytes, the places of fields, of map bytes and those that
--- refusals carry; the longest one form; and that the first 964 bytes decide how an input is read. The crates above may cite what is public.
+-- refusals carry; the longest one form; and that the first 966 bytes decide how an input is read. The crates above may cite what is public.
 mod MapBytes
 mod Places
 mod CarriedPlaces
 mod FieldTrip
+mod HeaderTrip
 mod EntryTrip
 mod ListTrip
 mod MapPlaces

@@ -8,9 +8,10 @@ use lib.ListN.{length, getD, replicate}
 use lib.Seq.{take-append-seam}
 use Rattle.list.specs.Entries.{entryFault}
 use Rattle.format.specs.Forms.{entryBytes}
+use Rattle.format.specs.Headers.{headerBytes}
 use Rattle.list.specs.DayLists.{entriesOf, blank, dayList}
 use Rattle.list.specs.Clashes.{Apart}
-use Rattle.list.specs.Checks.{WellFormed, headerFault, entriesFault, valuesFault}
+use Rattle.list.specs.Checks.{WellFormed, headerFault, openingFault, entriesFault, valuesFault}
 use Rattle.format.specs.Writing.{bytesOfEntries, bytesOf, longestList}
 use Rattle.list.specs.declared.types.Seal.the-variants.{Number}
 use Rattle.list.specs.declared.types.Kind.the-variants.{Pause}
@@ -26,7 +27,7 @@ longest l w = list-short l (form-fits l w)
 -- k entries that write all their fields, no two of one serial
 fullEntries : ℕ → List Entry
 fullEntries zero = []
-fullEntries (suc k) = record { serial = k; seal = Number 0; r = 1; d = 2; p = 1; kind = Pause } ∷ fullEntries k
+fullEntries (suc k) = record { serial = k; seal = Number 0; r = 2; d = 3; p = 1; kind = Pause } ∷ fullEntries k
 
 full-length : (k : ℕ) → length (fullEntries k) ≡ k
 unfolding fullEntries
@@ -45,9 +46,9 @@ full-apart k i j c =
     let earlier : i < k = omega (arith, c .earlier, later) in
     omega (arith, c .serial, full-serial k i earlier, full-serial k j later, c .earlier, later)
 
--- 64 of them
+-- 64 of them, in a room that opens after midnight
 fullest : DayList
-fullest = dayList (record { h = 1440 }) (fullEntries 64)
+fullest = dayList (record { h = 1440; opening = 1 }) (fullEntries 64)
 
 fullest-apart : Apart (entriesOf fullest)
 unfolding fullest
@@ -55,5 +56,5 @@ fullest-apart = rw (take-append-seam (fullEntries 64) (replicate (64 - length (f
 
 -- some list's one form is as long
 pub longest-reached : (l : DayList) × WellFormed l × (length (bytesOf l) ≡ longestList)
-unfolding fullest fullEntries valuesFault headerFault entriesFault entryFault bytesOf bytesOfEntries entryBytes
+unfolding fullest fullEntries valuesFault headerFault openingFault entriesFault entryFault bytesOf headerBytes bytesOfEntries entryBytes
 longest-reached = (fullest, values-apart fullest refl fullest-apart, refl)

@@ -83,19 +83,19 @@ module _ (f : Frame) (bs : List ℕ) where
       (λ size more s. each-read k (at + size) (more .0) (more .1) (rw (drop-drop size at bs) at s))
 
 -- the entry lies inside the input, and it begins where the one forms of those before it end
-module _ (f : Frame) (bs : List ℕ) (es : List Entry) (i : ℕ) (read : ReadFrom f bs 3 es i) where
+module _ (f : Frame) (bs : List ℕ) (from : ℕ) (es : List Entry) (i : ℕ) (read : ReadFrom f bs from es i) where
   pub map-inside : read .place < length bs
   map-inside =
       let rest = drop (read .place) bs in
       let taken : TakenEntry f rest (getD es i blank, read .size) = rw (read .here) at (entry-says f (read .place) rest _ refl) in
       omega (arith, taken .within, taken .some, length-drop (read .place) bs)
 
-  pub map-form : 3 ≤ length bs → Bytes bs → 3 + length (bytesOfEntries f (take i es)) ≡ read .place
+  pub map-form : from ≤ length bs → Bytes bs → from + length (bytesOfEntries f (take i es)) ≡ read .place
   map-form long b =
-      let body = drop 3 bs in
-      let all : 3 + length body ≡ length bs = omega (arith, length-drop 3 bs) in
+      let body = drop from bs in
+      let all : from + length body ≡ length bs = omega (arith, length-drop from bs) in
       let taken : TakenEntries f i body (length bs) (take i es, read .place) =
-      rw (read .before) at (entries-say f i 3 body (length bs) all) in
+      rw (read .before) at (entries-say f i from body (length bs) all) in
       let form : length body ≡ length (bytesOfEntries f (take i es)) + length (taken .rest) =
-      ap length (taken .form (bytes-drop bs 3 b)) ∙ length-append (bytesOfEntries f (take i es)) (taken .rest) in
+      ap length (taken .form (bytes-drop bs from b)) ∙ length-append (bytesOfEntries f (take i es)) (taken .rest) in
       omega (arith, form, taken .left, all)

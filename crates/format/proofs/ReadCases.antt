@@ -1,22 +1,25 @@
 -- Reading a list, case by case: what code knows before, after and between the entries.
 -- Assumes nothing.
 use mathlib.Core.Path.{_≡_, refl, sym, ap, _∙_}
+use mathlib.Core.Bool.{true, false}
 use mathlib.Core.List.{List, [], _∷_, _++_, append-assoc, append-nil}
 use Prim.Native.Nat.{ℕ, suc, _+_, _-_, _≤_, _<_}
 use native.Mathlib.Nat.{sub-zero}
 use native.Mathlib.Numerals.{add-one}
 use native.Mathlib.Omega.{arith}
-use borrow.Author.Tests.{lt-ltb, le-ltb}
+use borrow.Author.Tests.{lt-ltb, le-ltb, eq-eqb, ne-eqb}
 use lib.Dec.{ltb}
 use lib.ListN.{length, take, drop, set, replicate, length-take, length-drop, length-set}
 use lib.Seq.{take-all, take-suc-set, drop-drop}
 use Rattle.base.specs.Outcomes.{Code, code, Outcome, answered, refused, row, firstOf, andThen}
 use Rattle.list.specs.Refusals.{codeOf, verdictOf}
+use Rattle.format.specs.LittleEndian.{u16At}
 use Rattle.format.specs.EntryFields.{entryOf, entryAnswerOf}
 use Rattle.list.specs.DayLists.{blank, dayList, emptyList, entriesOf}
 use Rattle.list.specs.Clashes.{firstClash}
-use Rattle.list.specs.Checks.{headerFault}
-use Rattle.format.specs.Reading.{entriesFrom, frameOf, countOf, bodyOf, decodeOf, mapPlace, readOf, listOr}
+use Rattle.list.specs.Checks.{headerFault, openingFault}
+use Rattle.format.specs.Headers.{openingWritten, countOf, frameOf, entriesPlace, zeroWritten}
+use Rattle.format.specs.Reading.{entriesFrom, bodyOf, openedOf, decodeOf, mapPlace, readOf, listOr}
 use Rattle.format.specs.Internal.{ReadsAs}
 use Rattle.list.specs.declared.types.Entry.{Entry}
 use Rattle.list.specs.declared.types.Frame.{Frame}
@@ -28,6 +31,7 @@ use Rattle.list.specs.declared.types.ReadAnswer.{ReadAnswer}
 use Rattle.format.specs.declared.entry.EntryAnswer.{EntryAnswer}
 use Rattle.format.specs.declared.entry.EntryAnswer.the-variants.{Taken, NotTaken}
 use Rattle.format.proofs.EntryTrip.{TakenEntry, entry-says}
+use Rattle.list.proofs.Sound.{opening-passes}
 use Rattle.list.proofs.Filling.{blank-after, filled-list}
 
 -- the entries es in front of those that are still to come
@@ -40,13 +44,13 @@ oneMore f k at bs =
     andThen (entryOf f at bs)
     (λ one. andThen (entriesFrom f k (at + one .1) (drop (one .1) bs)) (λ more. answered (one .0 ∷ more .0, more .1)))
 
--- i of n entries were read, up to place at
-pub record SoFar (f : Frame) (n : ℕ) (bs : List ℕ) (entries : List Entry) (at i : ℕ) : Type 0 where
+-- of n entries that begin at place from, i were read, up to place at
+pub record SoFar (f : Frame) (n : ℕ) (bs : List ℕ) (from : ℕ) (entries : List Entry) (at i : ℕ) : Type 0 where
   pub passed : i ≤ n
   pub inside : at ≤ length bs
   pub long : length entries ≡ 64
   pub unused : drop i entries ≡ replicate (64 - i) blank
-  pub rest : entriesFrom f n 3 (drop 3 bs) ≡ before (take i entries) (entriesFrom f (n - i) at (drop at bs))
+  pub rest : entriesFrom f n from (drop from bs) ≡ before (take i entries) (entriesFrom f (n - i) at (drop at bs))
 
 before-nothing : (o : Outcome (List Entry × ℕ)) → o ≡ before [] o
 before-nothing (answered p) = refl
@@ -57,8 +61,8 @@ before-one : (es : List Entry) (e : Entry) (o : Outcome (List Entry × ℕ))
 before-one es e (answered p) = ap (λ (l : List Entry). answered (l, p .1)) (sym (append-assoc es (e ∷ []) (p .0)))
 before-one es e (refused k) = refl
 
-pub start : (f : Frame) (n : ℕ) (bs : List ℕ) → 3 ≤ length bs → SoFar f n bs (replicate 64 blank) 3 0
-start f n bs h =
+pub start : (f : Frame) (n : ℕ) (bs : List ℕ) (from : ℕ) → from ≤ length bs → SoFar f n bs from (replicate 64 blank) from 0
+start f n bs from h =
     record {
       passed = omega arith;
       inside = h;
@@ -91,17 +95,17 @@ size-here f at bs a e size h q t =
     let taken : TakenEntry f rest (e, size) = rw (taken-here f at bs a e size q t) at (entry-says f at rest _ refl) in
     omega (arith, taken .within, length-drop at bs)
 
-module _ {f : Frame} {n : ℕ} {bs : List ℕ} {entries : List Entry} {at i : ℕ} (s : SoFar f n bs entries at i) where
-  turn : i < n → entriesFrom f n 3 (drop 3 bs) ≡ before (take i entries) (oneMore f (n - (i + 1)) at (drop at bs))
+module _ {f : Frame} {n : ℕ} {bs : List ℕ} {from : ℕ} {entries : List Entry} {at i : ℕ} (s : SoFar f n bs from entries at i) where
+  turn : i < n → entriesFrom f n from (drop from bs) ≡ before (take i entries) (oneMore f (n - (i + 1)) at (drop at bs))
   unfolding entriesFrom
   turn h = let q : n - i ≡ suc (n - (i + 1)) = omega arith in s .rest ∙ rw q
 
   pub entry-refused : (a : EntryAnswer) (x : Refusal) → i < n → ReadHere f at bs a → a ≡ NotTaken x
-      → entriesFrom f n 3 (drop 3 bs) ≡ refused (codeOf x)
+      → entriesFrom f n from (drop from bs) ≡ refused (codeOf x)
   entry-refused a x h q t = rw (turn h, refused-here f at bs a x q t)
 
   pub next : (a : EntryAnswer) (e : Entry) (size : ℕ) → n ≤ 64 → i < n → ReadHere f at bs a → a ≡ Taken e size
-      → SoFar f n bs (set entries i e) (at + size) (i + 1)
+      → SoFar f n bs from (set entries i e) (at + size) (i + 1)
   next a e size room h q t =
       record {
         passed = omega arith;
@@ -120,7 +124,7 @@ module _ {f : Frame} {n : ℕ} {bs : List ℕ} {entries : List Entry} {at i : �
           rw (taken-here f at bs a e size q t, taken, ← drop-drop size at bs)
           (before-one (take i entries) e (entriesFrom f (n - (i + 1)) (at + size) (drop size (drop at bs))))
 
-  pub done : n ≤ i → entriesFrom f n 3 (drop 3 bs) ≡ answered (take i entries, at)
+  pub done : n ≤ i → entriesFrom f n from (drop from bs) ≡ answered (take i entries, at)
   unfolding entriesFrom
   done h =
       let z : n - i ≡ 0 = omega arith in
@@ -133,21 +137,21 @@ module _ {f : Frame} {n : ℕ} {bs : List ℕ} {entries : List Entry} {at i : �
       filled-list f n (take i entries) entries k (rw z) (rw z at (s .unused))
 
 -- after the entries: row 8, or the list
-module _ (bs : List ℕ) (f : Frame) (n : ℕ) (p : f ≡ frameOf bs) (q : n ≡ countOf bs) where
+module _ (bs : List ℕ) (f : Frame) (n from : ℕ) (p : f ≡ frameOf bs) (q : n ≡ countOf bs) (s : from ≡ entriesPlace bs) where
   body : bodyOf bs
-      ≡ andThen (entriesFrom f n 3 (drop 3 bs))
+      ≡ andThen (entriesFrom f n from (drop from bs))
       (λ all. firstOf (row 8 (ltb (all .1) (length bs)) (all .1) ∷ []) (answered (dayList f (all .0))))
   unfolding bodyOf
-  body = rw (p, q)
+  body = rw (p, q, s)
 
-  pub body-refused : (k : Code) → entriesFrom f n 3 (drop 3 bs) ≡ refused k → bodyOf bs ≡ refused k
+  pub body-refused : (k : Code) → entriesFrom f n from (drop from bs) ≡ refused k → bodyOf bs ≡ refused k
   body-refused k e = rw (body, e)
 
-  pub body-left : (es : List Entry) (end : ℕ) → entriesFrom f n 3 (drop 3 bs) ≡ answered (es, end) → end < length bs
+  pub body-left : (es : List Entry) (end : ℕ) → entriesFrom f n from (drop from bs) ≡ answered (es, end) → end < length bs
       → bodyOf bs ≡ refused (code 8 (end ∷ []))
   body-left es end e h = rw (body, e) (simp (lt-ltb _ _ h))
 
-  pub body-done : (es : List Entry) (end : ℕ) → entriesFrom f n 3 (drop 3 bs) ≡ answered (es, end) → length bs ≤ end
+  pub body-done : (es : List Entry) (end : ℕ) → entriesFrom f n from (drop from bs) ≡ answered (es, end) → length bs ≤ end
       → bodyOf bs ≡ answered (dayList f es)
   body-done es end e h = rw (body, e) (simp (le-ltb _ _ h))
 
@@ -159,22 +163,70 @@ reads-refused o a x p q = record { outcome = rw (p, q); beside = rw (p, q) }
 pub reads-list : (o : Outcome DayList) (l : DayList) → o ≡ answered l → ReadsAs o (record { verdict = Accepted; list = l })
 reads-list o l q = record { outcome = sym q; beside = rw q }
 
--- the header
+-- the header: rows 1 to 3
 module _ (bs : List ℕ) where
   pub decode-short : length bs < 3 → decodeOf bs ≡ refused (code 1 (length bs ∷ []))
   unfolding decodeOf
   decode-short h = simp (lt-ltb _ _ h)
 
-  module _ (f : Frame) (v : Verdict) (p : f ≡ frameOf bs) (h : 3 ≤ length bs) (w : verdictOf v ≡ headerFault 2 f (countOf bs)) where
-    header : decodeOf bs ≡ andThen (verdictOf v) (λ _. bodyOf bs)
+  module _ (v : Verdict) (h : 3 ≤ length bs) (w : verdictOf v ≡ headerFault 2 (frameOf bs .h) (countOf bs)) where
+    header : decodeOf bs ≡ andThen (verdictOf v) (λ _. openedOf bs)
     unfolding decodeOf
-    header = rw w (rw p (simp (le-ltb _ _ h)))
+    header = rw w (simp (le-ltb _ _ h))
 
     pub decode-header : (x : Refusal) → v ≡ Refused x → decodeOf bs ≡ refused (codeOf x)
     decode-header x a = rw (header, a)
 
-    pub decode-body : v ≡ Accepted → decodeOf bs ≡ bodyOf bs
-    decode-body a = rw (header, a)
+    pub decode-opened : v ≡ Accepted → decodeOf bs ≡ openedOf bs
+    decode-opened a = rw (header, a)
+
+  -- the rows of an opening minute
+  pub opened-short : length bs < entriesPlace bs → openedOf bs ≡ refused (code 1 (length bs ∷ []))
+  unfolding openedOf
+  opened-short h = simp (lt-ltb _ _ h)
+
+  module _ (h : entriesPlace bs ≤ length bs) where
+    pub opened-zero : zeroWritten bs ≡ true → openedOf bs ≡ refused (code 15 (3 ∷ []))
+    unfolding openedOf
+    opened-zero z = simp (le-ltb _ _ h, z)
+
+    module _ (kept : zeroWritten bs ≡ false) (f : Frame) (p : f ≡ frameOf bs) (v : Verdict) (w : verdictOf v ≡ openingFault 3 f) where
+      opening : openedOf bs ≡ andThen (verdictOf v) (λ _. bodyOf bs)
+      unfolding openedOf
+      opening = rw w (rw p (simp (le-ltb _ _ h, kept)))
+
+      pub opened-refused : (x : Refusal) → v ≡ Refused x → openedOf bs ≡ refused (codeOf x)
+      opened-refused x a = rw (opening, a)
+
+      pub opened-body : v ≡ Accepted → openedOf bs ≡ bodyOf bs
+      opened-body a = rw (opening, a)
+
+-- the opening minute, as code reads it: written,
+module _ (bs : List ℕ) (w : openingWritten bs ≡ true) where
+  pub written-place : 5 ≡ entriesPlace bs
+  written-place = rw w refl
+
+  pub written-frame : (h opening : ℕ) → h ≡ u16At bs 0 → opening ≡ u16At bs 3 → record { h = h; opening = opening } ≡ frameOf bs
+  written-frame h opening p q = rw (w, p, q) refl
+
+  pub written-zero : u16At bs 3 ≡ 0 → zeroWritten bs ≡ true
+  written-zero z = rw w (eq-eqb _ _ z)
+
+  pub written-kept : (u16At bs 3 ≡ 0 → ⊥) → zeroWritten bs ≡ false
+  written-kept z = rw w (ne-eqb _ _ z)
+
+-- and not written
+module _ (bs : List ℕ) (w : openingWritten bs ≡ false) where
+  pub unwritten-place : 3 ≡ entriesPlace bs
+  unwritten-place = rw w refl
+
+  pub unwritten-frame : (h : ℕ) → h ≡ u16At bs 0 → record { h = h; opening = 0 } ≡ frameOf bs
+  unwritten-frame h p = rw (w, p) refl
+
+  pub opened-unwritten : 3 ≤ length bs → (h : ℕ) → h ≡ u16At bs 0 → 0 < h → openedOf bs ≡ bodyOf bs
+  opened-unwritten long h p some =
+      let f : Frame = record { h = h; opening = 0 } in
+      opened-body bs (rw (← unwritten-place) long) (rw w refl) f (unwritten-frame h p) Accepted (sym (opening-passes 3 f some)) refl
 
 -- row 14, or the list
 module _ (bs : List ℕ) (a : ReadAnswer) (decoded : ReadsAs (decodeOf bs) a) where

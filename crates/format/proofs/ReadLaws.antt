@@ -1,8 +1,9 @@
--- What reading says of an input: what a list is that rows 1 to 8 leave, where its entries were read, and when 14 is given.
+-- What reading says of an input: what a list is that rows 1 to 8, 15 and 16 leave, where its entries were read, and when 14 is given.
 -- Assumes nothing.
 use mathlib.Core.Path.{_≡_, refl, sym, ap, _∙_}
+use mathlib.Core.Bool.{Bool, true, false}
 use mathlib.Core.Logic.{inl, inr}
-use mathlib.Core.List.{List, [], append-nil}
+use mathlib.Core.List.{List, [], _∷_, append-nil}
 use Prim.Native.Nat.{ℕ, _+_, _-_, _≤_, _<_}
 use native.Mathlib.Omega.{arith}
 use borrow.Author.Tests.{ltb-true, ltb-false, le-ltb, lt-ltb}
@@ -10,36 +11,39 @@ use lib.Dec.{ltb}
 use lib.ListN.{length, getD, take, drop, length-append, length-take, length-drop, length-replicate, drop-of-length-le}
 use lib.Seq.{take-append-seam, take-take}
 use Rattle.list.specs.Machine.{Bytes, Typed}
-use Rattle.base.specs.Outcomes.{Code, answered, refused}
+use Rattle.base.specs.Outcomes.{Code, code, answered, refused}
 use Rattle.list.specs.DayLists.{entriesOf, blank, dayList}
 use Rattle.list.specs.Clashes.{firstClash, Apart}
-use Rattle.list.specs.Checks.{WellFormed, headerFault}
-use Rattle.format.specs.Reading.{entriesFrom, frameOf, countOf, bodyOf, decodeOf, placeAfter, mapPlace, readOf}
+use Rattle.list.specs.Checks.{WellFormed, headerFault, openingFault}
+use Rattle.format.specs.Headers.{openingWritten, countOf, frameOf, headerSize, entriesPlace, zeroWritten}
+use Rattle.format.specs.Reading.{entriesRead, bodyOf, openedOf, decodeOf, placeAfter, mapPlace, readOf}
 use Rattle.format.specs.Laws.{PlaceIn, ClashRead, ReadRefusal, ReadLaw}
 use Rattle.format.specs.Internal.{firstEntries}
 use Rattle.format.specs.Writing.{bytesOfEntries, bytesOf}
 use Rattle.list.specs.declared.types.Entry.{Entry}
 use Rattle.list.specs.declared.types.Frame.{Frame}
 use Rattle.list.specs.declared.types.DayList.{DayList}
-use Rattle.base.proofs.Inversion.{Says, by-row, by-step, says-which, says-refusal}
+use Rattle.base.proofs.Inversion.{Says, by-row, by-step, says-which, says-refusal, both}
 use Rattle.format.proofs.CarriedPlaces.{at-end, at-place}
 use Rattle.list.proofs.ClashFacts.{apart, first-clash, apart-told, first-told}
-use Rattle.list.proofs.Sound.{Header, header-says, SoundList, well-formed}
-use Rattle.format.proofs.FieldTrip.{bytes-drop, u16-stands, byte-stands}
+use Rattle.list.proofs.Sound.{Header, header-says, OpensIn, opening-says, opening-passes, SoundList, well-formed}
+use Rattle.format.proofs.FieldTrip.{bytes-drop}
+use Rattle.format.proofs.HeaderTrip.{later-again, header-stands}
 use Rattle.format.proofs.EntryTrip.{EntryFits}
 use Rattle.format.proofs.WriteCases.{form-length}
 use Rattle.format.proofs.ListTrip.{TakenEntries, entries-say, every-at}
 use Rattle.format.proofs.MapPlaces.{ReadFrom, each-read, map-inside, map-form}
 
--- what a list is that rows 1 to 8 leave: sound, the list whose one form was read, and its entries are those read
+-- what a list is that those rows leave: sound, the list whose one form was read, and its entries are those read
 record Decoded (bs : List ℕ) (l : DayList) : Type 0 where
   sound : SoundList l
   form : Bytes bs → bytesOf l ≡ bs
   typed : Bytes bs → Typed l
-  long : 3 ≤ length bs
+  long : entriesPlace bs ≤ length bs
   frame : l .frame ≡ frameOf bs
-  all : entriesFrom (frameOf bs) (countOf bs) 3 (drop 3 bs) ≡ answered (entriesOf l, length bs)
-  each : (i : ℕ) → i < length (entriesOf l) → ReadFrom (frameOf bs) bs 3 (entriesOf l) i
+  kept : zeroWritten bs ≡ false
+  all : entriesRead bs (countOf bs) ≡ answered (entriesOf l, length bs)
+  each : (i : ℕ) → i < length (entriesOf l) → ReadFrom (frameOf bs) bs (entriesPlace bs) (entriesOf l) i
 
 module _ (bs : List ℕ) where
   abbrev f : Frame
@@ -48,13 +52,16 @@ module _ (bs : List ℕ) where
   abbrev n : ℕ
   n = countOf bs
 
+  abbrev from : ℕ
+  from = entriesPlace bs
+
   -- what holds of the entries that are taken after the header
   abbrev Entries : List Entry × ℕ → Type 0
-  Entries = TakenEntries f n (drop 3 bs) (length bs)
+  Entries = TakenEntries f n (drop from bs) (length bs)
 
   -- the list that they make, if no byte is left over
-  module _ (long : 3 ≤ length bs) (h : Header f n) (x : List Entry × ℕ) (taken : Entries x)
-      (read : entriesFrom f n 3 (drop 3 bs) ≡ answered x) (done : length bs ≤ x .1) where
+  module _ (long : from ≤ length bs) (h : Header (f .h) n) (zero : zeroWritten bs ≡ false) (o : OpensIn f) (x : List Entry × ℕ)
+      (taken : Entries x) (read : entriesRead bs n ≡ answered x) (done : length bs ≤ x .1) where
     abbrev es : List Entry
     es = x .0
 
@@ -65,13 +72,13 @@ module _ (bs : List ℕ) where
     unfolding bytesOf
     one-form b =
         let none : taken .rest ≡ [] = drop-of-length-le (taken .rest) {i = 0} (omega (arith, taken .left)) in
-        let body : drop 3 bs ≡ bytesOfEntries f es = taken .form (bytes-drop bs 3 b) ∙ rw none (append-nil _) in
-        rw (kept, taken .count, ← body, ← byte-stands bs 2 long, ← u16-stands bs b 0 (omega arith))
+        let body : drop from bs ≡ bytesOfEntries f es = taken .form (bytes-drop bs from b) ∙ rw none (append-nil _) in
+        rw (kept, taken .count, ← body) (sym (header-stands bs zero b long))
 
     in-types : Bytes bs → Typed (dayList f es)
     in-types b =
         let fits : (i : ℕ) → EntryFits (getD (dayList f es .entries) i blank) =
-        λ i. every-at EntryFits es (64 - length es) i (record { serial = omega arith; seal = tt }) (taken .fits (bytes-drop bs 3 b)) in
+        λ i. every-at EntryFits es (64 - length es) i (record { serial = omega arith; seal = tt }) (taken .fits (bytes-drop bs from b)) in
         record {
           long = simp (length-append, length-replicate) (omega (arith, taken .count, h .room));
           serial = λ i. fits i .serial;
@@ -84,36 +91,58 @@ module _ (bs : List ℕ) where
     decoded : Decoded bs (dayList f es)
     decoded =
         record {
-          sound = record { header = rw (taken .count) h; entries = rw kept (taken .sound) };
+          sound = record { header = rw (taken .count) h; opening = o; entries = rw kept (taken .sound) };
           form = one-form;
           typed = in-types;
           long = long;
           frame = refl;
+          kept = zero;
           all = read ∙ rw (kept, end) refl;
-          each = rw kept (λ i l. each-read f bs n 3 es (x .1) read i (omega (arith, l, taken .count)));
+          each = rw kept (λ i l. each-read f bs n from es (x .1) read i (omega (arith, l, taken .count)));
         }
 
-  -- what rows 1 to 8 say
+  -- where 15 is given, the opening minute is written, so that its place is inside
+  fifteen : from ≤ length bs → openingWritten bs ≡ true → PlaceIn (length bs) (code 15 (3 ∷ []))
+  fifteen long w =
+      let more : headerSize true ≤ length bs = rw w at long in
+      at-place (length bs) 15 3 (omega arith) (inr (inl refl)) (omega (arith, more))
+
+  opening-placed : from ≤ length bs → 1 ≤ f .h → (t : Bool) → openingWritten bs ≡ t
+      → Says (λ _. OpensIn f) (PlaceIn (length bs)) (openingFault 3 f)
+  opening-placed long h true w = opening-says 3 f (PlaceIn (length bs)) (fifteen long w)
+  opening-placed long h false w = let o : OpensIn f = rw w h in rw (opening-passes 3 f o) o
+
+  -- what the rows of the opening minute, of the entries and row 8 say
+  opened-says : Header (f .h) n → Says (Decoded bs) (PlaceIn (length bs)) (openedOf bs)
+  unfolding openedOf bodyOf
+  opened-says h =
+      let P = Decoded bs in
+      let R = PlaceIn (length bs) in
+      by-row P R (ltb (length bs) from) _ _ (λ t. at-end (length bs) _ refl)
+      (λ t.
+      let long : from ≤ length bs = ltb-false _ _ t in
+      let rest : from + length (drop from bs) ≡ length bs = simp length-drop (omega arith) in
+      let o = entriesRead bs n in
+      let said = says-which Entries R o (entries-say f n from (drop from bs) (length bs) rest) in
+      by-row P R (zeroWritten bs) _ _ (λ z. fifteen long (both (openingWritten bs) _ z .0))
+      (λ z. by-step (λ _. OpensIn f) R P (openingFault 3 f) _ (opening-placed long (h .some-minutes) (openingWritten bs) refl)
+      (λ _ opens. by-step (λ x. Entries x × (o ≡ answered x)) R P o _
+      (says-refusal (λ x. Entries x × (o ≡ answered x)) (λ k. R k × (o ≡ refused k)) R o (λ _ p. p .0) said)
+      (λ x taken. by-row P R (ltb (x .1) (length bs)) _ _ (λ l. at-place _ 8 (x .1) (omega arith) (inl (omega arith)) (ltb-true _ _ l))
+      (λ l. decoded long h z opens x (taken .0) (taken .1) (ltb-false _ _ l))))))
+
+  -- what rows 1 to 8, 15 and 16 say
   decode-says : Says (Decoded bs) (PlaceIn (length bs)) (decodeOf bs)
-  unfolding decodeOf bodyOf
+  unfolding decodeOf
   decode-says =
       let P = Decoded bs in
       let R = PlaceIn (length bs) in
       by-row P R (ltb (length bs) 3) _ _ (λ t. at-end (length bs) _ refl)
       (λ t.
       let long : 3 ≤ length bs = ltb-false _ _ t in
-      let two = at-place (length bs) 2 0 (omega arith) (omega arith) (omega arith) in
-      let three = at-place (length bs) 3 2 (omega arith) (omega arith) (omega arith) in
-      let rest : 3 + length (drop 3 bs) ≡ length bs = simp length-drop (omega arith) in
-      by-step (λ _. Header f n) R P (headerFault 2 f n) _
-      (header-says 2 f n R two three)
-      (λ _ h.
-      let o = entriesFrom f n 3 (drop 3 bs) in
-      let said = says-which Entries R o (entries-say f n 3 (drop 3 bs) (length bs) rest) in
-      by-step (λ x. Entries x × (o ≡ answered x)) R P o _
-      (says-refusal (λ x. Entries x × (o ≡ answered x)) (λ k. R k × (o ≡ refused k)) R o (λ _ p. p .0) said)
-      (λ x taken. by-row P R (ltb (x .1) (length bs)) _ _ (λ l. at-place _ 8 (x .1) (omega arith) (omega arith) (ltb-true _ _ l))
-      (λ l. decoded long h x (taken .0) (taken .1) (ltb-false _ _ l)))))
+      let two = at-place (length bs) 2 0 (omega arith) (inl (omega arith)) (omega arith) in
+      let three = at-place (length bs) 3 2 (omega arith) (inl (omega arith)) (omega arith) in
+      by-step (λ _. Header (f .h) n) R P (headerFault 2 (f .h) n) _ (header-says 2 (f .h) n R two three) (λ _ h. opened-says h))
 
   pub decoded-typed : (l : DayList) → decodeOf bs ≡ answered l → Bytes bs → Typed l
   decoded-typed l e = let d : Decoded bs l = rw e at decode-says in d .typed
@@ -129,7 +158,7 @@ module _ (bs : List ℕ) where
       let short : take i (entriesOf l) ≡ take i (l .entries) =
       take-take i (l .n) (l .entries) (omega (arith, h, length-take (l .n) (l .entries))) in
       form-length (firstEntries l i)
-      ∙ rw (← short, d .frame) (map-form f bs (entriesOf l) i read (d .long) b)
+      ∙ rw (← short, d .frame, later-again bs (d .kept)) (map-form f bs from (entriesOf l) i read (d .long) b)
       ∙ sym here
 
   -- row 14 carries such a place, inside the input
@@ -150,7 +179,7 @@ module _ (bs : List ℕ) where
         before = read .before;
         size = read .size;
         here = read .here;
-        inside = map-inside f bs (entriesOf l) _ read;
+        inside = map-inside f bs from (entriesOf l) _ read;
       })
 
   -- what reading says

@@ -2,28 +2,29 @@
 -- that are equal are written alike.
 -- Assumes nothing.
 use mathlib.Core.Path.{_≡_, refl, sym, ap, _∙_}
-use mathlib.Core.List.{List, _∷_, _++_}
+use mathlib.Core.List.{List, _++_}
 use Prim.Native.Nat.{ℕ, _+_, _-_, _≤_, _<_}
 use native.Mathlib.Omega.{arith}
 use borrow.Author.Tests.{le-ltb}
 use lib.Dec.{ltb}
-use lib.ListN.{length, take, drop, length-take}
+use lib.ListN.{length, take, drop, length-append, length-take}
 use lib.Seq.{take-append-seam, take-at}
 use Rattle.list.specs.Machine.{Bytes, Typed}
 use Rattle.base.specs.Outcomes.{Outcome, answered, refused}
 use Rattle.list.specs.DayLists.{entriesOf, dayList, SameList}
-use Rattle.list.specs.Checks.{WellFormed, checkOf}
-use Rattle.format.specs.Reading.{entriesFrom, frameOf, decodeOf, readOf}
+use Rattle.list.specs.Checks.{WellFormed, headerFault, checkOf}
+use Rattle.format.specs.Headers.{headerSize, entriesPlace, opensLater, headerBytes}
+use Rattle.format.specs.Reading.{entriesFrom, decodeOf, readOf}
 use Rattle.format.specs.Writing.{bytesOfEntries, bytesOf, writeOf, bufferAfter}
 use Rattle.list.specs.declared.types.DayList.{DayList}
 use Rattle.list.specs.declared.types.Verdict.the-variants.{Accepted}
 use Rattle.base.proofs.Inversion.{Says, by-row, by-step, Anything}
 use Rattle.list.proofs.Alike.{same-checked}
 use Rattle.list.proofs.ClashFacts.{apart-told}
-use Rattle.list.proofs.Sound.{header-passes, SoundList, check-says, sound-list, list-apart}
-use Rattle.format.proofs.FieldTrip.{u16-back}
+use Rattle.list.proofs.Sound.{header-passes, opening-passes, SoundList, check-says, sound-list, list-apart}
+use Rattle.format.proofs.HeaderTrip.{HeaderBack, header-back, header-length}
 use Rattle.format.proofs.EntryTrip.{EntryFits}
-use Rattle.format.proofs.ReadCases.{decode-body, body-done}
+use Rattle.format.proofs.ReadCases.{decode-opened, opened-body, body-done}
 use Rattle.format.proofs.WriteCases.{list-written}
 use Rattle.format.proofs.ListTrip.{entries-read-back, every-take}
 use Rattle.format.proofs.ReadLaws.{read-well-formed, read-one-form}
@@ -38,20 +39,27 @@ module _ (l : DayList) (t : Typed l) (w : WellFormed l) where
   counted : length (entriesOf l) ≡ l .n
   counted = simp length-take (omega (arith, t .long, sound .header .room))
 
-  entries-back : entriesFrom (l .frame) (l .n) 3 (bytesOfEntries (l .frame) (entriesOf l))
-      ≡ answered (entriesOf l, 3 + length (bytesOfEntries (l .frame) (entriesOf l)))
-  entries-back =
+  entries-back : (at : ℕ) → entriesFrom (l .frame) (l .n) at (bytesOfEntries (l .frame) (entriesOf l))
+      ≡ answered (entriesOf l, at + length (bytesOfEntries (l .frame) (entriesOf l)))
+  entries-back at =
       let fits = every-take EntryFits (l .entries) (l .n) (λ i. record { serial = t .serial i; seal = t .seal i }) in
-      rw counted at (entries-read-back (l .frame) 3 (entriesOf l) small fits (sound .entries))
+      rw counted at (entries-read-back (l .frame) at (entriesOf l) small fits (sound .entries))
 
   -- a well-formed list is read back from its one form: the same entries, and blank places after them
   decoded-back : decodeOf (bytesOf l) ≡ answered (dayList (l .frame) (entriesOf l))
   unfolding bytesOf
   decoded-back =
-      let same : l .frame ≡ frameOf (bytesOf l) =
-      ap (λ (x : ℕ). record { h = x }) (sym (u16-back (l .frame .h) (l .n ∷ bytesOfEntries (l .frame) (entriesOf l)) small)) in
-      decode-body (bytesOf l) (l .frame) Accepted same (omega arith) (sym (header-passes 2 (l .frame) (l .n) (sound .header))) refl
-      ∙ body-done (bytesOf l) (l .frame) (l .n) same refl (entriesOf l) _ entries-back (omega arith)
+      let f = l .frame in
+      let body = bytesOfEntries f (entriesOf l) in
+      let bs = headerBytes f (l .n) ++ body in
+      let back : HeaderBack f (l .n) body bs =
+      header-back f (l .n) body small (omega (arith, small, sound .opening)) (omega (arith, sound .header .room)) in
+      let long : length bs ≡ headerSize (opensLater f) + length body = length-append (headerBytes f (l .n)) body ∙ rw header-length in
+      let read = ap (entriesFrom f (l .n) (entriesPlace bs)) (back .after) ∙ entries-back (entriesPlace bs) in
+      decode-opened bs Accepted (omega (arith, long))
+      (sym (header-passes 2 (f .h) (l .n) (sound .header)) ∙ (λ j. headerFault 2 (back .frame j .h) (back .count j))) refl
+      ∙ opened-body bs (omega (arith, long, back .place)) (back .kept) f (back .frame) Accepted (sym (opening-passes 3 f (sound .opening))) refl
+      ∙ body-done bs f (l .n) (entriesPlace bs) (back .frame) (back .count) refl (entriesOf l) _ read (omega (arith, long, back .place))
 
   pub bytes-read-back : readOf (bytesOf l) ≡ answered (dayList (l .frame) (entriesOf l))
   unfolding readOf
@@ -71,7 +79,7 @@ module _ (l : DayList) (room : ℕ) where
   write-says : Says Answer Anything (writeOf l room)
   unfolding writeOf
   write-says =
-      by-step (λ _. WellFormed l) Anything Answer (checkOf l) _ (check-says l Anything tt tt (λ _. tt) (λ _. tt) (λ _ _. tt))
+      by-step (λ _. WellFormed l) Anything Answer (checkOf l) _ (check-says l Anything (λ _ _ _. tt) (λ _ _ _. tt) (λ _ _. tt))
       (λ _ w. by-row Answer Anything (ltb room (length (bytesOf l))) _ _ (λ t. tt) (λ t. (w, refl)))
 
 -- a well-formed list survives writing and reading: from the bytes that the writer stored, an equal list is read
@@ -100,7 +108,7 @@ read-writes-back bs l e b old h =
     let written : writeOf l (length old) ≡ answered (length bs) = rw form at done in
     (written, rw (written, form))
 
--- "Two list values are equal if H, n and the first n entries are": then the one form and the writer treat them alike
+-- "Two list values are equal if H, n and the first n entries are", and the opening minute is: then the one form and the writer treat them alike
 module _ (a b : DayList) (same : SameList a b) where
   -- they have one form
   pub same-bytes : bytesOf a ≡ bytesOf b

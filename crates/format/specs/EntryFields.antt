@@ -17,9 +17,9 @@ use Rattle.format.specs.declared.map.Fields.{Fields}
 use Rattle.format.specs.declared.entry.EntryAnswer.{EntryAnswer}
 use Rattle.format.specs.declared.entry.EntryAnswer.the-variants.{Taken, NotTaken}
 
--- "earliest minute r ..: missing means 0"
+-- "earliest minute r ..: missing means 0", and document 02: "A missing r means the opening minute"
 abbrev pub defaultR : Frame → ℕ
-defaultR f = 0
+defaultR f = f .opening
 
 -- "latest minute d ..: missing means H"
 abbrev pub defaultD : Frame → ℕ
@@ -42,7 +42,7 @@ entryAt f m bs =
       kind = m .kind;
     }
 
--- "A written r of 0, or a written d equal to H, is refused"
+-- "A written r of 0, or a written d equal to H, is refused", and document 02: "a written r equal to it is 5", to the opening minute
 abbrev pub defaultWritten : Frame → Fields → Entry → Bool
 defaultWritten f m e = (m .r && eqb (e .r) (defaultR f)) || (m .d && eqb (e .d) (defaultD f))
 
@@ -51,7 +51,7 @@ defaultWritten f m e = (m .r && eqb (e .r) (defaultR f)) || (m .d && eqb (e .d) 
 abbrev pub fieldRows : Frame → ℕ → Fields → List ℕ → List Row
 fieldRows f at m bs = row 1 (ltb (length bs) (sizeOf m)) (at + length bs) ∷ row 5 (defaultWritten f m (entryAt f m bs)) at ∷ []
 
--- that entry with the bytes that it took, or the first of its rows 1, 5, 6 and 7 that holds
+-- that entry with the bytes that it took, or the first of its rows 1, 5, 16, 6 and 7 that holds
 unfoldable pub fieldsEntry : Frame → ℕ → Fields → List ℕ → Outcome (Entry × ℕ)
 fieldsEntry f at m bs =
     firstOf (fieldRows f at m bs) (andThen (entryFault f at (entryAt f m bs)) (λ _. answered (entryAt f m bs, sizeOf m)))

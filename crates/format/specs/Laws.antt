@@ -9,25 +9,30 @@ use Rattle.list.specs.DayLists.{entriesOf, blank}
 use Rattle.list.specs.Clashes.{Apart, FirstClash}
 use Rattle.list.specs.declared.types.DayList.{DayList}
 use Rattle.format.specs.EntryFields.{entryOf}
-use Rattle.format.specs.Reading.{entriesFrom, frameOf, countOf, decodeOf, readOf}
+use Rattle.format.specs.Headers.{frameOf, countOf}
+use Rattle.format.specs.Reading.{entriesRead, decodeOf, readOf}
 
--- A refusal of an input of this length: one of the rows 1 to 8, of which 1 carries the length and any other a place inside the input.
+-- the rows of reading that look at one entry or at the header, or at the input's length: 1 to 8, 15 and 16
+abbrev pub ReadingRow : ℕ → Type 0
+ReadingRow n = (n ≤ 8) ⊎ ((n ≡ 15) ⊎ (n ≡ 16))
+
+-- A refusal of an input of this length: one of those rows, of which 1 carries the length and any other a place inside the input.
 pub record PlaceIn (len : ℕ) (k : Code) : Type 0 where
-  pub reading : k .number ≤ 8
+  pub reading : ReadingRow (k .number)
   pub place : ℕ
   pub carried : k .carries ≡ place ∷ []
   pub missing : k .number ≡ 1 → place ≡ len
   pub inside : (k .number ≡ 1 → ⊥) → place < len
 
--- A refusal by 14 that carries the place at: rows 1 to 8 leave a list, whose entries take all of the input; this is its first entry that
+-- A refusal by 14 that carries the place at: those rows leave a list, whose entries take all of the input; this is its first entry that
 -- clashes with an earlier one; reading the entries before it ends at that place, and there, inside the input, it was read, map byte first.
 pub record ClashRead (bs : List ℕ) (at : ℕ) : Type 0 where
   pub list : DayList
   pub decoded : decodeOf bs ≡ answered list
-  pub all : entriesFrom (frameOf bs) (countOf bs) 3 (drop 3 bs) ≡ answered (entriesOf list, length bs)
+  pub all : entriesRead bs (countOf bs) ≡ answered (entriesOf list, length bs)
   pub entry : ℕ
   pub first : FirstClash (entriesOf list) entry
-  pub before : entriesFrom (frameOf bs) entry 3 (drop 3 bs) ≡ answered (take entry (entriesOf list), at)
+  pub before : entriesRead bs entry ≡ answered (take entry (entriesOf list), at)
   pub size : ℕ
   pub here : entryOf (frameOf bs) at (drop at bs) ≡ answered (getD (entriesOf list) entry blank, size)
   pub inside : at < length bs
@@ -38,9 +43,9 @@ ReadRefusal bs k = (PlaceIn (length bs) k × (decodeOf bs ≡ refused k)) ⊎ ((
 
 pub record ReadLaw (bs : List ℕ) : Type 0 where
   pub refusal : (k : Code) → readOf bs ≡ refused k → ReadRefusal bs k
-  -- rows 1 to 8 come first
+  -- rows 1 to 8, 15 and 16 come first
   pub before : (k : Code) → decodeOf bs ≡ refused k → readOf bs ≡ refused k
-  -- of the lists that rows 1 to 8 leave, those in which no two entries clash are read, and all others are refused by 14
+  -- of the lists that they leave, those in which no two entries clash are read, and all others are refused by 14
   pub apart : (l : DayList) → decodeOf bs ≡ answered l → Apart (entriesOf l) → readOf bs ≡ answered l
   pub clash : (l : DayList) → decodeOf bs ≡ answered l → (k : ℕ) → FirstClash (entriesOf l) k
       → (at : ℕ) × (readOf bs ≡ refused (code 14 (at ∷ [])))

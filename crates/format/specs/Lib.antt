@@ -1,8 +1,9 @@
 pub mod LittleEndian
 pub mod Maps
 pub mod EntryFields
-pub mod Reading
 pub mod Forms
+pub mod Headers
+pub mod Reading
 pub mod Writing
 pub mod Laws
 pub mod Calls

@@ -4,8 +4,8 @@ use mathlib.Core.List.{List, [], _∷_, _++_}
 use lib.ListN.{length, drop}
 use lib.Dec.{ltb}
 use Rattle.base.specs.Outcomes.{Outcome, answered, refused, row, firstOf, andThen}
-use Rattle.format.specs.LittleEndian.{u16Bytes}
 use Rattle.format.specs.Forms.{entryBytes}
+use Rattle.format.specs.Headers.{headerBytes}
 use Rattle.list.specs.DayLists.{entriesOf}
 use Rattle.list.specs.Checks.{checkOf}
 use Rattle.list.specs.declared.types.Entry.{Entry}
@@ -19,13 +19,13 @@ bytesOfEntries f (e ∷ es) = entryBytes f e ++ bytesOfEntries f es
 
 -- the list's one form
 unfoldable pub bytesOf : DayList → List ℕ
-bytesOf l = u16Bytes (l .frame .h) ++ (l .n ∷ bytesOfEntries (l .frame) (entriesOf l))
+bytesOf l = headerBytes (l .frame) (l .n) ++ bytesOfEntries (l .frame) (entriesOf l)
 
--- "a longest list has 963" bytes: 3 of the header, and 15 for each of 64 entries that write all their fields
+-- "A longest list has 965 bytes": 5 of the header, and 15 for each of 64 entries that write all their fields
 abbrev pub longestList : ℕ
-longestList = 963
+longestList = 965
 
--- so one byte more decides how an input is read
+-- so one byte more decides how an input is read: "the program takes 966"
 abbrev pub readLimit : ℕ
 readLimit = suc longestList
 
@@ -38,7 +38,7 @@ abbrev pub stored : Outcome ℕ → List ℕ → List ℕ → List ℕ
 stored (answered n) bytes old = bytes ++ drop n old
 stored (refused k) bytes old = old
 
--- the number of bytes written to a buffer of the length given, or the first row, 2, 3, 6, 7, 14 and 12, that turns the list back
+-- the number of bytes written to a buffer of the length given, or the first row, 2, 3, 15, 16, 6, 7, 14 and 12, that turns the list back
 unfoldable pub writeOf : DayList → ℕ → Outcome ℕ
 writeOf l room = andThen (checkOf l) (λ _. storing (bytesOf l) room)
 

@@ -29,11 +29,11 @@ pub enum EntryAnswer {
     NotTaken(Refusal),
 }
 
-// "missing means 0"
+// "A missing r means the opening minute"
 pub(crate) fn default_r(frame: Frame) -> u16
     ensures { λ x. ⌜ x ≡ defaultR frame ⌝ }
 {
-    0
+    frame.opening
 }
 
 // "missing means H"
@@ -94,7 +94,7 @@ fn default_written(frame: Frame, m: Fields, e: Entry) -> bool
     at_default(m.d, e.d, default_d(frame))
 }
 
-// Rows 1, 5, 6 and 7 of an entry whose map byte is legal.
+// Rows 1, 5, 16, 6 and 7 of an entry whose map byte is legal.
 fn read_fields(frame: Frame, at: usize, m: Fields, rest: &[u8]) -> EntryAnswer
     requires { ⌜ at + length (now rest) < 2 ^ 64 ⌝ }
     ensures { λ a. ⌜ entryAnswerOf a ≡ fieldsEntry frame at m (now (rest .entry)) ⌝ }

@@ -3,6 +3,7 @@ use crate::bytes::put_u16;
 use crate::bytes::put_u32;
 use crate::entry::default_d;
 use crate::entry::default_r;
+use crate::header::header_size;
 use crate::map::Fields;
 use crate::map::map_of;
 use crate::map::size_of;
@@ -51,7 +52,7 @@ fn put_seal(out: &mut [u8], at: usize, seal: Seal) -> usize
     }
 }
 
-fn put_minute(out: &mut [u8], at: usize, follows: bool, x: u16) -> usize
+pub(crate) fn put_minute(out: &mut [u8], at: usize, follows: bool, x: u16) -> usize
     requires { ⌜ at + length (minuteBytes follows x) ≤ length (now out) ⌝ }
     ensures { λ next. ⌜ Wrote (now (out .entry)) at (minuteBytes follows x) (now (out .exit)) next ⌝ }
 {
@@ -89,7 +90,7 @@ pub(crate) fn list_size(list: DayList) -> usize
     ensures { λ k. ⌜ k ≡ length (bytesOf list) ⌝ }
 {
     let n = list.n as usize;
-    let mut size: usize = 3;
+    let mut size = header_size(list.frame);
     let mut i: usize = 0;
     while i < n {
         size += size_of(fields_in(list.frame, list.entries[i]));

@@ -4,6 +4,7 @@
 mod bytes;
 mod entry;
 mod form;
+mod header;
 mod map;
 mod reader;
 mod writer;

@@ -61,7 +61,7 @@ fn follow(map: u8, seal: bool, r: bool, d: bool) -> MapAnswer
 }
 
 // x, with y added where a field follows.
-fn plus_if(x: usize, follows: bool, y: usize) -> usize
+pub(crate) fn plus_if(x: usize, follows: bool, y: usize) -> usize
     requires { ⌜ x + y < 2 ^ 64 ⌝ }
     ensures { λ r. ⌜ r ≡ x + cond follows y 0 ⌝ }
 {

@@ -1,7 +1,7 @@
 // Writing a list's one form.
-use crate::bytes::put_u16;
 use crate::form::list_size;
 use crate::form::put_entry;
+use crate::header::put_header;
 use list::check;
 use list::types::DayList;
 use list::types::Refusal;
@@ -22,9 +22,7 @@ fn put_list(list: DayList, out: &mut [u8])
 {
     let n = list.n as usize;
     let frame = list.frame;
-    put_u16(out, 0, frame.h);
-    out[2] = list.n;
-    let mut at: usize = 3;
+    let mut at = put_header(out, frame, list.n);
     let mut i: usize = 0;
     while i < n {
         at = put_entry(out, at, frame, list.entries[i]);

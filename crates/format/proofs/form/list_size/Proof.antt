@@ -24,9 +24,9 @@ enough c = let len : length (c .args .t1 .entries) ≡ 64 = search (needs, lengt
 -- one entry more was counted
 sized : (c : tie.After-size-of Inv-loop μ-loop)
     → let turn = c .before .before .before .before .before in
-    SizedSoFar (turn .before .args .t1) (turn .loop .size + c .size-of .result) (turn .loop .i + 1)
+    SizedSoFar (turn .before .before .before .args .t1) (turn .loop .size + c .size-of .result) (turn .loop .i + 1)
 sized c =
-    let start = c .before .before .before .before .before .before in
+    let start = c .before .before .before .before .before .before .before .before in
     let loop = c .before .before .before .before .before .loop in
     let fields-in = c .before .fields-in in
     sized-next (start .args .t1) (enough start) _ _ (loop .i) _ (fields-in .result) (loop .inv)
@@ -35,8 +35,11 @@ sized c =
 cast-n : tie.Need-cast-n Inv-loop μ-loop
 cast-n c = search needs
 
+header-size-requires : tie.Need-header-size-requires Inv-loop μ-loop
+header-size-requires c κs = search needs
+
 loop-holds : tie.Need-loop-holds Inv-loop μ-loop
-loop-holds c = sized-start (c .args .t1)
+loop-holds c = sized-start (c .before .before .args .t1) _ (c .header-size .ensures)
 
 mul-fields-in : tie.Need-mul-fields-in Inv-loop μ-loop
 mul-fields-in c = search needs
@@ -52,7 +55,7 @@ size-of-requires c κs = search needs
 
 add-size : tie.Need-add-size Inv-loop μ-loop
 add-size c =
-    let start = c .before .before .before .before .before .before in
+    let start = c .before .before .before .before .before .before .before .before in
     omega (arith, list-short (start .args .t1) (start .pre), sized c .total)
 
 add-i : tie.Need-add-i Inv-loop μ-loop
@@ -66,7 +69,7 @@ loop-again c = sized c
 
 returns : tie.Need-returns Inv-loop μ-loop
 returns c =
-    let start = c .before .before in
+    let start = c .before .before .before .before in
     sized-done (start .args .t1) (enough start) _ _ (c .before .loop .inv) (c .loop-test .left)
 
 pub list-size-spec : {M : Type 1} → statement M
@@ -76,6 +79,7 @@ list-size-spec =
     Inv-loop
     μ-loop
     cast-n
+    header-size-requires
     loop-holds
     mul-fields-in
     element-copy-out-fields-in

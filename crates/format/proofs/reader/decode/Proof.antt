@@ -1,18 +1,24 @@
 -- `reader::decode` meets its contract: the header decides, or what follows it does.
 -- Assumes nothing.
 use borrow.Author.Needs.{needs}
-use mathlib.Core.Path.{_≡_, refl, ap}
+use mathlib.Core.Path.{_≡_, refl, ap, _∙_}
 use Prim.Native.Nat.{ℕ}
-use Rattle.format.specs.Reading.{frameOf, countOf}
+use Rattle.list.specs.Refusals.{verdictOf}
+use Rattle.list.specs.Checks.{headerFault}
+use Rattle.format.specs.Headers.{frameOf, countOf}
 use Rattle.list.proofs.Verdicts.{by-accepted}
-use Rattle.list.proofs.Sound.{header-of}
-use Rattle.format.proofs.ReadCases.{reads-refused, decode-short, decode-header, decode-body}
+use Rattle.list.proofs.Sound.{Header, header-of}
+use Rattle.format.proofs.ReadCases.{reads-refused, decode-short, decode-header, decode-opened}
 use Rattle.format.proofs.reader.decode.Statement.{statement}
 use Rattle.format.proofs.reader.decode.Tie as tie
 
--- the frame that code reads is the one that the bytes say
-frame-read : (c : tie.After-u16-at) → record { h = c .u16-at .result } ≡ frameOf (c .before .before .before .args .bytes .now)
-frame-read c = ap (λ (x : ℕ). record { h = x }) (c .u16-at .ensures)
+-- the header that code tests is the one that the bytes say
+header-read : (c : tie.After-header-fault)
+    → let bytes = c .before .before .before .before .before .args .bytes .now in
+    verdictOf (c .header-fault .result) ≡ headerFault 2 (frameOf bytes .h) (countOf bytes)
+header-read c =
+    let bytes = c .before .before .before .before .before .args .bytes .now in
+    c .header-fault .ensures ∙ ap (λ (h : ℕ). headerFault 2 h (countOf bytes)) (c .before .before .u16-at .ensures)
 
 read-refused-requires : tie.Need-read-refused-requires
 read-refused-requires c κs = search needs
@@ -34,12 +40,13 @@ header-fault-requires c κs = search needs
 enum-told : tie.Need-enum-told
 enum-told c = search needs
 
-read-body-requires : tie.Need-read-body-requires
-read-body-requires c κs =
+read-opened-requires : tie.Need-read-opened-requires
+read-opened-requires c κs =
     let bytes = c .before .before .before .before .before .before .before .args .bytes .now in
-    let frame = frame-read (c .before .before .before .before) in
+    let u16-at = c .before .before .before .before .u16-at in
     let passed = by-accepted (c .before .before .header-fault .ensures) (c .enum-told .given .1) in
-    (c .before .before .before .before .before .if1 .left, header-of 2 _ (countOf bytes) passed .room, frame, refl)
+    let h : Header (u16-at .result) (countOf bytes) = header-of 2 (u16-at .result) (countOf bytes) passed in
+    (c .before .before .before .before .before .if1 .left, h .room, u16-at .ensures, h .some-minutes, refl)
 
 enum-known-header : tie.Need-enum-known-header
 enum-known-header c = search needs
@@ -51,19 +58,17 @@ returns-2 : tie.Need-returns-2
 returns-2 c =
     let bytes = c .before .before .before .before .before .before .before .before .args .bytes .now in
     let if1 = c .before .before .before .before .before .before .if1 in
-    let frame = frame-read (c .before .before .before .before .before) in
-    let header-fault = c .before .before .before .header-fault in
-    rw (decode-body bytes _ (header-fault .result) frame (if1 .left) (header-fault .ensures) (c .before .enum-told .given .1))
-    (c .read-body .ensures)
+    let header = c .before .before .before in
+    rw (decode-opened bytes (header .header-fault .result) (if1 .left) (header-read header) (c .before .enum-told .given .1))
+    (c .read-opened .ensures)
 
 returns-3 : tie.Need-returns-3
 returns-3 c =
     let bytes = c .before .before .before .before .before .before .before .before .before .args .bytes .now in
     let if1 = c .before .before .before .before .before .before .before .if1 in
-    let frame = frame-read (c .before .before .before .before .before .before) in
-    let header-fault = c .before .before .before .before .header-fault in
+    let header = c .before .before .before .before in
     reads-refused _ _ _ (c .read-refused2 .ensures)
-    (decode-header bytes _ (header-fault .result) frame (if1 .left) (header-fault .ensures) _ (c .before .before .header .given .1))
+    (decode-header bytes (header .header-fault .result) (if1 .left) (header-read header) _ (c .before .before .header .given .1))
 
 pub decode-spec : {M : Type 1} → statement M
 decode-spec =
@@ -75,7 +80,7 @@ decode-spec =
     shared-slice-read-n
     header-fault-requires
     enum-told
-    read-body-requires
+    read-opened-requires
     enum-known-header
     read-refused-requires-2
     returns-2

@@ -12,10 +12,10 @@ use Rattle.format.proofs.reader.read_body.Statement.{statement}
 use Rattle.format.proofs.reader.read_body.Tie as tie
 
 abbrev Inv-loop : tie.InvT-loop
-Inv-loop bytes frame n entries₀ at₀ i₀ entries at i = SoFar frame n bytes entries at i
+Inv-loop bytes frame n from entries₀ at₀ i₀ entries at i = SoFar frame n bytes from entries at i
 
 abbrev μ-loop : tie.MeasureT-loop
-μ-loop bytes frame n entries₀ at₀ i₀ entries at i = n - i
+μ-loop bytes frame n from entries₀ at₀ i₀ entries at i = n - i
 
 empty-list-requires : tie.Need-empty-list-requires Inv-loop μ-loop
 empty-list-requires c κs = search needs
@@ -24,7 +24,7 @@ loop-holds : tie.Need-loop-holds Inv-loop μ-loop
 loop-holds c =
     let pre = c .before .before .before .pre in
     let args = c .before .before .before .args in
-    rw (c .before .empty-list .ensures) (start (args .frame) (args .n) (args .bytes .now) (pre .0))
+    rw (c .before .empty-list .ensures) (start (args .frame) (args .n) (args .bytes .now) (args .from) (pre .0))
 
 sub-read-entry : tie.Need-sub-read-entry Inv-loop μ-loop
 sub-read-entry c = search needs
@@ -75,7 +75,7 @@ returns c =
     let loop-test = c .before .before .before .before .before .before .loop-test in
     let read-entry = c .before .before .before .before .read-entry in
     let o = entry-refused (loop .inv) (read-entry .result) _ (loop-test .taken) (read-entry .ensures) (c .before .before .one2 .given .1) in
-    reads-refused _ _ _ (c .read-refused .ensures) (body-refused (args .bytes .now) _ _ (pre .2) (pre .3) _ o)
+    reads-refused _ _ _ (c .read-refused .ensures) (body-refused (args .bytes .now) _ _ _ (pre .2) (pre .3) (pre .4) _ o)
 
 add-i : tie.Need-add-i Inv-loop μ-loop
 add-i c = search needs
@@ -100,7 +100,8 @@ returns-2 c =
     let args = c .before .before .before .before .before .before .before .args in
     let loop = c .before .before .before .loop in
     let o = done (loop .inv) (c .before .before .loop-test .left) in
-    reads-refused _ _ _ (c .read-refused2 .ensures) (body-left (args .bytes .now) _ _ (pre .2) (pre .3) _ _ o (c .before .if1 .taken))
+    reads-refused _ _ _ (c .read-refused2 .ensures)
+    (body-left (args .bytes .now) _ _ _ (pre .2) (pre .3) (pre .4) _ _ o (c .before .if1 .taken))
 
 returns-3 : tie.Need-returns-3 Inv-loop μ-loop
 returns-3 c =
@@ -109,7 +110,7 @@ returns-3 c =
     let loop-test = c .before .loop-test in
     let s = c .before .before .loop .inv in
     let o = done s (loop-test .left) in
-    reads-list _ _ (body-done (args .bytes .now) _ _ (pre .2) (pre .3) _ _ o (c .if1 .left) ∙ ap answered
+    reads-list _ _ (body-done (args .bytes .now) _ _ _ (pre .2) (pre .3) (pre .4) _ _ o (c .if1 .left) ∙ ap answered
     (sym (list-read s (pre .1) (loop-test .left))))
 
 pub read-body-spec : {M : Type 1} → statement M
