@@ -23,11 +23,11 @@ use Rattle.report.proofs.FirstBytes.{same-report}
 use Rattle.report.proofs.ReportLaws.{report-law}
 use Rattle.dock.specs.Calls.{InputLimit, HoldsText, PrintsFor, Prints}
 
--- The limit: more than the 963 bytes of a longest list.
-pub limit-is : (limit : ℕ) → 963 < limit → limit ≤ 964 → InputLimit limit
+-- The limit: more than the 965 bytes of a longest list.
+pub limit-is : (limit : ℕ) → 965 < limit → limit ≤ 966 → InputLimit limit
 limit-is limit more most = record { most = most; more = λ l w. omega (arith, longest l w) }
 
-limit-more : (limit : ℕ) → InputLimit limit → 963 < limit
+limit-more : (limit : ℕ) → InputLimit limit → 965 < limit
 limit-more limit is = let (l, formed, long) = longest-reached in omega (arith, is .more l formed, long)
 
 -- A text that a buffer has room for was stored.

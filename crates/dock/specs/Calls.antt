@@ -9,7 +9,7 @@ use Rattle.list.specs.declared.types.DayList.{DayList}
 use Rattle.report.specs.Reports.{printedOf}
 use Rattle.report.specs.Laws.{ReportLaw}
 
--- "it takes 964 bytes at most; a longest list has 963": so many bytes of an input are read at most, and they are more than any list has, so
+-- "A longest list has 965 bytes and the program takes 966.": so many bytes of an input are read at most, and they are more than any list has, so
 -- that bytes left over are seen
 pub record InputLimit (limit : ℕ) : Type 0 where
   pub most : limit ≤ readLimit

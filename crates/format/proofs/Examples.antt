@@ -10,7 +10,8 @@ use Rattle.format.specs.Reading.{entriesFrom, bodyOf, openedOf, decodeOf
 use Rattle.format.specs.Examples.{ReadExamples}
 
 pub read-examples : ReadExamples
-unfolding firstBelow entryFault firstClash headerFault openingFault entryAt fieldsEntry entryOf entriesFrom bodyOf openedOf decodeOf mapPlace readOf
+unfolding firstBelow entryFault firstClash headerFault openingFault entryAt fieldsEntry entryOf
+  entriesFrom bodyOf openedOf decodeOf mapPlace readOf
 read-examples =
     record {
       clash = refl;

@@ -13,7 +13,8 @@ use Rattle.list.specs.declared.types.Frame.{Frame}
 use Rattle.format.specs.LittleEndian.{u16At, u16Bytes}
 use Rattle.format.specs.Maps.{bit}
 use Rattle.format.specs.Forms.{minuteBytes}
-use Rattle.format.specs.Headers.{openingWritten, countOf, frameOf, headerSize, entriesPlace, zeroWritten, opensLater, countByte, headerBytes}
+use Rattle.format.specs.Headers.{openingWritten, countOf, frameOf, headerSize, entriesPlace, zeroWritten}
+use Rattle.format.specs.Headers.{opensLater, countByte, headerBytes}
 use Rattle.format.proofs.FieldTrip.{past-field, u16-back, byte-stands, u16-stands, minute-read, written-again, minute-stands}
 use Rattle.format.proofs.FormCases.{minute-length}
 

@@ -58,7 +58,8 @@ module _ (l : DayList) (t : Typed l) (w : WellFormed l) where
       let read = ap (entriesFrom f (l .n) (entriesPlace bs)) (back .after) ∙ entries-back (entriesPlace bs) in
       decode-opened bs Accepted (omega (arith, long))
       (sym (header-passes 2 (f .h) (l .n) (sound .header)) ∙ (λ j. headerFault 2 (back .frame j .h) (back .count j))) refl
-      ∙ opened-body bs (omega (arith, long, back .place)) (back .kept) f (back .frame) Accepted (sym (opening-passes 3 f (sound .opening))) refl
+      ∙ opened-body bs (omega (arith, long, back .place)) (back .kept) f (back .frame) Accepted
+      (sym (opening-passes 3 f (sound .opening))) refl
       ∙ body-done bs f (l .n) (entriesPlace bs) (back .frame) (back .count) refl (entriesOf l) _ read (omega (arith, long, back .place))
 
   pub bytes-read-back : readOf (bytesOf l) ≡ answered (dayList (l .frame) (entriesOf l))
@@ -108,7 +109,7 @@ read-writes-back bs l e b old h =
     let written : writeOf l (length old) ≡ answered (length bs) = rw form at done in
     (written, rw (written, form))
 
--- "Two list values are equal if H, n and the first n entries are", and the opening minute is: then the one form and the writer treat them alike
+-- Two list values are equal if H, the opening minute, n and the first n entries are: then the one form and the writer treat them alike
 module _ (a b : DayList) (same : SameList a b) where
   -- they have one form
   pub same-bytes : bytesOf a ≡ bytesOf b

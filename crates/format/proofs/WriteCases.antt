@@ -92,7 +92,8 @@ module _ (l : DayList) (enough : l .n ≤ length (l .entries)) where
   stored-room from start out at i e₀ s h =
       room-first (entryBytes (l .frame) (getD (l .entries) i e₀)) (restBytes l (i + 1)) at (length out) (rw (rest-next i e₀ h) at (s .room))
 
-  pub stored-next : (from : List ℕ) (start : ℕ) (out new : List ℕ) (at next i : ℕ) (e₀ : Entry) → StoredSoFar l from start out at i → i < l .n
+  pub stored-next : (from : List ℕ) (start : ℕ) (out new : List ℕ) (at next i : ℕ) (e₀ : Entry) → StoredSoFar l from start out at i
+      → i < l .n
       → Wrote out at (entryBytes (l .frame) (getD (l .entries) i e₀)) new next → StoredSoFar l from start new next (i + 1)
   stored-next from start out new at next i e₀ s h w =
       record {
@@ -118,7 +119,9 @@ module _ (l : DayList) where
   form-length = simp (length-append, header-length)
 
   pub list-short : l .n ≤ 64 → length (bytesOf l) ≤ longestList
-  list-short h = omega (arith, form-length, header-short (opensLater (l .frame)), entries-short (l .frame) (entriesOf l), length-take (l .n) (l .entries))
+  list-short h =
+      let header = header-short (opensLater (l .frame)) in
+      omega (arith, form-length, header, entries-short (l .frame) (entriesOf l), length-take (l .n) (l .entries))
 
   pub sized-start : (size : ℕ) → size ≡ headerSize (opensLater (l .frame)) → SizedSoFar l size 0
   sized-start size e = record { passed = omega arith; total = rw e (sym form-length) }

@@ -1,18 +1,15 @@
 -- The law for lists: the windows of a well-formed list have room, so it holds of them; and what the public calls' outcomes decide.
 -- Assumes nothing.
 use mathlib.Core.Path.{_≡_, refl}
-use mathlib.Core.List.{List, [], _∷_}
-use Prim.Native.Nat.{ℕ, zero, suc, _<_, _≤_}
+use Prim.Native.Nat.{ℕ, _≤_}
 use native.Mathlib.Omega.{arith}
 use lib.Dec.{ltb}
-use lib.ListN.{length, getD, length-take}
+use lib.ListN.{length-take}
 use Rattle.base.specs.Outcomes.{Code, Outcome, answered, refused, andThen}
 use Rattle.list.specs.Checks.{checkOf, WellFormed}
-use Rattle.list.specs.DayLists.{entriesOf, blank}
-use Rattle.list.specs.declared.types.Entry.{Entry}
 use Rattle.list.specs.declared.types.DayList.{DayList}
 use Rattle.base.proofs.Inversion.{Says, by-row}
-use Rattle.list.proofs.Sound.{Sound, Every, check-says, sound-list}
+use Rattle.list.proofs.Sound.{check-says, sound-list, sound-at}
 use Rattle.jackson.specs.Windows.{windowsOf, Formed}
 use Rattle.jackson.specs.Plans.{PlanBytes, placesIn, Plannable}
 use Rattle.jackson.specs.Intervals.{ShowsOverload, overloadOf}
@@ -22,16 +19,7 @@ use Rattle.jackson.specs.Calls.{testOf, Decides, fillOf}
 use Rattle.jackson.proofs.Room.{formed-roomy}
 use Rattle.jackson.proofs.Law.{plan-law, schedule-law}
 
--- what holds of every entry holds of the one at any place
-every-at : (P : Entry → Type 0) (es : List Entry) → Every P es → (i : ℕ) → i < length es → P (getD es i blank)
-every-at P [] all i h = absurd (omega arith)
-every-at P (e ∷ es) all zero h = all .0
-every-at P (e ∷ es) all (suc i) h = every-at P es (all .1) i (omega arith)
-
 module _ (l : DayList) (formed : WellFormed l) where
-  sound-at : (i : ℕ) → i < windowsOf l .n → Sound (l .frame) (getD (entriesOf l) i blank)
-  sound-at = every-at (Sound (l .frame)) (entriesOf l) (sound-list l formed .entries)
-
   -- it has at most 64 entries
   pub list-few : windowsOf l .n ≤ 64
   list-few = omega (arith, length-take (l .n) (l .entries), sound-list l formed .header .room)
@@ -41,9 +29,9 @@ module _ (l : DayList) (formed : WellFormed l) where
   list-formed =
       record {
         few = omega (arith, list-few);
-        minutes = λ i h. sound-at i h .some-minutes;
-        in-day = λ i h. sound-at i h .in-day;
-        room = λ i h. sound-at i h .room;
+        minutes = λ i h. sound-at l formed i h .some-minutes;
+        in-day = λ i h. sound-at l formed i h .in-day;
+        room = λ i h. sound-at l formed i h .room;
       }
 
   -- the law holds of them
@@ -95,7 +83,7 @@ module _ (l : DayList) where
   checked-tells : (o : Outcome (Unit {0})) → (WellFormed l → Tells o) → Tells (andThen (checkOf l) (λ _. o))
   checked-tells o rest =
       go (checkOf l) refl
-      (check-says l NotNine (λ z. omega arith) (λ z. omega arith) (λ _ z. omega arith) (λ _ z. omega arith) (λ _ _ z. omega arith))
+      (check-says l NotNine (λ _ _ h z. omega arith) (λ _ _ h z. omega arith) (λ _ _ z. omega arith))
     where
       go : (c : Outcome (Unit {0})) → checkOf l ≡ c → Says (λ _. WellFormed l) NotNine c → Tells (andThen c (λ _. o))
       go (answered t) e _ = rest e

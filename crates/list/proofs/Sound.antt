@@ -3,14 +3,14 @@
 use mathlib.Core.Path.{_≡_, refl}
 use mathlib.Core.Bool.{_||_}
 use mathlib.Core.List.{List, [], _∷_}
-use Prim.Native.Nat.{ℕ, _+_, _≤_, _<_}
+use Prim.Native.Nat.{ℕ, zero, suc, _+_, _≤_, _<_}
 use native.Mathlib.Omega.{arith}
 use borrow.Author.Tests.{ltb-true, ltb-false, eqb-false, le-ltb, ne-eqb, leb-false, lt-leb}
 use lib.Dec.{eqb, leb, ltb}
-use lib.ListN.{length}
+use lib.ListN.{length, getD}
 use Rattle.base.specs.Outcomes.{Code, code, Outcome, answered, refused}
 use Rattle.list.specs.Entries.{entryFault}
-use Rattle.list.specs.DayLists.{entriesOf}
+use Rattle.list.specs.DayLists.{entriesOf, blank}
 use Rattle.list.specs.Clashes.{firstClash, Apart, FirstClash}
 use Rattle.list.specs.Checks.{headerFault, openingFault, entriesFault, valuesFault, checkOf, WellFormed}
 use Rattle.list.specs.declared.types.Entry.{Entry}
@@ -97,6 +97,12 @@ abbrev pub Every : (Entry → Type 0) → List Entry → Type 0
 Every P [] = Unit {0}
 Every P (e ∷ es) = P e × Every P es
 
+-- what holds of every entry holds of the one at any place
+every-place : (P : Entry → Type 0) (es : List Entry) → Every P es → (i : ℕ) → i < length es → P (getD es i blank)
+every-place P [] all i h = absurd (omega arith)
+every-place P (e ∷ es) all zero h = all .0
+every-place P (e ∷ es) all (suc i) h = every-place P es (all .1) i (omega arith)
+
 -- a fact of every refusal up to row 7, and of every one from row 15 on, whatever value it carries
 abbrev pub Low : (Code → Type 0) → Type 0
 Low R = (k at : ℕ) → k ≤ 7 → R (code k (at ∷ []))
@@ -172,6 +178,10 @@ module _ (l : DayList) where
 
   pub sound-list : WellFormed l → SoundList l
   sound-list w = passed w .0
+
+  -- so the entry at each place is sound
+  pub sound-at : WellFormed l → (i : ℕ) → i < length es → Sound (l .frame) (getD es i blank)
+  sound-at w = every-place (Sound (l .frame)) es (sound-list w .entries)
 
   pub list-apart : WellFormed l → Apart es
   list-apart w = passed w .1

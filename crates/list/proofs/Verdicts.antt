@@ -9,7 +9,8 @@ use Rattle.list.specs.Refusals.{codeOf, outcomeOf, verdictOf, writeAnswe
 use Rattle.list.specs.declared.types.Refusal.{Refusal}
 use Rattle.list.specs.declared.types.Refusal.the-variants.{BytesMissing, BadDayLength, TooManyEntries, BadMapByte, DefaultWritten}
 use Rattle.list.specs.declared.types.Refusal.the-variants.{NoMinutes, BadWindow, BytesLeftOver, Overloaded, NoPlace, PlanBufferShort}
-use Rattle.list.specs.declared.types.Refusal.the-variants.{ListBufferShort, UnknownPlace, SerialClash, BadOpening, BeforeOpening, BadRow}
+use Rattle.list.specs.declared.types.Refusal.the-variants.{ListBufferShort, UnknownPlace, SerialClash, BadOpening}
+use Rattle.list.specs.declared.types.Refusal.the-variants.{BeforeOpening, BadRow}
 use Rattle.list.specs.declared.types.Verdict.{Verdict}
 use Rattle.list.specs.declared.types.Verdict.the-variants.{Accepted, Refused}
 use Rattle.list.specs.declared.types.WriteAnswer.{WriteAnswer}

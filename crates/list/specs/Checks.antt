@@ -1,7 +1,7 @@
 -- "A list handed over as a value is tested for 2, 3, then 6 and 7 per entry; 2 and 3 then carry 0, 6 and 7 the entry's place."
--- And document 02: an opening minute "of H or more, is refused as 15 next, carrying .. 0 for a value", "and an r before the opening minute as
--- 16, .. before 6, carrying the place that 7 would". "Such an entry, the first in list order, is refused as 14, .. after the last 7 for a value, and carries .. its entry's
--- place."
+-- And document 02: an opening minute "of H or more, is refused as 15 next, carrying .. 0 for a value", and "an r before the opening minute
+-- as 16, .. for a value, before 6, carrying the place that 7 would". An entry that clashes, "the first in list order, is refused as 14, ..
+-- after the last 7 for a value, and carries .. its entry's place."
 use Prim.Native.Nat.{ℕ, _+_}
 use mathlib.Core.Path.{_≡_}
 use mathlib.Core.Bool.{_||_}

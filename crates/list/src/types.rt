@@ -76,8 +76,8 @@ pub enum Refusal {
     BadOpening(usize),
     // 16: r is before the opening minute; the map byte's place, or the entry's for a value.
     BeforeOpening(usize),
-    // 100, no row of the documents: a list crosses to another language as a row of numbers, and this one has too few or too many; as many as
-    // a row has.
+    // 100, which no document has: lists cross to other languages as rows of numbers, and this row has too few or too many; as many as a row
+    // has.
     BadRow(usize),
 }
 

@@ -10,7 +10,7 @@ use Rattle.list.specs.Clashes.{InWindow, Clash}
 use Rattle.list.specs.Checks.{WellFormed}
 use Rattle.list.specs.declared.types.Entry.{Entry}
 use Rattle.list.specs.declared.types.DayList.{DayList}
-use Rattle.list.proofs.Sound.{Sound, Every, sound-list, list-apart, well-formed}
+use Rattle.list.proofs.Sound.{Sound, Every, sound-list, sound-at, list-apart, well-formed}
 use Rattle.jackson.specs.Windows.{Windows, windowsOf}
 use Rattle.base.proofs.Sums.{le-or-lt}
 use Rattle.narrow.specs.Calls.{entryWith, entriesWith, listWith}
@@ -92,6 +92,7 @@ module _ (l : DayList) (w : Windows) (keeps : Keeps (windowsOf l) w) where
               one-day = given .one-day;
               room = omega (arith, given .room, with-length w 0 (entriesOf l), length-take (l .n) (l .entries));
             };
+        opening = sound-list l formed .opening;
         entries = rw (listed-entries l w) (with-every w (Sound (l .frame)) 0 (entriesOf l) sound);
       })
       (λ i k c. list-apart l formed i k (clash-given i k c))
@@ -118,6 +119,7 @@ module _ (l : DayList) (w : Windows) (keeps : Keeps (windowsOf l) w) where
           let place : j < w .n = omega (arith, keeps-n keeps) in
           rw q
           (record {
+            opened = omega (arith, keeps .inside .r j h, sound-at l formed j h .opened);
             some-minutes = omega (arith, keeps .formed .minutes j place, keeps-p keeps j);
             in-day = omega (arith, keeps .formed .in-day j place, keeps-h keeps);
             room = omega (arith, keeps .formed .room j place, keeps-p keeps j);

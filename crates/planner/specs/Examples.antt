@@ -30,7 +30,7 @@ wholeEntry serial r d p = record { serial = serial; seal = Missing; r = r; d = d
 
 -- the list with these entries on a day of h minutes
 abbrev pub day : ℕ → List Entry → DayList
-day h es = dayList (record { h = h }) es
+day h es = dayList (record { h = h; opening = 0 }) es
 
 abbrev pub serialsOf : DayList → List ℕ
 serialsOf l = map (λ (e : Entry). e .serial) (entriesOf l)

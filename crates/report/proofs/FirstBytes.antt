@@ -1,4 +1,4 @@
--- The first 964 bytes of an input decide its report, and so do more.
+-- The first 966 bytes of an input decide its report, and so do more.
 -- Assumes nothing.
 use mathlib.Core.Path.{_≡_, sym, ap, _∙_}
 use mathlib.Core.List.{List}

@@ -30,7 +30,7 @@ module _ {l : DayList} {a b : List ℕ} (x : PrintsPlan l a) (y : PrintsPlan l b
   pub one-moves : movesPrinted a ≡ movesPrinted b
   one-moves = ap (λ (v : Narrowed). v .moves) narrowed-same
 
-  pub one-list : listPrinted a ≡ listPrinted b
+  pub one-list : listPrinted (l .frame .opening) a ≡ listPrinted (l .frame .opening) b
   one-list = x .list ∙ ap (listWith l) one-windows ∙ sym (y .list)
 
   pub one-minutes : planPrinted a ≡ planPrinted b

@@ -156,11 +156,11 @@ module _ {text : List ℕ} {h n moves broken : ℕ} {e : ℕ → Entry} {end sta
       ∙ ap (λ (ls : List LineFields). drop (suc n) ls) (lines .said)
       ∙ drop-at (kept n (λ _. true) fields) runs n (all-length fields n)
 
-  pub list-printed-is : (es : List Entry) → length es ≡ n → ((i : ℕ) → i < n → e i ≡ getD es i blank)
-      → listPrinted text ≡ dayList (record { h = h }) es
+  pub list-printed-is : (opening : ℕ) (es : List Entry) → length es ≡ n → ((i : ℕ) → i < n → e i ≡ getD es i blank)
+      → listPrinted opening text ≡ dayList (record { h = h; opening = opening }) es
   unfolding listPrinted
-  list-printed-is es long each =
-      λ j. dayList (record { h = day-is j }) (all j)
+  list-printed-is opening es long each =
+      λ j. dayList (record { h = day-is j; opening = opening }) (all j)
     where
       at : ℕ → Entry
       at i = entrySaid (lineAt text (suc i))

@@ -111,11 +111,13 @@ module _ (l : DayList) (formed : WellFormed l) (v : Narrowed) (e : narrowing ove
   unfolding listWith
   all-counted = ap (λ (es : List Entry). length es) (listed-entries l w)
 
-  list-printed : listPrinted text ≡ settled
+  list-printed : listPrinted (l .frame .opening) text ≡ settled
   unfolding listWith
-  list-printed = list-printed-is lines (entriesOf settled) all-counted (λ i _. refl) ∙ ap (dayList (l .frame)) (listed-entries l w)
+  list-printed =
+      list-printed-is lines (l .frame .opening) (entriesOf settled) all-counted (λ i _. refl) ∙ ap (dayList (l .frame)) (listed-entries l w)
 
   windows-printed : windowsPrinted text ≡ w
+  unfolding listPrinted
   windows-printed = ap windowsOf list-printed ∙ windows-are
 
   count : settled .n ≡ w .n

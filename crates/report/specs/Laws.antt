@@ -32,8 +32,8 @@ pub record SaysRuns (h : ℕ) (m : ℕ → ℕ) (ls : List LineFields) : Type 0 
 
 -- what the numbers of a text are for the list l
 pub record PrintsPlan (l : DayList) (text : List ℕ) : Type 0 where
-  -- H, n, and of each entry the serial, seal, kind and minutes of work are those of l
-  pub list : listPrinted text ≡ listWith l (windowsPrinted text)
+  -- H, n, and of each entry the serial, seal, kind and minutes of work are those of l; the opening minute of l is not printed
+  pub list : listPrinted (l .frame .opening) text ≡ listWith l (windowsPrinted text)
   -- the lines of the entries are in the order of their places
   pub places : (i : ℕ) → i < countPrinted text → placePrinted text i ≡ i
   -- the plan printed is Jackson's schedule of the windows printed, and a plan; `broken` counts the whole entries that it breaks
@@ -50,7 +50,8 @@ pub record PrintsRefusal (k : Code) (text : List ℕ) : Type 0 where
 
 -- what is printed for the input bs: one of three, and not two, since `readOf` and `reportOf` have one outcome
 pub data ReportLaw (bs text : List ℕ) : Type 0 where
-  -- the list is turned back as it is read: the line has the first row, of 1 to 8 and then 14, that holds, and where
+  -- the list is turned back as it is read: the line has the first row, of 1 to 8, 15 and 16 and then 14, that holds, and
+  -- where
   unread : (k : Code) → readOf bs ≡ refused k → ReadRefusal bs k → PrintsRefusal k text → ReportLaw bs text
   -- the list l is turned back as it is planned: demand 3 holds of the refusal printed, so that there are no settled windows inside those of
   -- l, and 9 stands there if l has no plan, 10 if it has one

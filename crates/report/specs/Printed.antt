@@ -95,14 +95,15 @@ entrySaid fs =
       kind = kindSaid (getD fs 3 []);
     }
 
--- the list printed: H and n of the head line, and the entries of the n lines, with their settled windows
-unfoldable pub listPrinted : List ℕ → DayList
-listPrinted text =
-    dayList (record { h = dayPrinted text }) (map (λ i. entrySaid (lineAt text (suc i))) (listOf (countPrinted text) (λ i. i)))
+-- The list printed: H and n of the head line, and the entries of the n lines, with their settled windows. No line has the minute at which
+-- the room opens, so it is given.
+unfoldable pub listPrinted : ℕ → List ℕ → DayList
+listPrinted opening text =
+    dayList (record { h = dayPrinted text; opening = opening }) (map (λ i. entrySaid (lineAt text (suc i))) (listOf (countPrinted text) (λ i. i)))
 
--- its windows
+-- its windows, whatever that minute is
 abbrev pub windowsPrinted : List ℕ → Windows
-windowsPrinted text = windowsOf (listPrinted text)
+windowsPrinted text = windowsOf (listPrinted 0 text)
 
 -- of the entry at place i its place,
 abbrev pub placePrinted : List ℕ → ℕ → ℕ

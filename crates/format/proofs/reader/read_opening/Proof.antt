@@ -79,7 +79,8 @@ returns-4 c =
     let kept = written-kept bytes (start .pre .3) (λ z. c .before .before .before .before .before .if2 .left (read .u16-at .ensures ∙ z)) in
     let opening-fault = c .before .before .before .before .opening-fault in
     reads-refused _ _ _ (c .read-refused3 .ensures)
-    (opened-refused bytes long kept _ (frame-read read) (opening-fault .result) (opening-fault .ensures) _ (c .before .before .fault .given .1))
+    (opened-refused bytes long kept _ (frame-read read) (opening-fault .result) (opening-fault .ensures) _
+    (c .before .before .fault .given .1))
 
 pub read-opening-spec : {M : Type 1} → statement M
 read-opening-spec =

@@ -10,7 +10,8 @@ use Rattle.list.specs.Checks.{valuesFault}
 use Rattle.base.proofs.Walk.{length-mapped}
 use Rattle.list.proofs.Verdicts.{by-accepted}
 use Rattle.list.proofs.Sound.{header-of}
-use Rattle.list.proofs.CheckCases.{faultFrom, values-header, values-opening, values-entries, values-refused, values-next, values-done}
+use Rattle.list.proofs.CheckCases.{faultFrom, values-header, values-opening, values-entries, values-refused, values-next}
+use Rattle.list.proofs.CheckCases.{values-done}
 use Rattle.list.proofs.checks.values_fault.Statement.{statement}
 use Rattle.list.proofs.checks.values_fault.Tie as tie
 
@@ -19,6 +20,10 @@ Inv-loop list n count i₀ i = (i ≤ list .n) × (list .n ≤ 64) × (valuesFau
 
 abbrev μ-loop : tie.MeasureT-loop
 μ-loop list n count i₀ i = list .n - i
+
+-- the array has 64 places
+all-places : (c : tie.Start Inv-loop μ-loop) → length (c .args .t1 .entries) ≡ 64
+all-places c = search (needs, length-mapped)
 
 header-fault-requires : tie.Need-header-fault-requires Inv-loop μ-loop
 header-fault-requires c κs = search needs
@@ -80,12 +85,12 @@ enum-told-6 c = search needs
 
 returns-3 : tie.Need-returns-3 Inv-loop μ-loop
 returns-3 c =
-    let list = c .before .before .before .before .before .before .before .before .before .before .before .before .before .before .args .t1 in
     let loop = c .before .before .before .before .before .before .loop in
+    let start = c .before .before .before .before .before .before .before .before .before .before .before .before .before .before in
+    let list = start .args .t1 in
     let loop-test = c .before .before .before .before .before .loop-test in
     let entry-fault = c .before .before .entry-fault in
-    let len : length (list .entries) ≡ 64 = search (needs, length-mapped) in
-    values-refused list (omega (arith, len, loop .inv .1)) (loop .i) _ (entry-fault .result) (entry-fault .ensures)
+    values-refused list (omega (arith, all-places start, loop .inv .1)) (loop .i) _ (entry-fault .result) (entry-fault .ensures)
     (loop-test .taken) _ (c .enum-told6 .given .1) ∙ sym (loop .inv .2)
 
 add-i : tie.Need-add-i Inv-loop μ-loop
@@ -96,23 +101,23 @@ loop-less c = search needs
 
 loop-again : tie.Need-loop-again Inv-loop μ-loop
 loop-again c =
-    let list = c .before .before .before .before .before .before .before .before .before .before .before .before .before .before .args .t1 in
     let loop = c .before .before .before .before .before .before .loop in
+    let start = c .before .before .before .before .before .before .before .before .before .before .before .before .before .before in
+    let list = start .args .t1 in
     let loop-test = c .before .before .before .before .before .loop-test in
     let entry-fault = c .before .before .entry-fault in
-    let len : length (list .entries) ≡ 64 = search (needs, length-mapped) in (
+    (
       omega (arith, loop-test .taken),
       loop .inv .1,
-      loop .inv .2 ∙ values-next list (omega (arith, len, loop .inv .1)) (loop .i) _ (entry-fault .result) (entry-fault .ensures)
+      loop .inv .2 ∙ values-next list (omega (arith, all-places start, loop .inv .1)) (loop .i) _ (entry-fault .result) (entry-fault .ensures)
           (loop-test .taken) (c .enum-told5 .given .1),
     )
 
 returns-4 : tie.Need-returns-4 Inv-loop μ-loop
 returns-4 c =
-    let list = c .before .before .before .before .before .before .before .before .before .args .t1 in
     let loop = c .before .loop in
-    let len : length (list .entries) ≡ 64 = search (needs, length-mapped) in
-    sym (loop .inv .2 ∙ values-done list (omega (arith, len, loop .inv .1)) (loop .i) (c .loop-test .left))
+    let start = c .before .before .before .before .before .before .before .before .before in
+    sym (loop .inv .2 ∙ values-done (start .args .t1) (omega (arith, all-places start, loop .inv .1)) (loop .i) (c .loop-test .left))
 
 pub values-fault-spec : {M : Type 1} → statement M
 values-fault-spec =
