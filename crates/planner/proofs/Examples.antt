@@ -6,8 +6,8 @@ use mathlib.Core.List.{[], _∷_}
 use native.Mathlib.Omega.{arith}
 use Rattle.list.specs.Entries.{entryFault}
 use Rattle.list.specs.Clashes.{firstClash}
-use Rattle.list.specs.Checks.{headerFault, entriesFault, valuesFault, checkOf}
-use Rattle.format.specs.Reading.{readOf, decodeOf, bodyOf, entriesFrom}
+use Rattle.list.specs.Checks.{headerFault, openingFault, entriesFault, valuesFault, checkOf}
+use Rattle.format.specs.Reading.{readOf, decodeOf, openedOf, bodyOf, entriesFrom}
 use Rattle.base.specs.Counting.{sum, same, firstBelow, lastBelow, best, listOf}
 use Rattle.jackson.specs.Windows.{windowsOf}
 use Rattle.jackson.specs.Plans.{Plan, IsEnd, IsStart, placesIn}
@@ -105,7 +105,7 @@ starts-at-2 = record { below = omega arith; minute = refl; none-before = none }
 
 -- Outcomes and bytes are computed.
 pub plan-examples : PlanExamples
-unfolding readOf decodeOf bodyOf entriesFrom firstClash checkOf valuesFault headerFault entriesFault entryFault
+unfolding readOf decodeOf openedOf bodyOf entriesFrom firstClash checkOf valuesFault headerFault openingFault entriesFault entryFault
     sum firstBelow best listOf work leftEnd rightEnd overloadOf chosen minuteOf later schedule
     failedStarts failedEnds leastStart greatestEnd narrowSide visit visits rounds narrowing
     entriesWith listWith settleOf roundOf failedDeadlines failedReleases leastEnd greatestStart planChecks
@@ -135,7 +135,7 @@ plan-examples =
     }
 
 pub tie-examples : TieExamples
-unfolding firstClash checkOf valuesFault headerFault entriesFault entryFault
+unfolding firstClash checkOf valuesFault headerFault openingFault entriesFault entryFault
     sum firstBelow lastBelow best listOf work leftEnd rightEnd overloadOf chosen minuteOf later schedule
     failedStarts failedEnds leastStart greatestEnd narrowSide visit visits rounds narrowing
     failedDeadlines failedReleases leastEnd greatestStart brokenIn planChecks shownChecks

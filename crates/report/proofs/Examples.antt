@@ -4,8 +4,8 @@ use mathlib.Core.Path.{refl}
 use Rattle.list.specs.Entries.{entryFault}
 use Rattle.format.specs.EntryFields.{entryAt, fieldsEntry, entryOf}
 use Rattle.list.specs.Clashes.{firstClash}
-use Rattle.list.specs.Checks.{headerFault}
-use Rattle.format.specs.Reading.{entriesFrom, bodyOf, decodeOf, mapPlace, readOf}
+use Rattle.list.specs.Checks.{headerFault, openingFault}
+use Rattle.format.specs.Reading.{entriesFrom, bodyOf, openedOf, decodeOf, mapPlace, readOf}
 use Rattle.base.specs.Counting.{sum, firstBelow, lastBelow, best, listOf}
 use Rattle.jackson.specs.Intervals.{work, leftEnd, rightEnd, overloadOf}
 use Rattle.jackson.specs.Minutes.{chosen, minuteOf, later, schedule}
@@ -20,7 +20,7 @@ use Rattle.report.specs.Reports.{headLine, entryLine, entryLines, runLin
 use Rattle.report.specs.Examples.{ReportExamples}
 
 pub report-examples : ReportExamples
-unfolding entryAt entryFault fieldsEntry entryOf headerFault entriesFrom bodyOf decodeOf mapPlace firstClash readOf
+unfolding entryAt entryFault fieldsEntry entryOf headerFault openingFault entriesFrom bodyOf openedOf decodeOf mapPlace firstClash readOf
     sum firstBelow lastBelow best listOf work leftEnd rightEnd overloadOf chosen minuteOf later schedule
     failedStarts failedEnds leastStart greatestEnd narrowSide visit visits rounds narrowing entriesWith listWith
     failedDeadlines failedReleases leastEnd greatestStart brokenIn ascii digits decimal line texts runEnd
@@ -32,4 +32,7 @@ report-examples =
       overloaded = record { report = refl; prints = refl };
       no-place = record { report = refl; prints = refl };
       clash = record { report = refl; prints = refl };
+      opening = record { report = refl; prints = refl };
+      opens-late = record { report = refl; prints = refl };
+      before-opening = record { report = refl; prints = refl };
     }

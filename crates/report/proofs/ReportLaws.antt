@@ -11,7 +11,7 @@ use Rattle.base.specs.Outcomes.{Code, code, Outcome, answered, refused, andThen
 use Rattle.list.specs.DayLists.{entriesOf, blank, dayList, wholeIn}
 use Rattle.list.specs.Checks.{WellFormed}
 use Rattle.format.specs.Reading.{readOf}
-use Rattle.format.specs.Laws.{ReadRefusal}
+use Rattle.format.specs.Laws.{ReadingRow, ReadRefusal}
 use Rattle.list.specs.declared.types.Entry.{Entry}
 use Rattle.list.specs.declared.types.DayList.{DayList}
 use Rattle.list.specs.declared.types.Verdict.the-variants.{Accepted}
@@ -182,6 +182,12 @@ Says k = codePrinted (refusalLine k) ≡ k
 prints-refusal : (k : Code) → Says k → PrintsRefusal k (refusalLine k)
 prints-refusal k says = record { line = refl; says = says }
 
+-- no row of reading is 9, which carries more than a place
+not-nine : (n : ℕ) → ReadingRow n → n ≡ 9 → ⊥
+not-nine n (inl h) z = omega arith
+not-nine n (inr (inl h)) z = omega arith
+not-nine n (inr (inr h)) z = omega arith
+
 -- of one that is given as the list is read
 unread-says : (bs : List ℕ) (k : Code) → readOf bs ≡ refused k → Says k
 unread-says bs k e = go (read-places bs k e)
@@ -189,7 +195,7 @@ unread-says bs k e = go (read-places bs k e)
     go : ReadRefusal bs k → Says k
     go (inl (in-bytes, _)) =
         let is : k ≡ code (k .number) (in-bytes .place ∷ []) = λ j. code (k .number) (in-bytes .carried j) in
-        subst Says (sym is) (one-said (k .number) (in-bytes .place) (λ z. omega (arith, in-bytes .reading)))
+        subst Says (sym is) (one-said (k .number) (in-bytes .place) (not-nine (k .number) (in-bytes .reading)))
     go (inr (at, is, clash)) = subst Says (sym is) (one-said 14 at (λ z. omega arith))
 
 -- of one that is given as it is planned
