@@ -9,8 +9,8 @@ use Rattle.list.specs.declared.types.DayList.{DayList}
 use Rattle.report.specs.Reports.{printedOf}
 use Rattle.report.specs.Laws.{ReportLaw}
 
--- "A longest list has 965 bytes and the program takes 966.": so many bytes of an input are read at most, and they are more than any list has, so
--- that bytes left over are seen
+-- "A longest list has 965 bytes and the program takes 966.": so many bytes of an input are read at most, and they are more than any list
+-- has, so that bytes left over are seen
 pub record InputLimit (limit : ℕ) : Type 0 where
   pub most : limit ≤ readLimit
   pub more : (l : DayList) → WellFormed l → length (bytesOf l) < limit

@@ -11,7 +11,7 @@ use Rattle.format.specs.Examples.{ReadExamples}
 
 pub read-examples : ReadExamples
 unfolding firstBelow entryFault firstClash headerFault openingFault entryAt fieldsEntry entryOf
-  entriesFrom bodyOf openedOf decodeOf mapPlace readOf
+    entriesFrom bodyOf openedOf decodeOf mapPlace readOf
 read-examples =
     record {
       clash = refl;

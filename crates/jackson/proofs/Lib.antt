@@ -2,6 +2,7 @@
 pub mod Room
 pub mod Puts
 pub mod MirrorWindows
+pub mod MirrorLists
 -- Facts about plans alone: the mirror, other windows, room, starts and ends; and what a buffer holds in which a plan was stored.
 pub mod PlanFacts
 pub mod MirrorMinutes

@@ -34,7 +34,8 @@ pub record Reports (bs old : List ℕ) (a : WriteAnswer) (new : List ℕ) : Type
   pub stores : StoresText (reportOf bs) old a new
   -- so a buffer of this length is never too short
   pub room : (text : List ℕ) → reportOf bs ≡ answered text → length text ≤ enough
-  -- "A longest list has 965 bytes and the program takes 966.": where bs are the first bytes of an input, 966 or more, this is its report too
+  -- "A longest list has 965 bytes and the program takes 966.": where bs are the first bytes of an input, 966 or more, this is its report
+  -- too
   pub first-bytes : (limit : ℕ) → readLimit ≤ limit → (input : List ℕ) → take limit input ≡ bs → reportOf input ≡ reportOf bs
 
 -- the line of a refusal's number and values

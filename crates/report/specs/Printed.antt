@@ -99,7 +99,8 @@ entrySaid fs =
 -- the room opens, so it is given.
 unfoldable pub listPrinted : ℕ → List ℕ → DayList
 listPrinted opening text =
-    dayList (record { h = dayPrinted text; opening = opening }) (map (λ i. entrySaid (lineAt text (suc i))) (listOf (countPrinted text) (λ i. i)))
+    dayList (record { h = dayPrinted text; opening = opening })
+    (map (λ i. entrySaid (lineAt text (suc i))) (listOf (countPrinted text) (λ i. i)))
 
 -- its windows, whatever that minute is
 abbrev pub windowsPrinted : List ℕ → Windows

@@ -105,12 +105,11 @@ loop-again c =
     let start = c .before .before .before .before .before .before .before .before .before .before .before .before .before .before in
     let list = start .args .t1 in
     let loop-test = c .before .before .before .before .before .loop-test in
-    let entry-fault = c .before .before .entry-fault in
-    (
+    let entry-fault = c .before .before .entry-fault in (
       omega (arith, loop-test .taken),
       loop .inv .1,
-      loop .inv .2 ∙ values-next list (omega (arith, all-places start, loop .inv .1)) (loop .i) _ (entry-fault .result) (entry-fault .ensures)
-          (loop-test .taken) (c .enum-told5 .given .1),
+      loop .inv .2 ∙ values-next list (omega (arith, all-places start, loop .inv .1)) (loop .i) _ (entry-fault .result)
+          (entry-fault .ensures) (loop-test .taken) (c .enum-told5 .given .1),
     )
 
 returns-4 : tie.Need-returns-4 Inv-loop μ-loop

@@ -1,0 +1,131 @@
+-- The mirrored list: its windows are the mirrored ones, and the value check accepts it if it accepts the list.
+-- Assumes nothing.
+use mathlib.Core.Path.{_≡_, refl, sym, ap, _∙_, fun-ext}
+use mathlib.Core.List.{List, [], _∷_, map}
+use Prim.Native.Nat.{ℕ, zero, suc, _-_, _<_, _≤_}
+use native.Mathlib.Omega.{arith}
+use borrow.Author.Tests.{lt-ltb, le-ltb}
+use lib.ListN.{length, getD, length-map, length-take, List·getD-eq-default}
+use lib.Seq.{take-append-seam}
+use Rattle.base.proofs.Sums.{le-or-lt}
+use Rattle.list.specs.DayLists.{entriesOf, blank}
+use Rattle.list.specs.Clashes.{InWindow, Clash}
+use Rattle.list.specs.Checks.{WellFormed}
+use Rattle.list.specs.declared.types.Entry.{Entry}
+use Rattle.list.specs.declared.types.Frame.{Frame}
+use Rattle.list.specs.declared.types.DayList.{DayList}
+use Rattle.list.proofs.Sound.{Sound, Every, sound-list, sound-at, list-apart, well-formed}
+use Rattle.jackson.specs.Windows.{windowsOf}
+use Rattle.jackson.specs.Mirrors.{mirror, mirrorEntry, mirrorList}
+use Rattle.jackson.specs.Laws.{MirrorLaw}
+
+-- the mirror of an entry is sound, in a room that is open all day
+mirror-sound : (f g : Frame) (e : Entry) → g .h ≡ f .h → g .opening ≡ 0 → Sound f e → Sound g (mirrorEntry (f .h) e)
+mirror-sound f g e same always s =
+    record {
+      opened = omega (arith, always);
+      some-minutes = s .some-minutes;
+      in-day = omega (arith, same);
+      room = omega (arith, s .room, s .in-day);
+    }
+
+every-mirror : (f g : Frame) (es : List Entry) → g .h ≡ f .h → g .opening ≡ 0 → Every (Sound f) es
+    → Every (Sound g) (map (mirrorEntry (f .h)) es)
+every-mirror f g [] same always s = tt
+every-mirror f g (e ∷ es) same always s = (mirror-sound f g e same always (s .0), every-mirror f g es same always (s .1))
+
+at-place : (f : Entry → Entry) (es : List Entry) (i : ℕ) → i < length es → getD (map f es) i blank ≡ f (getD es i blank)
+at-place f [] i h = absurd (omega arith)
+at-place f (e ∷ es) zero h = refl
+at-place f (e ∷ es) (suc i) h = at-place f es i (omega arith)
+
+module _ (l : DayList) where
+  abbrev h : ℕ
+  h = l .frame .h
+
+  abbrev es : List Entry
+  es = entriesOf l
+
+  entries-are : entriesOf (mirrorList l) ≡ map (mirrorEntry h) es
+  entries-are = take-append-seam (map (mirrorEntry h) es) _
+
+  count-is : length (entriesOf (mirrorList l)) ≡ length es
+  count-is = ap length entries-are ∙ length-map es (mirrorEntry h)
+
+  entry-is : (i : ℕ) → i < length es → getD (entriesOf (mirrorList l)) i blank ≡ mirrorEntry h (getD es i blank)
+  entry-is i place = ap (λ (xs : List Entry). getD xs i blank) entries-are ∙ at-place (mirrorEntry h) es i place
+
+  -- from place n on there are none
+  past : (i : ℕ) → length es ≤ i → getD (entriesOf (mirrorList l)) i blank ≡ getD es i blank
+  past i over =
+      List·getD-eq-default (entriesOf (mirrorList l)) blank (omega (arith, count-is)) ∙ sym (List·getD-eq-default es blank over)
+
+  windows-are : windowsOf (mirrorList l) ≡ mirror (windowsOf l)
+  windows-are =
+      λ j. record {
+        h = h;
+        n = count-is j;
+        r = fun-ext {f = windowsOf (mirrorList l) .r} {g = mirror (windowsOf l) .r} each-r j;
+        d = fun-ext {f = windowsOf (mirrorList l) .d} {g = mirror (windowsOf l) .d} each-d j;
+        p = fun-ext {f = windowsOf (mirrorList l) .p} {g = windowsOf l .p} each-p j;
+      }
+    where
+      each-r : (i : ℕ) → windowsOf (mirrorList l) .r i ≡ mirror (windowsOf l) .r i
+      each-r i =
+          le-or-lt (length es) i
+          (λ over. rw (le-ltb i (length es) over) (ap (λ (e : Entry). e .r) (past i over)))
+          (λ place. rw (lt-ltb i (length es) place) (ap (λ (e : Entry). e .r) (entry-is i place)))
+
+      each-d : (i : ℕ) → windowsOf (mirrorList l) .d i ≡ mirror (windowsOf l) .d i
+      each-d i =
+          le-or-lt (length es) i
+          (λ over. rw (le-ltb i (length es) over) (ap (λ (e : Entry). e .d) (past i over)))
+          (λ place. rw (lt-ltb i (length es) place) (ap (λ (e : Entry). e .d) (entry-is i place)))
+
+      each-p : (i : ℕ) → windowsOf (mirrorList l) .p i ≡ windowsOf l .p i
+      each-p i =
+          le-or-lt (length es) i
+          (λ over. ap (λ (e : Entry). e .p) (past i over))
+          (λ place. ap (λ (e : Entry). e .p) (entry-is i place))
+
+  list-formed : WellFormed l → WellFormed (mirrorList l)
+  list-formed formed =
+      let given = sound-list l formed in
+      well-formed (mirrorList l)
+      (record {
+        header =
+            record {
+              some-minutes = given .header .some-minutes;
+              one-day = given .header .one-day;
+              room = omega (arith, given .header .room, length-map es (mirrorEntry h), length-take (l .n) (l .entries));
+            };
+        opening = given .header .some-minutes;
+        entries = rw entries-are (every-mirror (l .frame) _ es refl refl (given .entries));
+      })
+      (λ i k c. list-apart l formed i k (clash-given i k c))
+    where
+      -- minute t of the mirrored window is minute h - 1 - t of the window
+      back : (i : ℕ) → i < length es → (t : ℕ) → InWindow (mirrorEntry h (getD es i blank)) t → InWindow (getD es i blank) (h - suc t)
+      back i place t w =
+          let s = sound-at l formed i place in
+          (omega (arith, w .0, w .1, s .in-day, s .room), omega (arith, w .0, w .1, s .in-day, s .room))
+
+      -- entries that clash in the mirror do so in the list
+      clash-given : (i k : ℕ) → Clash (entriesOf (mirrorList l)) i k → Clash es i k
+      clash-given i k c =
+          let later : k < length es = omega (arith, c .in-list, count-is) in
+          let before : i < length es = omega (arith, later, c .earlier) in
+          let x = entry-is i before in
+          let y = entry-is k later in
+          record {
+            earlier = c .earlier;
+            in-list = later;
+            serial = sym (ap (λ (e : Entry). e .serial) x) ∙ c .serial ∙ ap (λ (e : Entry). e .serial) y;
+            minute = h - suc (c .minute);
+            in-earlier = back i before (c .minute) (rw x at (c .in-earlier));
+            in-later = back k later (c .minute) (rw y at (c .in-later));
+          }
+
+-- the law holds of every list
+pub mirror-law : (l : DayList) → MirrorLaw l
+mirror-law l = record { windows = windows-are l; formed = list-formed l }
