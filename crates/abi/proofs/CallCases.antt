@@ -3,9 +3,12 @@
 use mathlib.Core.Path.{_≡_, refl, sym, ap, subst, _∙_}
 use mathlib.Core.List.{List, [], _∷_, _++_}
 use Prim.Native.Nat.{ℕ}
-use Rattle.base.specs.Outcomes.{Outcome, answered, refused}
-use Rattle.list.specs.Refusals.{codeOf, verdictOf, outcomeOf, writeAnswerOf}
-use Rattle.format.specs.Reading.{readOf}
+use borrow.Author.Tests.{eq-eqb}
+use lib.ListN.{length}
+use Rattle.base.specs.Outcomes.{Outcome, answered, refused, andThen}
+use Rattle.base.proofs.Inversion.{Says, Anything, by-step}
+use Rattle.list.specs.Refusals.{codeOf, verdictOf, outcomeOf, readAnswerOf, writeAnswerOf}
+use Rattle.list.proofs.Verdicts.{by-accepted, by-refused}
 use Rattle.format.specs.Calls.{Reads, Writes}
 use Rattle.list.specs.declared.types.DayList.{DayList}
 use Rattle.list.specs.declared.types.Refusal.{Refusal}
@@ -14,8 +17,7 @@ use Rattle.list.specs.declared.types.Verdict.the-variants.{Accepted, Refused}
 use Rattle.list.specs.declared.types.ReadAnswer.{ReadAnswer}
 use Rattle.list.specs.declared.types.WriteAnswer.{WriteAnswer}
 use Rattle.jackson.specs.Calls.{Tests, Fills}
-use Rattle.narrow.specs.Rounds.{Narrowed}
-use Rattle.narrow.specs.Calls.{narrowAnswerOf, narrowedIn, listed, AnswersAs}
+use Rattle.narrow.specs.Calls.{narrowAnswerOf, narrowedIn, Settles}
 use Rattle.narrow.specs.declared.types.NarrowAnswer.{NarrowAnswer}
 use Rattle.bounds.specs.declared.types.Shown.{Shown}
 use Rattle.planner.specs.Calls.{settledOr, PlansDay, Shows}
@@ -23,86 +25,180 @@ use Rattle.planner.specs.declared.types.PlanAnswer.{PlanAnswer}
 use Rattle.planner.specs.declared.types.ShownAnswer.{ShownAnswer}
 use Rattle.report.specs.Calls.{StoresText}
 use Rattle.codes.specs.Codes.{three}
-use Rattle.flat.specs.Flat.{flatOf, valueOf}
-use Rattle.abi.specs.Calls.{answerWith, ReadCall, WriteCall, OverloadCall, ScheduleCall, NarrowCall, PlanCall, ShowCall, TextCall}
+use Rattle.flat.specs.Flat.{flatNumbers, valueOf, rowFault, rowOf, ReadsRow, rowAfter}
+use Rattle.flat.proofs.RowCases.{fault-says, row-long, row-says}
+use Rattle.abi.specs.Calls.{answerWith, rowBeside, ReadCall, WriteCall, OverloadCall, ScheduleCall, NarrowCall, SettleCall, PlanCall}
+use Rattle.abi.specs.Calls.{ShowCall, TextCall}
 use Rattle.abi.specs.declared.Answer.{Answer}
 
 -- an answer made of a refusal
 abbrev pub RefusedAs : Refusal → Answer → Type 0
 RefusedAs x b = b ≡ record { number = codeOf x .number; values = three (codeOf x .carries) }
 
-module _ (bs old : List ℕ) (a : ReadAnswer) (w : Reads bs a) where
-  pub read-accepted : (fields : List ℕ) → a .verdict ≡ Accepted → fields ≡ flatOf (a .list)
-      → ReadCall bs old (record { number = 0; values = 0 ∷ 0 ∷ 0 ∷ [] }) fields
-  read-accepted fields v q =
-      let o : readOf bs ≡ answered (a .list) = sym (w .outcome) ∙ ap (λ (t : Verdict). outcomeOf t (a .list)) v in
-      record { answer = rw o; buffer = rw o q }
+-- an answer made of a verdict
+abbrev pub VerdictAs : Verdict → Answer → Type 0
+VerdictAs v b = b ≡ answerWith (λ _. []) (verdictOf v)
 
-  pub read-refused : (x : Refusal) (b : Answer) → a .verdict ≡ Refused x → RefusedAs x b → ReadCall bs old b old
-  read-refused x b v q =
-      let o : readOf bs ≡ refused (codeOf x) = sym (w .outcome) ∙ ap (λ (t : Verdict). outcomeOf t (a .list)) v in
-      record { answer = rw o q; buffer = rw o }
+-- what an answer's verdict tells of the outcome that it says
+module _ {o : Outcome DayList} (a : ReadAnswer) (w : readAnswerOf a ≡ o) where
+  taken : a .verdict ≡ Accepted → o ≡ answered (a .list)
+  taken v = sym w ∙ ap (λ (t : Verdict). outcomeOf t (a .list)) v
+
+  turned-back : (x : Refusal) → a .verdict ≡ Refused x → o ≡ refused (codeOf x)
+  turned-back x v = sym w ∙ ap (λ (t : Verdict). outcomeOf t (a .list)) v
+
+-- reading, after the test of the lent row
+module _ (bs old : List ℕ) (u : Verdict) (row : verdictOf u ≡ rowFault (length old)) where
+  pub read-no-row : (x : Refusal) (b : Answer) → u ≡ Refused x → VerdictAs u b → ReadCall bs old b old
+  read-no-row x b v q = let z = by-refused row v in record { answer = rw z (rw v at q); buffer = rw z }
+
+  module _ (passed : u ≡ Accepted) (a : ReadAnswer) (w : Reads bs a) (b : Answer) (q : VerdictAs (a .verdict) b) where
+    pub read-refused : (x : Refusal) → a .verdict ≡ Refused x → ReadCall bs old b old
+    read-refused x v =
+        let z = by-accepted row passed in
+        let o = turned-back a (w .outcome) x v in
+        record { answer = rw (z, o) (rw v at q); buffer = rw (z, o) }
+
+    pub read-accepted : (fields : List ℕ) → a .verdict ≡ Accepted → fields ≡ rowAfter (a .list) old → ReadCall bs old b fields
+    read-accepted fields v put =
+        let z = by-accepted row passed in
+        let o = taken a (w .outcome) v in
+        let long = eq-eqb _ _ (row-long (length old) z) in
+        record { answer = rw (z, o) (rw v at q); buffer = rw (z, o) (rw long at put) }
+
+-- a row's list, where a row is lent beside it
+module _ (xs : List ℕ) (lent : ℕ) (a : ReadAnswer) (w : ReadsRow xs a) where
+  pub beside-no-row : (x : Refusal) → a .verdict ≡ Refused x → readAnswerOf a ≡ rowBeside xs lent
+  beside-no-row x v = let o = turned-back a (w .outcome) x v in w .outcome ∙ rw o
+
+  module _ (v : a .verdict ≡ Accepted) (u : Verdict) (row : verdictOf u ≡ rowFault lent) where
+    pub beside-refused : (x : Refusal) (l : DayList) → u ≡ Refused x → readAnswerOf (record { verdict = u; list = l }) ≡ rowBeside xs lent
+    beside-refused x l e = rw (taken a (w .outcome) v, by-refused row e, e)
+
+    pub beside-read : u ≡ Accepted → readAnswerOf a ≡ rowBeside xs lent
+    beside-read e = rw (taken a (w .outcome) v, by-accepted row e, v)
+
+-- rows that passed: the list value that was given
+pub record Given (xs : List ℕ) (o : Outcome DayList) (l : DayList) : Type 0 where
+  pub passed : o ≡ answered (valueOf xs)
+  pub value : l ≡ valueOf xs
+
+pub row-given : (xs : List ℕ) (a : ReadAnswer) → ReadsRow xs a → a .verdict ≡ Accepted → Given xs (rowOf xs) (a .list)
+row-given xs a w v =
+    let o = taken a (w .outcome) v in
+    let is : a .list ≡ valueOf xs = rw o at (row-says xs) in
+    record { passed = o ∙ ap answered is; value = is }
+
+-- likewise where a row is lent beside the one given, and its length
+module _ (xs fields : List ℕ) where
+  abbrev Passed : DayList → Type 0
+  Passed l = (l ≡ valueOf xs) × (length fields ≡ flatNumbers)
+
+  lent-says : (l : DayList) → l ≡ valueOf xs → Says Passed Anything (andThen (rowFault (length fields)) (λ _. answered l))
+  lent-says l e =
+      by-step (λ _. length fields ≡ flatNumbers) Anything Passed (rowFault (length fields)) (λ _. answered l) (fault-says (length fields))
+      (λ _ long. (e, long))
+
+  beside-says : Says Passed Anything (rowBeside xs (length fields))
+  beside-says =
+      by-step (λ l. l ≡ valueOf xs) Anything Passed (rowOf xs) (λ l. andThen (rowFault (length fields)) (λ _. answered l)) (row-says xs)
+      lent-says
+
+  module _ (a : ReadAnswer) (w : readAnswerOf a ≡ rowBeside xs (length fields)) (v : a .verdict ≡ Accepted) where
+    passed-both : Passed (a .list)
+    passed-both = rw (taken a w v) at beside-says
+
+    pub beside-given : Given xs (rowBeside xs (length fields)) (a .list)
+    beside-given = let is = passed-both .0 in record { passed = taken a w v ∙ ap answered is; value = is }
+
+    pub beside-long : length fields ≡ flatNumbers
+    beside-long = passed-both .1
+
+-- rows that were turned back: the refusal is handed on, and what is lent stays
+module _ (xs : List ℕ) (a : ReadAnswer) (x : Refusal) (v : a .verdict ≡ Refused x) (b : Answer) (q : VerdictAs (a .verdict) b) where
+  told : RefusedAs x b
+  told = rw v at q
+
+  module _ (w : ReadsRow xs a) where
+    pub write-no-row : (old : List ℕ) → WriteCall xs old b old
+    write-no-row old = rw (turned-back a (w .outcome) x v) (record { answer = told; buffer = refl })
+
+    pub overload-no-row : OverloadCall xs b
+    overload-no-row = rw (turned-back a (w .outcome) x v) told
+
+    pub schedule-no-row : (old : List ℕ) → ScheduleCall xs old b old
+    schedule-no-row old = rw (turned-back a (w .outcome) x v) (record { answer = told; buffer = refl })
+
+  module _ (fields : List ℕ) (w : readAnswerOf a ≡ rowBeside xs (length fields)) where
+    pub settle-no-row : SettleCall xs fields b fields
+    settle-no-row = rw (turned-back a w x v) (record { answer = told; buffer = refl })
+
+    pub plan-no-row : (plan bounds : List ℕ) → PlanCall xs plan fields bounds b plan fields bounds
+    plan-no-row plan bounds =
+        rw (turned-back a w x v) (record { narrowed = record { answer = told; buffer = refl }; plan = refl; bounds = refl })
+
+    pub show-no-row : (y : Shown) (k : ℕ) (plan : List ℕ) → ShowCall y xs k plan fields b plan fields
+    show-no-row y k plan = rw (turned-back a w x v) (record { narrowed = record { answer = told; buffer = refl }; plan = refl })
 
 -- what a writer answered, as numbers
 module _ (a : WriteAnswer) (b : Answer) (q : b ≡ answerWith (λ n. n ∷ []) (writeAnswerOf a)) (old new : List ℕ) where
-  pub write-said : (xs : List ℕ) (l : DayList) → l ≡ valueOf xs → Writes l old a new → WriteCall xs old b new
-  write-said xs l p w =
-      let of-value = subst (λ (k : DayList). Writes k old a new) p w in
-      record { answer = q ∙ ap (answerWith (λ n. n ∷ [])) (of-value .outcome); buffer = of-value .buffer }
+  pub write-said : (xs : List ℕ) (l : DayList) → Given xs (rowOf xs) l → Writes l old a new → WriteCall xs old b new
+  write-said xs l g w =
+      let of-value = subst (λ (k : DayList). Writes k old a new) (g .value) w in
+      rw (g .passed) (record { answer = q ∙ ap (answerWith (λ n. n ∷ [])) (of-value .outcome); buffer = of-value .buffer })
 
   pub text-call-said : (o : Outcome (List ℕ)) → StoresText o old a new → TextCall o old b new
   text-call-said o w = record { answer = q ∙ ap (answerWith (λ n. n ∷ [])) (w .outcome); buffer = w .buffer }
 
-module _ (xs : List ℕ) (l : DayList) (p : l ≡ valueOf xs) (v : Verdict) (b : Answer) (q : b ≡ answerWith (λ _. []) (verdictOf v)) where
+module _ (xs : List ℕ) (l : DayList) (g : Given xs (rowOf xs) l) (v : Verdict) (b : Answer) (q : VerdictAs v b) where
   pub overload-said : Tests l v → OverloadCall xs b
-  overload-said w = rw (← p) (q ∙ ap (answerWith (λ _. [])) (w .outcome))
+  overload-said w = rw (g .passed, ← (g .value)) (q ∙ ap (answerWith (λ _. [])) (w .outcome))
 
   pub schedule-said : (old new : List ℕ) → Fills l old v new → ScheduleCall xs old b new
   schedule-said old new w =
-      let f : Fills (valueOf xs) old v new = subst (λ (k : DayList). Fills k old v new) p w in
-      record { answer = q ∙ ap (answerWith (λ _. [])) (f .outcome); buffer = f .buffer }
+      let f : Fills (valueOf xs) old v new = subst (λ (k : DayList). Fills k old v new) (g .value) w in
+      rw (g .passed) (record { answer = q ∙ ap (answerWith (λ _. [])) (f .outcome); buffer = f .buffer })
 
 -- what narrowing answered, in numbers
 module _ (old : List ℕ) (a : NarrowAnswer) (second : ℕ) where
-  pub narrowed-given : (fields : List ℕ) → a .verdict ≡ Accepted → fields ≡ flatOf (a .list)
+  pub narrowed-given : (fields : List ℕ) → length old ≡ flatNumbers → a .verdict ≡ Accepted → fields ≡ rowAfter (a .list) old
       → NarrowCall (narrowAnswerOf a) second old (record { number = 0; values = a .moves ∷ second ∷ 0 ∷ [] }) fields
-  narrowed-given fields v q = rw v (record { answer = refl; buffer = q })
+  narrowed-given fields long v q = rw v (record { answer = refl; buffer = rw (eq-eqb _ _ long) at q })
 
   pub narrowed-refused : (x : Refusal) (b : Answer) → a .verdict ≡ Refused x → RefusedAs x b
       → NarrowCall (narrowAnswerOf a) second old b old
   narrowed-refused x b v q = rw v (record { answer = q; buffer = refl })
-
--- a call that narrows the list value that xs say, with the outcome o
-pub narrow-said : (o : DayList → Outcome Narrowed) (xs old new : List ℕ) (l : DayList) → l ≡ valueOf xs → (a : NarrowAnswer) (b : Answer)
-    → NarrowCall (narrowAnswerOf a) 0 old b new → AnswersAs l (o l) a → NarrowCall (listed (valueOf xs) (o (valueOf xs))) 0 old b new
-narrow-said o xs old new l p a b given w = rw (← p) (subst (λ (u : Outcome (DayList × ℕ)). NarrowCall u 0 old b new) (w .outcome) given)
 
 -- the bounds that planning answered
 pub bounds-given : (a : PlanAnswer) (old new : List ℕ) → a .narrowed .verdict ≡ Accepted → new ≡ a .ends ++ a .starts
     → new ≡ settledOr old (λ _. a .ends ++ a .starts) (narrowedIn (a .narrowed))
 bounds-given a old new v q = rw v q
 
--- planning the list value that xs say
-pub plan-said : (xs oldPlan newPlan oldFields newFields oldBounds newBounds : List ℕ) (l : DayList) → l ≡ valueOf xs
-    → (a : PlanAnswer) (b : Answer)
-    → PlansDay l oldPlan a newPlan
-    → newBounds ≡ settledOr oldBounds (λ _. a .ends ++ a .starts) (narrowedIn (a .narrowed))
-    → NarrowCall (narrowAnswerOf (a .narrowed)) (a .broken) oldFields b newFields
-    → PlanCall xs oldPlan oldFields oldBounds b newPlan newFields newBounds
-plan-said xs oldPlan newPlan oldFields newFields oldBounds newBounds l p a b w bounds given =
-    let f : PlansDay (valueOf xs) oldPlan a newPlan = subst (λ (k : DayList). PlansDay k oldPlan a newPlan) p w in
-    record {
-      narrowed = rw (← (f .answers .outcome), ← (f .broken)) given;
-      plan = f .buffer;
-      bounds = rw (← (f .ends), ← (f .starts), ← (f .holds .narrowed)) bounds;
-    }
+-- narrowing, planning and showing a plan of the list value that was given
+module _ (xs oldFields newFields : List ℕ) (l : DayList) (g : Given xs (rowBeside xs (length oldFields)) l) (b : Answer) where
+  pub settle-said : (a : NarrowAnswer) → NarrowCall (narrowAnswerOf a) 0 oldFields b newFields → Settles l a
+      → SettleCall xs oldFields b newFields
+  settle-said a given w =
+      rw (g .passed, ← (g .value)) (subst (λ (u : Outcome (DayList × ℕ)). NarrowCall u 0 oldFields b newFields) (w .answers .outcome) given)
 
--- showing a plan of the list value that xs say
-pub shown-said : (x : Shown) (xs : List ℕ) (k : ℕ) (oldPlan newPlan oldFields newFields : List ℕ) (l : DayList) → l ≡ valueOf xs
-    → (a : ShownAnswer) (b : Answer)
-    → Shows x l k oldPlan a newPlan
-    → NarrowCall (narrowAnswerOf (a .narrowed)) (a .bound) oldFields b newFields
-    → ShowCall x xs k oldPlan oldFields b newPlan newFields
-shown-said x xs k oldPlan newPlan oldFields newFields l p a b w given =
-    let f : Shows x (valueOf xs) k oldPlan a newPlan = subst (λ (v : DayList). Shows x v k oldPlan a newPlan) p w in
-    record { narrowed = rw (← (f .answers .outcome), ← (f .bound)) given; plan = f .buffer }
+  pub plan-said : (oldPlan newPlan oldBounds newBounds : List ℕ) (a : PlanAnswer)
+      → PlansDay l oldPlan a newPlan
+      → newBounds ≡ settledOr oldBounds (λ _. a .ends ++ a .starts) (narrowedIn (a .narrowed))
+      → NarrowCall (narrowAnswerOf (a .narrowed)) (a .broken) oldFields b newFields
+      → PlanCall xs oldPlan oldFields oldBounds b newPlan newFields newBounds
+  plan-said oldPlan newPlan oldBounds newBounds a w bounds given =
+      let f : PlansDay (valueOf xs) oldPlan a newPlan = subst (λ (k : DayList). PlansDay k oldPlan a newPlan) (g .value) w in
+      rw (g .passed)
+      (record {
+        narrowed = rw (← (f .answers .outcome), ← (f .broken)) given;
+        plan = f .buffer;
+        bounds = rw (← (f .ends), ← (f .starts), ← (f .holds .narrowed)) bounds;
+      })
+
+  pub shown-said : (x : Shown) (k : ℕ) (oldPlan newPlan : List ℕ) (a : ShownAnswer)
+      → Shows x l k oldPlan a newPlan
+      → NarrowCall (narrowAnswerOf (a .narrowed)) (a .bound) oldFields b newFields
+      → ShowCall x xs k oldPlan oldFields b newPlan newFields
+  shown-said x k oldPlan newPlan a w given =
+      let f : Shows x (valueOf xs) k oldPlan a newPlan = subst (λ (v : DayList). Shows x v k oldPlan a newPlan) (g .value) w in
+      rw (g .passed) (record { narrowed = rw (← (f .answers .outcome), ← (f .bound)) given; plan = f .buffer })

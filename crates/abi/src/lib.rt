@@ -1,14 +1,17 @@
-// The planner's calls for programs in other languages: byte slices and numbers only.
-// Promises: each call answers 0 or a refusal's number, with its values, and leaves in its buffers what
-// specs/Calls.antt says, whatever the bytes and numbers are. What it cannot check are the pointers themselves: a caller lends
-// `bytes`, `out` and `plan` with their lengths, `fields` and `narrowed` with 450 numbers each, `bounds` with 128 and `values` with 3, and
-// no two of them overlap. Uses all crates but dock.
+// The planner's calls for programs in other languages: slices and numbers only.
+// Promises: each call answers 0 or a refusal's number, with its values, and leaves in its buffers what specs/Calls.antt says, whatever the
+// bytes and numbers are. A list value crosses as a row of 451 numbers (crate flat). `bytes`, `out` and `plan`, and the rows `fields` and
+// `narrowed`, come with their lengths; a row of another length is refused as 100 before all else, the one given before the one lent.
+// What a call cannot check are the pointers and that they have the lengths told: `bounds` has 128 numbers and `values` 3, and no two of
+// what is lent overlap. Uses all crates but dock.
 use codes::RefusalCode;
 use flat::BOUNDS;
-use flat::NUMBERS;
-use flat::flat_of;
 use flat::joined;
 use flat::list_in;
+use flat::put_row;
+use flat::row_fault;
+use list::empty_list;
+use list::types::ReadAnswer;
 use list::types::Refusal;
 use list::types::Verdict;
 use list::types::WriteAnswer;
@@ -19,12 +22,14 @@ use planner::show_late;
 use planner::types::PlanAnswer;
 ghost use mathlib.Core.Path.{_≡_};
 ghost use mathlib.Core.List.{[], _∷_, _++_};
-ghost use Rattle.list.specs.Refusals.{codeOf, verdictOf, writeAnswerOf};
+ghost use lib.ListN.{length};
+ghost use Rattle.list.specs.Refusals.{codeOf, verdictOf, readAnswerOf, writeAnswerOf};
 ghost use Rattle.narrow.specs.Calls.{narrowAnswerOf, narrowedIn};
 ghost use Rattle.planner.specs.Calls.{settledOr};
 ghost use Rattle.codes.specs.Codes.{three};
+ghost use Rattle.flat.specs.Flat.{flatNumbers};
 ghost use Rattle.abi.specs.Calls.{answerWith, ReadCall, WriteCall, OverloadCall, ScheduleCall, NarrowCall, SettleCall, PlanCall};
-ghost use Rattle.abi.specs.Calls.{EarlyCall, LateCall, ReportCall, LineCall};
+ghost use Rattle.abi.specs.Calls.{EarlyCall, LateCall, ReportCall, LineCall, rowBeside};
 
 // What a call answers: 0 or a refusal's number, and three values, 0 where there are fewer.
 #[repr(C)]
@@ -69,61 +74,93 @@ fn count_as(answer: WriteAnswer) -> Answer
     }
 }
 
-// Reads a list. Accepted: `fields` is the list, flat; else it keeps its values.
+// The list value that `fields` says, where a row of the length `lent` is lent beside it; row 100 for either.
+fn list_beside(fields: &[u32], lent: usize) -> ReadAnswer
+    ensures { λ a. ⌜ readAnswerOf a ≡ rowBeside (now (fields .entry)) lent ⌝ }
+{
+    let given = list_in(fields);
+    let verdict = given.verdict;
+    let Verdict::Accepted = verdict else {
+        return given;
+    };
+    let fault = row_fault(lent);
+    let Verdict::Accepted = fault else {
+        return ReadAnswer {
+            verdict: fault,
+            list: empty_list(),
+        };
+    };
+    given
+}
+
+// Reads a list. Accepted: `fields` is the list; else it keeps its values.
 #[no_mangle]
-pub extern "C" fn dock_read(bytes: &[u8], fields: &mut [u32; NUMBERS]) -> Answer
+pub extern "C" fn dock_read(bytes: &[u8], fields: &mut [u32]) -> Answer
     ensures { λ a. ⌜ ReadCall (now (bytes .entry)) (now (fields .entry)) a (now (fields .exit)) ⌝ }
 {
+    let fault = row_fault(fields.len());
+    let Verdict::Accepted = fault else {
+        return verdict_as(fault);
+    };
     let answer = format::read(bytes);
-    let verdict = answer.verdict;
-    match verdict {
-        Verdict::Accepted => {
-            let l = answer.list;
-            *fields = flat_of(l);
-            Answer {
-                number: 0,
-                values: [0, 0, 0],
-            }
-        }
-        Verdict::Refused(x) => refused_as(x),
-    }
+    let read = answer.verdict;
+    let Verdict::Accepted = read else {
+        return verdict_as(read);
+    };
+    put_row(answer.list, fields);
+    verdict_as(read)
 }
 
 // Writes the list value that `fields` says. Accepted: the first value is the number of bytes written; else `out` keeps its bytes.
 #[no_mangle]
-pub extern "C" fn dock_write(fields: &[u32; NUMBERS], out: &mut [u8]) -> Answer
+pub extern "C" fn dock_write(fields: &[u32], out: &mut [u8]) -> Answer
     ensures { λ a. ⌜ WriteCall (now (fields .entry)) (now (out .entry)) a (now (out .exit)) ⌝ }
 {
-    let answer = format::write(list_in(fields), out);
+    let given = list_in(fields);
+    let fault = given.verdict;
+    let Verdict::Accepted = fault else {
+        return verdict_as(fault);
+    };
+    let answer = format::write(given.list, out);
     count_as(answer)
 }
 
 // Tests the list value that `fields` says for an overloaded interval.
 #[no_mangle]
-pub extern "C" fn dock_overload(fields: &[u32; NUMBERS]) -> Answer
+pub extern "C" fn dock_overload(fields: &[u32]) -> Answer
     ensures { λ a. ⌜ OverloadCall (now (fields .entry)) a ⌝ }
 {
-    verdict_as(jackson::overload(list_in(fields)))
+    let given = list_in(fields);
+    let fault = given.verdict;
+    let Verdict::Accepted = fault else {
+        return verdict_as(fault);
+    };
+    verdict_as(jackson::overload(given.list))
 }
 
 // Fills `plan` with Jackson's schedule of the list value that `fields` says, its windows as given. Refused: `plan` keeps its bytes.
 #[no_mangle]
-pub extern "C" fn dock_schedule(fields: &[u32; NUMBERS], plan: &mut [u8]) -> Answer
+pub extern "C" fn dock_schedule(fields: &[u32], plan: &mut [u8]) -> Answer
     ensures { λ a. ⌜ ScheduleCall (now (fields .entry)) (now (plan .entry)) a (now (plan .exit)) ⌝ }
 {
-    let verdict = jackson::schedule(list_in(fields), plan);
+    let given = list_in(fields);
+    let fault = given.verdict;
+    let Verdict::Accepted = fault else {
+        return verdict_as(fault);
+    };
+    let verdict = jackson::schedule(given.list, plan);
     verdict_as(verdict)
 }
 
-// What narrowing answered: the values are the moves and this second one, and `narrowed` is the list, flat; refused, it keeps its values.
-fn give_narrowed(answer: NarrowAnswer, second: u64, narrowed: &mut [u32; NUMBERS]) -> Answer
+// What narrowing answered: the values are the moves and this second one, and `narrowed` is the list; refused, it keeps its values.
+fn give_narrowed(answer: NarrowAnswer, second: u64, narrowed: &mut [u32]) -> Answer
+    requires { ⌜ length (now narrowed) ≡ flatNumbers ⌝ }
     ensures { λ a. ⌜ NarrowCall (narrowAnswerOf answer) second (now (narrowed .entry)) a (now (narrowed .exit)) ⌝ }
 {
     let verdict = answer.verdict;
     match verdict {
         Verdict::Accepted => {
-            let l = answer.list;
-            *narrowed = flat_of(l);
+            put_row(answer.list, narrowed);
             Answer {
                 number: 0,
                 values: [answer.moves as u64, second, 0],
@@ -135,10 +172,15 @@ fn give_narrowed(answer: NarrowAnswer, second: u64, narrowed: &mut [u32; NUMBERS
 
 // Narrows the list value that `fields` says until its windows are settled.
 #[no_mangle]
-pub extern "C" fn dock_settle(fields: &[u32; NUMBERS], narrowed: &mut [u32; NUMBERS]) -> Answer
+pub extern "C" fn dock_settle(fields: &[u32], narrowed: &mut [u32]) -> Answer
     ensures { λ a. ⌜ SettleCall (now (fields .entry)) (now (narrowed .entry)) a (now (narrowed .exit)) ⌝ }
 {
-    give_narrowed(narrow::settle(list_in(fields)), 0, narrowed)
+    let given = list_beside(fields, narrowed.len());
+    let fault = given.verdict;
+    let Verdict::Accepted = fault else {
+        return verdict_as(fault);
+    };
+    give_narrowed(narrow::settle(given.list), 0, narrowed)
 }
 
 // The bounds that planning answered; refused, `bounds` keeps its values.
@@ -157,51 +199,66 @@ fn give_bounds(answer: PlanAnswer, bounds: &mut [u32; BOUNDS])
 }
 
 // Plans the list value that `fields` says. Accepted: the values are the moves and the number of broken entries, `narrowed` is the settled
-// list, flat, `bounds` the least ends of the 64 places and then their greatest starts, and `plan` begins with the plan. Refused: each keeps
+// list, `bounds` the least ends of the 64 places and then their greatest starts, and `plan` begins with the plan. Refused: each keeps
 // its values.
 #[no_mangle]
 pub extern "C" fn dock_plan(
-    fields: &[u32; NUMBERS],
+    fields: &[u32],
     plan: &mut [u8],
-    narrowed: &mut [u32; NUMBERS],
+    narrowed: &mut [u32],
     bounds: &mut [u32; BOUNDS],
 ) -> Answer
     ensures { λ a. ⌜ PlanCall (now (fields .entry)) (now (plan .entry)) (now (narrowed .entry)) (now (bounds .entry)) a
         (now (plan .exit)) (now (narrowed .exit)) (now (bounds .exit)) ⌝ }
 {
-    let answer = plan_day(list_in(fields), plan);
+    let given = list_beside(fields, narrowed.len());
+    let fault = given.verdict;
+    let Verdict::Accepted = fault else {
+        return verdict_as(fault);
+    };
+    let answer = plan_day(given.list, plan);
     give_bounds(answer, bounds);
     give_narrowed(answer.narrowed, answer.broken as u64, narrowed)
 }
 
 // Shows the early plan of a place of the list value that `fields` says. Accepted: the values are the moves and the place's least end,
-// `narrowed` is the settled list, flat, and `plan` begins with the plan. Refused: each keeps its values.
+// `narrowed` is the settled list, and `plan` begins with the plan. Refused: each keeps its values.
 #[no_mangle]
 pub extern "C" fn dock_early(
-    fields: &[u32; NUMBERS],
+    fields: &[u32],
     place: u64,
     plan: &mut [u8],
-    narrowed: &mut [u32; NUMBERS],
+    narrowed: &mut [u32],
 ) -> Answer
     ensures { λ a. ⌜ EarlyCall (now (fields .entry)) place (now (plan .entry)) (now (narrowed .entry)) a
         (now (plan .exit)) (now (narrowed .exit)) ⌝ }
 {
-    let answer = show_early(list_in(fields), place as usize, plan);
+    let given = list_beside(fields, narrowed.len());
+    let fault = given.verdict;
+    let Verdict::Accepted = fault else {
+        return verdict_as(fault);
+    };
+    let answer = show_early(given.list, place as usize, plan);
     give_narrowed(answer.narrowed, answer.bound as u64, narrowed)
 }
 
 // Shows the late plan, with the place's greatest start.
 #[no_mangle]
 pub extern "C" fn dock_late(
-    fields: &[u32; NUMBERS],
+    fields: &[u32],
     place: u64,
     plan: &mut [u8],
-    narrowed: &mut [u32; NUMBERS],
+    narrowed: &mut [u32],
 ) -> Answer
     ensures { λ a. ⌜ LateCall (now (fields .entry)) place (now (plan .entry)) (now (narrowed .entry)) a
         (now (plan .exit)) (now (narrowed .exit)) ⌝ }
 {
-    let answer = show_late(list_in(fields), place as usize, plan);
+    let given = list_beside(fields, narrowed.len());
+    let fault = given.verdict;
+    let Verdict::Accepted = fault else {
+        return verdict_as(fault);
+    };
+    let answer = show_late(given.list, place as usize, plan);
     give_narrowed(answer.narrowed, answer.bound as u64, narrowed)
 }
 

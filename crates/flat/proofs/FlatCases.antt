@@ -36,7 +36,7 @@ pub read-in-start : (xs : List ℕ) (entries : List Entry) → length entries �
 read-in-start xs entries h = record { passed = omega arith; long = h; rest = refl }
 
 module _ {xs : List ℕ} {entries : List Entry} {i : ℕ} (s : ReadInSoFar xs entries i) where
-  pub read-in-next : (e : Entry) → i < 64 → e ≡ entryIn xs (2 + 7 * i) → ReadInSoFar xs (set entries i e) (i + 1)
+  pub read-in-next : (e : Entry) → i < 64 → e ≡ entryIn xs (3 + 7 * i) → ReadInSoFar xs (set entries i e) (i + 1)
   unfolding entriesIn
   read-in-next e h q =
       let z : 64 - i ≡ suc (64 - (i + 1)) = omega arith in
@@ -64,39 +64,41 @@ module _ {xs : List ℕ} {entries : List Entry} {i : ℕ} (s : ReadInSoFar xs en
 -- i entries were stored as numbers
 pub record NumbersPut (l : DayList) (fields : List ℕ) (i : ℕ) : Type 0 where
   pub passed : i ≤ 64
-  pub long : length fields ≡ 450
-  pub rest : sets fields (2 + 7 * i) (flatEntries (drop i (l .entries))) ≡ flatOf l
+  pub long : length fields ≡ 451
+  pub rest : sets fields (3 + 7 * i) (flatEntries (drop i (l .entries))) ≡ flatOf l
 
 flat-length : (es : List Entry) → length (flatEntries es) ≡ 7 * length es
 unfolding flatEntries
 flat-length [] = refl
 flat-length (e ∷ es) = omega (arith, flat-length es)
 
-pub numbers-start : (l : DayList) (old : List ℕ) → length old ≡ 450 → length (l .entries) ≡ 64
-    → NumbersPut l (set (set old 0 (l .frame .h)) 1 (l .n)) 0
+pub numbers-start : (l : DayList) (old : List ℕ) → length old ≡ 451 → length (l .entries) ≡ 64
+    → NumbersPut l (set (set (set old 0 (l .frame .h)) 1 (l .n)) 2 (l .frame .opening)) 0
 numbers-start l old h k =
-    let flat : length (flatOf l) ≡ 450 = omega (arith, flat-length (l .entries)) in
+    let one = set old 0 (l .frame .h) in
+    let two = set one 1 (l .n) in
+    let flat : length (flatOf l) ≡ 451 = omega (arith, flat-length (l .entries)) in
     let short : length old ≤ 0 + length (flatOf l) = omega (arith, h, flat) in
     let none : drop (0 + length (flatOf l)) old ≡ [] = drop-of-length-le old short in
     record {
       passed = omega arith;
-      long = length-set (set old 0 (l .frame .h)) 1 (l .n) ∙ length-set old 0 (l .frame .h) ∙ h;
+      long = length-set two 2 (l .frame .opening) ∙ length-set one 1 (l .n) ∙ length-set old 0 (l .frame .h) ∙ h;
       rest = sets-eq (flatOf l) old 0 (omega (arith, h, flat)) ∙ rw none (append-nil (flatOf l));
     }
 
 module _ {l : DayList} {fields : List ℕ} {i : ℕ} (s : NumbersPut l fields i) (k : length (l .entries) ≡ 64) where
-  pub numbers-next : (new : List ℕ) (e₀ : Entry) → i < 64 → new ≡ sets fields (2 + 7 * i) (flatEntry (getD (l .entries) i e₀))
+  pub numbers-next : (new : List ℕ) (e₀ : Entry) → i < 64 → new ≡ sets fields (3 + 7 * i) (flatEntry (getD (l .entries) i e₀))
       → NumbersPut l new (i + 1)
   unfolding flatEntries
   numbers-next new e₀ h q =
       let e = getD (l .entries) i e₀ in
       let more = drop (i + 1) (l .entries) in
       let next : drop i (l .entries) ≡ e ∷ more = rw (add-one i) (drop-cons (l .entries) i e₀ (omega (arith, k))) in
-      let z : 2 + 7 * i + 7 ≡ 2 + 7 * (i + 1) = omega arith in
+      let z : 3 + 7 * i + 7 ≡ 3 + 7 * (i + 1) = omega arith in
       record {
         passed = omega arith;
-        long = rw q (length-sets fields (2 + 7 * i) (flatEntry e) ∙ s .long);
-        rest = rw (q, ← z) (sym (sets-append fields (2 + 7 * i) (flatEntry e) (flatEntries more)) ∙ rw next at (s .rest));
+        long = rw q (length-sets fields (3 + 7 * i) (flatEntry e) ∙ s .long);
+        rest = rw (q, ← z) (sym (sets-append fields (3 + 7 * i) (flatEntry e) (flatEntries more)) ∙ rw next at (s .rest));
       }
 
   pub numbers-done : 64 ≤ i → fields ≡ flatOf l

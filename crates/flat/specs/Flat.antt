@@ -1,11 +1,15 @@
--- A list value as numbers.
+-- A list value as a row of numbers.
 use Prim.Native.Nat.{ℕ, zero, suc, _+_, _*_, min}
-use mathlib.Core.Bool.{not}
+use mathlib.Core.Path.{_≡_}
+use mathlib.Core.Bool.{not, cond}
 use mathlib.Core.List.{List, [], _∷_, _++_}
-use lib.ListN.{getD}
+use lib.ListN.{length, getD}
 use lib.Dec.{eqb}
+use Rattle.base.specs.Outcomes.{Outcome, answered, row, firstOf, andThen}
 use Rattle.format.specs.Maps.{kindOf}
 use Rattle.format.specs.EntryFields.{sealOf}
+use Rattle.format.specs.Reading.{listOr}
+use Rattle.list.specs.Refusals.{readAnswerOf}
 use Rattle.list.specs.DayLists.{mostEntries}
 use Rattle.list.specs.declared.types.Seal.{Seal}
 use Rattle.list.specs.declared.types.Seal.the-variants.{Missing, Number}
@@ -13,10 +17,11 @@ use Rattle.list.specs.declared.types.Kind.{Kind}
 use Rattle.list.specs.declared.types.Kind.the-variants.{Pause, Whole}
 use Rattle.list.specs.declared.types.Entry.{Entry}
 use Rattle.list.specs.declared.types.DayList.{DayList}
+use Rattle.list.specs.declared.types.ReadAnswer.{ReadAnswer}
 
--- how many numbers say a list value: H, n, and seven for each place; and how many its bounds, two for each place
+-- how many numbers say a list value: H, n, the opening minute, and seven for each place; and how many its bounds, two for each place
 abbrev pub flatNumbers : ℕ
-flatNumbers = 450
+flatNumbers = 451
 
 abbrev pub boundNumbers : ℕ
 boundNumbers = 128
@@ -46,7 +51,7 @@ flatEntries (e ∷ es) = flatEntry e ++ flatEntries es
 
 -- a list value as numbers
 abbrev pub flatOf : DayList → List ℕ
-flatOf l = l .frame .h ∷ l .n ∷ flatEntries (l .entries)
+flatOf l = l .frame .h ∷ l .n ∷ l .frame .opening ∷ flatEntries (l .entries)
 
 -- the entry whose seven numbers start at a place; a number too large for its field counts as the field's largest, so that the rules
 -- turn it back, and any flag but 0 stands
@@ -64,8 +69,30 @@ entryIn xs at =
 -- k entries from place i on
 unfoldable pub entriesIn : ℕ → ℕ → List ℕ → List Entry
 entriesIn zero i xs = []
-entriesIn (suc k) i xs = entryIn xs (2 + 7 * i) ∷ entriesIn k (i + 1) xs
+entriesIn (suc k) i xs = entryIn xs (3 + 7 * i) ∷ entriesIn k (i + 1) xs
 
 -- the list value that numbers say
 abbrev pub valueOf : List ℕ → DayList
-valueOf xs = record { frame = record { h = min (getD xs 0 0) 65535 }; n = min (getD xs 1 0) 255; entries = entriesIn mostEntries 0 xs }
+valueOf xs =
+    record {
+      frame = record { h = min (getD xs 0 0) 65535; opening = min (getD xs 2 0) 65535 };
+      n = min (getD xs 1 0) 255;
+      entries = entriesIn mostEntries 0 xs;
+    }
+
+-- row 100: a row of another length is no list value; it carries the right length
+abbrev pub rowFault : ℕ → Outcome (Unit {0})
+rowFault numbers = firstOf (row 100 (not (eqb numbers flatNumbers)) flatNumbers ∷ []) (answered tt)
+
+-- the list value that a row says
+abbrev pub rowOf : List ℕ → Outcome DayList
+rowOf xs = andThen (rowFault (length xs)) (λ _. answered (valueOf xs))
+
+-- what `list_in` answers of a row
+pub record ReadsRow (xs : List ℕ) (a : ReadAnswer) : Type 0 where
+  pub outcome : readAnswerOf a ≡ rowOf xs
+  pub beside : a .list ≡ listOr (rowOf xs)
+
+-- what a row that held old holds after a list value was stored in it; one of another length keeps its numbers
+abbrev pub rowAfter : DayList → List ℕ → List ℕ
+rowAfter l old = cond (eqb (length old) flatNumbers) (flatOf l) old

@@ -1,21 +1,26 @@
-// A list value as 450 numbers.
+// A list value as a row of 451 numbers.
 use crate::NUMBERS;
+use list::empty_list;
 use list::types::DayList;
 use list::types::ENTRIES;
 use list::types::Entry;
 use list::types::Frame;
 use list::types::Kind;
+use list::types::ReadAnswer;
+use list::types::Refusal;
 use list::types::Seal;
+use list::types::Verdict;
 ghost use mathlib.Core.Path.{_≡_};
 ghost use mathlib.Core.Bool.{not};
 ghost use Prim.Native.Nat.{_+_, _≤_, min};
-ghost use lib.ListN.{replicate};
+ghost use lib.ListN.{length};
 ghost use lib.Seq.{sets};
 ghost use lib.Dec.{eqb};
 ghost use Rattle.format.specs.Maps.{kindOf};
 ghost use Rattle.format.specs.EntryFields.{sealOf};
+ghost use Rattle.list.specs.Refusals.{verdictOf};
 ghost use Rattle.flat.specs.Flat.{present, numberOf, wholeOf, flatEntry, flatOf, entryIn, valueOf, flatNumbers};
-ghost use Rattle.list.specs.DayLists.{mostEntries};
+ghost use Rattle.flat.specs.Flat.{rowFault, ReadsRow, rowAfter};
 
 // The largest u16 for a number that is too large, and likewise below.
 fn u16_of(x: u32) -> u16
@@ -47,8 +52,8 @@ fn kind_in(flag: u32) -> Kind
     if flag == 0 { Kind::Pause } else { Kind::Whole }
 }
 
-fn entry_in(fields: &[u32; NUMBERS], at: usize) -> Entry
-    requires { ⌜ at + 7 ≤ flatNumbers ⌝ }
+fn entry_in(fields: &[u32], at: usize) -> Entry
+    requires { ⌜ at + 7 ≤ length (now fields) ⌝ }
     ensures { λ e. ⌜ e ≡ entryIn (now (fields .entry)) at ⌝ }
 {
     let seal = seal_in(fields[at + 1], fields[at + 2]);
@@ -63,29 +68,53 @@ fn entry_in(fields: &[u32; NUMBERS], at: usize) -> Entry
     }
 }
 
-// 64 times the same entry, to start from.
-fn alike(e: Entry) -> [Entry; ENTRIES]
-    ensures { λ es. ⌜ es ≡ replicate mostEntries e ⌝ }
-{
-    [e; ENTRIES]
-}
-
 // The list value that the numbers say, whatever they are.
-pub fn list_in(fields: &[u32; NUMBERS]) -> DayList
+fn value_in(fields: &[u32]) -> DayList
+    requires { ⌜ length (now fields) ≡ flatNumbers ⌝ }
     ensures { λ l. ⌜ l ≡ valueOf (now (fields .entry)) ⌝ }
 {
-    let mut entries = alike(entry_in(fields, 2));
+    let none = empty_list();
+    let mut entries = none.entries;
     let mut i: usize = 0;
     while i < ENTRIES {
-        entries[i] = entry_in(fields, 2 + 7 * i);
+        entries[i] = entry_in(fields, 3 + 7 * i);
         i += 1;
     }
     DayList {
         frame: Frame {
             h: u16_of(fields[0]),
+            opening: u16_of(fields[2]),
         },
         n: u8_of(fields[1]),
         entries: entries,
+    }
+}
+
+// Row 100 for a row of this length.
+pub fn row_fault(numbers: usize) -> Verdict
+    ensures { λ v. ⌜ verdictOf v ≡ rowFault numbers ⌝ }
+{
+    if numbers == NUMBERS {
+        Verdict::Accepted
+    } else {
+        Verdict::Refused(Refusal::BadRow(NUMBERS))
+    }
+}
+
+// The list value that a row says, or row 100.
+pub fn list_in(fields: &[u32]) -> ReadAnswer
+    ensures { λ a. ⌜ ReadsRow (now (fields .entry)) a ⌝ }
+{
+    let fault = row_fault(fields.len());
+    let Verdict::Accepted = fault else {
+        return ReadAnswer {
+            verdict: fault,
+            list: empty_list(),
+        };
+    };
+    ReadAnswer {
+        verdict: Verdict::Accepted,
+        list: value_in(fields),
     }
 }
 
@@ -117,8 +146,8 @@ fn whole_flag(kind: Kind) -> u32
     }
 }
 
-fn put_entry_numbers(e: Entry, fields: &mut [u32; NUMBERS], at: usize)
-    requires { ⌜ at + 7 ≤ flatNumbers ⌝ }
+fn put_entry_numbers(e: Entry, fields: &mut [u32], at: usize)
+    requires { ⌜ at + 7 ≤ length (now fields) ⌝ }
     ensures { λ _. ⌜ now (fields .exit) ≡ sets (now (fields .entry)) at (flatEntry e) ⌝ }
 {
     let seal = e.seal;
@@ -132,24 +161,27 @@ fn put_entry_numbers(e: Entry, fields: &mut [u32; NUMBERS], at: usize)
     fields[at + 6] = whole_flag(kind);
 }
 
-fn no_numbers() -> [u32; NUMBERS]
-    ensures { λ r. ⌜ r ≡ replicate flatNumbers 0 ⌝ }
-{
-    [0; NUMBERS]
-}
-
-// The numbers that say a list value.
-pub fn flat_of(list: DayList) -> [u32; NUMBERS]
-    ensures { λ r. ⌜ r ≡ flatOf list ⌝ }
+// Stores the numbers that say a list value.
+fn put_numbers(list: DayList, fields: &mut [u32])
+    requires { ⌜ length (now fields) ≡ flatNumbers ⌝ }
+    ensures { λ _. ⌜ now (fields .exit) ≡ flatOf list ⌝ }
 {
     let frame = list.frame;
-    let mut fields = no_numbers();
     fields[0] = frame.h as u32;
     fields[1] = list.n as u32;
+    fields[2] = frame.opening as u32;
     let mut i: usize = 0;
     while i < ENTRIES {
-        put_entry_numbers(list.entries[i], &mut fields, 2 + 7 * i);
+        put_entry_numbers(list.entries[i], fields, 3 + 7 * i);
         i += 1;
     }
-    fields
+}
+
+// The same for a row of any length; one of another length than 451 keeps its numbers.
+pub fn put_row(list: DayList, fields: &mut [u32])
+    ensures { λ _. ⌜ now (fields .exit) ≡ rowAfter list (now (fields .entry)) ⌝ }
+{
+    if fields.len() == NUMBERS {
+        put_numbers(list, fields);
+    }
 }

@@ -1,47 +1,85 @@
--- The list read as numbers, or a refusal.
+-- The lent row's length, then the list read as numbers, or a refusal.
 -- Assumes nothing.
 use borrow.Author.Needs.{needs}
-use Rattle.abi.proofs.CallCases.{read-accepted, read-refused}
+use Rattle.abi.proofs.CallCases.{read-no-row, read-refused, read-accepted}
 use Rattle.abi.proofs.dock_read.Statement.{statement}
 use Rattle.abi.proofs.dock_read.Tie as tie
 
-read-requires : tie.Need-read-requires
-read-requires c κs = search needs
+row-fault-requires : tie.Need-row-fault-requires
+row-fault-requires c κs = search needs
 
 enum-told : tie.Need-enum-told
 enum-told c = search needs
 
-flat-of-requires : tie.Need-flat-of-requires
-flat-of-requires c κs = search needs
+enum-told-2 : tie.Need-enum-told-2
+enum-told-2 c = search needs
 
-enum-known-verdict : tie.Need-enum-known-verdict
-enum-known-verdict c = search needs
-
-refused-as-requires : tie.Need-refused-as-requires
-refused-as-requires c κs = search needs
+verdict-as-requires : tie.Need-verdict-as-requires
+verdict-as-requires c κs = search needs
 
 returns : tie.Need-returns
 returns c =
     let args = c .before .before .before .before .before .before .args in
-    let read = c .before .before .before .before .read in
-    let enum-told = c .before .before .enum-told in
-    read-accepted (args .bytes .now) (args .fields .now) (read .result) (read .ensures) _ (enum-told .given .1) (c .flat-of .ensures)
+    let row-fault = c .before .before .before .row-fault in
+    read-no-row (args .bytes .now) (args .fields .now) (row-fault .result) (row-fault .ensures) _ _ (c .before .enum-told2 .given .1)
+    (c .verdict-as .ensures)
+
+read-requires : tie.Need-read-requires
+read-requires c κs = search needs
+
+enum-told-3 : tie.Need-enum-told-3
+enum-told-3 c = search needs
+
+enum-told-4 : tie.Need-enum-told-4
+enum-told-4 c = search needs
+
+verdict-as-requires-2 : tie.Need-verdict-as-requires-2
+verdict-as-requires-2 c κs = search needs
 
 returns-2 : tie.Need-returns-2
 returns-2 c =
-    let args = c .before .before .before .before .before .before .args in
-    let read = c .before .before .before .before .read in
-    let verdict = c .before .before .verdict in
-    read-refused (args .bytes .now) (args .fields .now) (read .result) (read .ensures) _ _ (verdict .given .1) (c .refused-as .ensures)
+    let passed = c .before .before .before .before in
+    let row-fault = passed .before .before .row-fault in
+    let args = passed .before .before .before .before .before .args in
+    let read = c .before .before .before .read in
+    read-refused (args .bytes .now) (args .fields .now) (row-fault .result) (row-fault .ensures) (passed .enum-told .given .1)
+    (read .result) (read .ensures) _ (c .verdict-as2 .ensures) _ (c .before .enum-told4 .given .1)
+
+put-row-requires : tie.Need-put-row-requires
+put-row-requires c κs = search needs
+
+verdict-as-requires-3 : tie.Need-verdict-as-requires-3
+verdict-as-requires-3 c κs = search needs
+
+same-length : tie.Need-same-length
+same-length c = search needs
+
+returns-3 : tie.Need-returns-3
+returns-3 c =
+    let accepted = c .before .before .before .before .before in
+    let read = accepted .before .before .read in
+    let passed = accepted .before .before .before in
+    let row-fault = passed .before .before .row-fault in
+    let args = passed .before .before .before .before .before .args in
+    let put-row = c .before .before .before .put-row in
+    read-accepted (args .bytes .now) (args .fields .now) (row-fault .result) (row-fault .ensures) (passed .enum-told .given .1)
+    (read .result) (read .ensures) _ (c .verdict-as3 .ensures) _ (accepted .enum-told3 .given .1) (put-row .ensures)
 
 pub dock-read-spec : {M : Type 1} → statement M
 dock-read-spec =
     tie.close
     (tie.spec
-    read-requires
+    row-fault-requires
     enum-told
-    flat-of-requires
-    enum-known-verdict
-    refused-as-requires
+    enum-told-2
+    verdict-as-requires
     returns
-    returns-2)
+    read-requires
+    enum-told-3
+    enum-told-4
+    verdict-as-requires-2
+    returns-2
+    put-row-requires
+    verdict-as-requires-3
+    same-length
+    returns-3)

@@ -1,28 +1,62 @@
 -- What narrowing answered, as numbers.
 -- Assumes nothing.
 use borrow.Author.Needs.{needs}
-use Rattle.narrow.specs.Calls.{settleOf}
-use Rattle.abi.proofs.CallCases.{narrow-said}
+use Rattle.abi.proofs.CallCases.{settle-no-row, beside-given, beside-long, settle-said}
 use Rattle.abi.proofs.dock_settle.Statement.{statement}
 use Rattle.abi.proofs.dock_settle.Tie as tie
 
-list-in-requires : tie.Need-list-in-requires
-list-in-requires c κs = search needs
+list-beside-requires : tie.Need-list-beside-requires
+list-beside-requires c κs = search needs
+
+enum-told : tie.Need-enum-told
+enum-told c = search needs
+
+enum-told-2 : tie.Need-enum-told-2
+enum-told-2 c = search needs
+
+verdict-as-requires : tie.Need-verdict-as-requires
+verdict-as-requires c κs = search needs
+
+returns : tie.Need-returns
+returns c =
+    let args = c .before .before .before .before .before .before .args in
+    let beside = c .before .before .before .list-beside in
+    settle-no-row (args .fields .now) (beside .result) _ (c .before .enum-told2 .given .1) _ (c .verdict-as .ensures)
+    (args .narrowed .now) (beside .ensures)
 
 settle-requires : tie.Need-settle-requires
 settle-requires c κs = search needs
 
 give-narrowed-requires : tie.Need-give-narrowed-requires
-give-narrowed-requires c κs = search needs
+give-narrowed-requires c κs =
+    let passed = c .before .before in
+    let beside = passed .before .before .list-beside in
+    let args = passed .before .before .before .before .before .args in
+    beside-long (args .fields .now) (args .narrowed .now) (beside .result) (beside .ensures) (passed .enum-told .given .1)
 
-returns : tie.Need-returns
-returns c =
-    let args = c .before .before .before .before .args in
-    let list-in = c .before .before .before .list-in in
-    let settle = c .before .before .settle in
-    narrow-said settleOf (args .fields .now) (args .narrowed .now) _ (list-in .result) (list-in .ensures) (settle .result)
-    (c .give-narrowed .result) (c .give-narrowed .ensures) (settle .ensures .answers)
+same-length : tie.Need-same-length
+same-length c = search needs
+
+returns-2 : tie.Need-returns-2
+returns-2 c =
+    let passed = c .before .before .before .before .before in
+    let beside = passed .before .before .list-beside in
+    let args = passed .before .before .before .before .before .args in
+    let given = beside-given (args .fields .now) (args .narrowed .now) (beside .result) (beside .ensures) (passed .enum-told .given .1) in
+    let settle = c .before .before .before .before .settle in
+    settle-said (args .fields .now) (args .narrowed .now) _ _ given _ (settle .result) (c .before .before .give-narrowed .ensures)
+    (settle .ensures)
 
 pub dock-settle-spec : {M : Type 1} → statement M
 dock-settle-spec =
-    tie.close (tie.spec list-in-requires settle-requires give-narrowed-requires returns)
+    tie.close
+    (tie.spec
+    list-beside-requires
+    enum-told
+    enum-told-2
+    verdict-as-requires
+    returns
+    settle-requires
+    give-narrowed-requires
+    same-length
+    returns-2)

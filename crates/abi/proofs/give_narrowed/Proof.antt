@@ -8,11 +8,11 @@ use Rattle.abi.proofs.give_narrowed.Tie as tie
 enum-told : tie.Need-enum-told
 enum-told c = search needs
 
-flat-of-requires : tie.Need-flat-of-requires
-flat-of-requires c κs = search needs
+put-row-requires : tie.Need-put-row-requires
+put-row-requires c κs = search needs
 
-cast-t9 : tie.Need-cast-t9
-cast-t9 c = search needs
+cast-t10 : tie.Need-cast-t10
+cast-t10 c = search needs
 
 enum-known-verdict : tie.Need-enum-known-verdict
 enum-known-verdict c = search needs
@@ -20,16 +20,20 @@ enum-known-verdict c = search needs
 refused-as-requires : tie.Need-refused-as-requires
 refused-as-requires c κs = search needs
 
+same-length : tie.Need-same-length
+same-length c = search needs
+
 returns : tie.Need-returns
 returns c =
-    let args = c .before .before .before .before .before .args in
-    let enum-told = c .before .before .before .enum-told in
-    let flat-of = c .before .flat-of in
-    narrowed-given (args .narrowed .now) (args .answer) (args .second) _ (enum-told .given .1) (flat-of .ensures)
+    let start = c .before .before .before .before .before .before .before .before in
+    let args = start .args in
+    let accepted = c .before .before .before .before .before .enum-told in
+    let put-row = c .before .before .before .put-row in
+    narrowed-given (args .narrowed .now) (args .answer) (args .second) _ (start .pre) (accepted .given .1) (put-row .ensures)
 
 returns-2 : tie.Need-returns-2
 returns-2 c =
-    let args = c .before .before .before .before .args in
+    let args = c .before .before .before .before .before .args in
     let verdict = c .before .before .verdict in
     narrowed-refused (args .narrowed .now) (args .answer) (args .second) _ _ (verdict .given .1) (c .refused-as .ensures)
 
@@ -38,9 +42,10 @@ give-narrowed-spec =
     tie.close
     (tie.spec
     enum-told
-    flat-of-requires
-    cast-t9
+    put-row-requires
+    cast-t10
     enum-known-verdict
     refused-as-requires
+    same-length
     returns
     returns-2)

@@ -1,87 +1,46 @@
--- The loop's invariant is `ReadInSoFar`, the measure what is left of 64.
+-- The length decides.
 -- Assumes nothing.
 use borrow.Author.Needs.{needs}
-use Prim.Native.Nat.{_-_}
-use Rattle.flat.proofs.FlatCases.{ReadInSoFar, read-in-start, read-in-next, read-in-done}
+use Rattle.list.proofs.Verdicts.{by-accepted}
+use Rattle.flat.proofs.RowCases.{row-long, row-read, row-refused}
 use Rattle.flat.proofs.value.list_in.Statement.{statement}
 use Rattle.flat.proofs.value.list_in.Tie as tie
 
-abbrev Inv-loop : tie.InvT-loop
-Inv-loop fields entries₀ i₀ entries i = ReadInSoFar fields entries i
+row-fault-requires : tie.Need-row-fault-requires
+row-fault-requires c κs = search needs
 
-abbrev μ-loop : tie.MeasureT-loop
-μ-loop fields entries₀ i₀ entries i = 64 - i
+enum-told : tie.Need-enum-told
+enum-told c = search needs
 
-entry-in-requires : tie.Need-entry-in-requires Inv-loop μ-loop
-entry-in-requires c κs = search needs
+enum-told-2 : tie.Need-enum-told-2
+enum-told-2 c = search needs
 
-alike-requires : tie.Need-alike-requires Inv-loop μ-loop
-alike-requires c κs = search needs
+empty-list-requires : tie.Need-empty-list-requires
+empty-list-requires c κs = search needs
 
-loop-holds : tie.Need-loop-holds Inv-loop μ-loop
-loop-holds c = read-in-start _ _ (rw (c .alike .ensures))
-
-mul-entry-in : tie.Need-mul-entry-in Inv-loop μ-loop
-mul-entry-in c = search needs
-
-add-entry-in : tie.Need-add-entry-in Inv-loop μ-loop
-add-entry-in c = search needs
-
-entry-in-requires-2 : tie.Need-entry-in-requires-2 Inv-loop μ-loop
-entry-in-requires-2 c κs = search needs
-
-mul-entries : tie.Need-mul-entries Inv-loop μ-loop
-mul-entries c = search needs
-
-array-set-from-entries : tie.Need-array-set-from-entries Inv-loop μ-loop
-array-set-from-entries c = search needs
-
-add-i : tie.Need-add-i Inv-loop μ-loop
-add-i c = search needs
-
-loop-less : tie.Need-loop-less Inv-loop μ-loop
-loop-less c = search needs
-
-loop-again : tie.Need-loop-again Inv-loop μ-loop
-loop-again c = read-in-next (c .before .before .loop .inv) _ (c .before .loop-test .taken) (c .entry-in2 .ensures)
-
-element-copy-out-u16-of : tie.Need-element-copy-out-u16-of Inv-loop μ-loop
-element-copy-out-u16-of c = search needs
-
-u16-of-requires : tie.Need-u16-of-requires Inv-loop μ-loop
-u16-of-requires c κs = search needs
-
-element-copy-out-u8-of : tie.Need-element-copy-out-u8-of Inv-loop μ-loop
-element-copy-out-u8-of c = search needs
-
-u8-of-requires : tie.Need-u8-of-requires Inv-loop μ-loop
-u8-of-requires c κs = search needs
-
-returns : tie.Need-returns Inv-loop μ-loop
+returns : tie.Need-returns
 returns c =
-    let loop-test = c .before .before .before .before .loop-test in
-    let loop = c .before .before .before .before .before .loop in
-    rw (c .u8-of .ensures, c .before .before .u16-of .ensures, read-in-done (loop .inv) (loop-test .left))
+    let args = c .before .before .before .before .before .args in
+    let row-fault = c .before .before .before .row-fault in
+    row-refused (args .fields .now) (row-fault .result) (row-fault .ensures) _ _ (c .before .enum-told2 .given .1) (c .empty-list .ensures)
+
+value-in-requires : tie.Need-value-in-requires
+value-in-requires c κs = row-long _ (by-accepted (c .before .before .row-fault .ensures) (c .enum-told .given .1))
+
+returns-2 : tie.Need-returns-2
+returns-2 c =
+    let args = c .before .before .before .before .before .args in
+    let row-fault = c .before .before .before .row-fault in
+    row-read (args .fields .now) (row-fault .result) (row-fault .ensures) _ (c .before .enum-told .given .1) (c .value-in .ensures)
 
 pub list-in-spec : {M : Type 1} → statement M
 list-in-spec =
     tie.close
     (tie.spec
-    Inv-loop
-    μ-loop
-    entry-in-requires
-    alike-requires
-    loop-holds
-    mul-entry-in
-    add-entry-in
-    entry-in-requires-2
-    mul-entries
-    array-set-from-entries
-    add-i
-    loop-less
-    loop-again
-    element-copy-out-u16-of
-    u16-of-requires
-    element-copy-out-u8-of
-    u8-of-requires
-    returns)
+    row-fault-requires
+    enum-told
+    enum-told-2
+    empty-list-requires
+    returns
+    value-in-requires
+    returns-2)

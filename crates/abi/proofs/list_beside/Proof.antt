@@ -1,0 +1,66 @@
+-- The row given, then the length of the one lent.
+-- Assumes nothing.
+use borrow.Author.Needs.{needs}
+use Rattle.abi.proofs.CallCases.{beside-no-row, beside-refused, beside-read}
+use Rattle.abi.proofs.list_beside.Statement.{statement}
+use Rattle.abi.proofs.list_beside.Tie as tie
+
+list-in-requires : tie.Need-list-in-requires
+list-in-requires c κs = search needs
+
+enum-told : tie.Need-enum-told
+enum-told c = search needs
+
+enum-told-2 : tie.Need-enum-told-2
+enum-told-2 c = search needs
+
+returns : tie.Need-returns
+returns c =
+    let args = c .before .before .before .before .args in
+    let list-in = c .before .before .list-in in
+    beside-no-row (args .fields .now) (args .lent) (list-in .result) (list-in .ensures) _ (c .enum-told2 .given .1)
+
+row-fault-requires : tie.Need-row-fault-requires
+row-fault-requires c κs = search needs
+
+enum-told-3 : tie.Need-enum-told-3
+enum-told-3 c = search needs
+
+enum-told-4 : tie.Need-enum-told-4
+enum-told-4 c = search needs
+
+empty-list-requires : tie.Need-empty-list-requires
+empty-list-requires c κs = search needs
+
+returns-2 : tie.Need-returns-2
+returns-2 c =
+    let passed = c .before .before .before .before in
+    let list-in = passed .before .before .list-in in
+    let args = passed .before .before .before .before .args in
+    let row-fault = c .before .before .before .row-fault in
+    beside-refused (args .fields .now) (args .lent) (list-in .result) (list-in .ensures) (passed .enum-told .given .1)
+    (row-fault .result) (row-fault .ensures) _ _ (c .before .enum-told4 .given .1)
+
+returns-3 : tie.Need-returns-3
+returns-3 c =
+    let passed = c .before .before .before in
+    let list-in = passed .before .before .list-in in
+    let args = passed .before .before .before .before .args in
+    let row-fault = c .before .before .row-fault in
+    beside-read (args .fields .now) (args .lent) (list-in .result) (list-in .ensures) (passed .enum-told .given .1)
+    (row-fault .result) (row-fault .ensures) (c .enum-told3 .given .1)
+
+pub list-beside-spec : {M : Type 1} → statement M
+list-beside-spec =
+    tie.close
+    (tie.spec
+    list-in-requires
+    enum-told
+    enum-told-2
+    returns
+    row-fault-requires
+    enum-told-3
+    enum-told-4
+    empty-list-requires
+    returns-2
+    returns-3)
