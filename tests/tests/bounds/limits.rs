@@ -148,7 +148,7 @@ fn the_last_minute_of_the_longest_day() {
     let found = bounds(&day);
     assert_eq!((found[63], found[0]), ((1440, 1439), (75, 1439 - 75)));
     let settled = asked(Call::Plan, &whole(day, &[63]));
-    assert_eq!(settled.1.narrowed[2 + 7 * 63 + 3..][..2], [1439, 1440]);
+    assert_eq!(settled.1.narrowed[3 + 7 * 63 + 3..][..2], [1439, 1440]);
     assert_eq!((settled.0.values, settled.1.plan[1439]), ([1, 0, 0], 63));
 }
 

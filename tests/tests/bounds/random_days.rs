@@ -98,7 +98,8 @@ fn through_the_mirror(call: Call, day: &Day) -> Option<(u64, Vec<u8>, Day)> {
         Call::Late(place) => Call::Early(place),
     };
     let (answer, lent) = abi::ask(there, &flat::of_day(&mirror::day(day)), day.h.into());
-    let narrowed = Day { h: day.h, entries: flat::value(&lent.narrowed).places[..n].to_vec() };
+    let narrowed =
+        Day { h: day.h, opening: day.opening, entries: flat::value(&lent.narrowed).places[..n].to_vec() };
     (answer.number == 0).then(|| (h - answer.values[1], mirror::plan(&lent.plan), mirror::day(&narrowed)))
 }
 

@@ -63,13 +63,13 @@ fn values_at_the_limits_are_planned() {
 #[test]
 fn a_yes_is_answered_as_1() {
     let mut fields = flat::of_day(&boxes(4, "w[0,3)2 w[0,4)2"));
-    (fields[3], fields[4], fields[8]) = (5, 77, 9);
-    (fields[10], fields[11], fields[15]) = (0, 88, u32::MAX);
+    (fields[4], fields[5], fields[9]) = (5, 77, 9);
+    (fields[11], fields[12], fields[16]) = (0, 88, u32::MAX);
     for call in calls(2) {
         let (answer, lent) = ask(call, &fields, 4);
         assert_eq!((answer.number, answer.values[0]), (0, 2), "{call:?}");
-        assert_eq!(lent.narrowed[2..9], [101, 1, 77, 0, 2, 2, 1], "{call:?}");
-        assert_eq!(lent.narrowed[9..16], [102, 0, 0, 2, 4, 2, 1], "{call:?}");
+        assert_eq!(lent.narrowed[3..10], [101, 1, 77, 0, 2, 2, 1], "{call:?}");
+        assert_eq!(lent.narrowed[10..17], [102, 0, 0, 2, 4, 2, 1], "{call:?}");
     }
 }
 

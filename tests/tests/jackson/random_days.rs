@@ -115,7 +115,7 @@ fn full_days_of_any_windows_against_the_second_planner() {
     let mut random = Random::new(16);
     for _ in 0..200 {
         let entries = random::entries(&mut random, LONGEST_DAY, MOST_ENTRIES);
-        let shown = check::overloaded(&told_apart(Day { h: LONGEST_DAY, entries }));
+        let shown = check::overloaded(&told_apart(Day { h: LONGEST_DAY, opening: 0, entries }));
         assert!(shown.work > u64::from(shown.b - shown.a));
     }
 }

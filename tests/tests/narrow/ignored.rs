@@ -70,8 +70,8 @@ fn travels_along(seed: u64, numbers: &[usize]) {
         twice += usize::from(ignored::has_a_serial_twice(&other));
         assert!(said(&other, n) == before, "{numbers:?} of {day:?}");
         let (answer, narrowed) = abi::settle(&other);
-        for at in (0..n).flat_map(|place| numbers.iter().map(move |number| 2 + WIDTH * place + number)) {
-            let wanted = match (at - 2) % WIDTH {
+        for at in (0..n).flat_map(|place| numbers.iter().map(move |number| flat::at(place) + number)) {
+            let wanted = match (at - flat::at(0)) % WIDTH {
                 STANDS => u32::from(other[at] != 0),
                 SEAL if other[at - 1] == 0 => 0, // a number beside no seal is nothing
                 _ => other[at],
@@ -207,7 +207,7 @@ fn two_serials_thirty_two_times_each() {
     };
     let all = |part: &str| {
         let entries = (0..32).flat_map(|turn| times(part, 4 * turn)).collect();
-        with_serials(Day { h: 128, entries }, &[[8, 9]; 32].concat())
+        with_serials(Day { h: 128, opening: 0, entries }, &[[8, 9]; 32].concat())
     };
     assert_eq!(settled(&all("w[0,3)2 w[0,4)2")), (all("w[0,2)2 w[2,4)2"), 64));
 }

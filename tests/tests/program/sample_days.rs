@@ -19,7 +19,7 @@ fn told(description: &str) -> Day {
     let (_, lines) = description.split_once("\n\n").expect("an empty line before the day");
     let mut lines = lines.lines();
     let h = lines.next().and_then(|line| line.strip_prefix("day ")).expect("the day's length");
-    Day { h: h.parse().expect("minutes"), entries: lines.map(entry).collect() }
+    Day { h: h.parse().expect("minutes"), opening: 0, entries: lines.map(entry).collect() }
 }
 
 fn entry(line: &str) -> Entry {
@@ -76,7 +76,7 @@ fn one_box_twice_is_turned_back_for_one_entry() {
     let day = told(&description);
     let of = |places: &[usize]| {
         let entries = places.iter().map(|&place| day.entries[place].clone()).collect();
-        writer::form(&Day { h: day.h, entries })
+        writer::form(&Day { h: day.h, opening: day.opening, entries })
     };
     let head = |text: String| text.lines().next().map(String::from).expect("a line");
     let at = of(&[0, 1, 2, 3]).len();
