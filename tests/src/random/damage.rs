@@ -97,7 +97,9 @@ pub fn wild_fields(random: &mut Random) -> Fields {
     }
     for _ in 0..random.below(4) {
         let used = flat::at((day.entries.len() + 1).min(MOST_ENTRIES));
-        fields[random.below(used)] = wild_number(random, day.h);
+        let r_or_p = flat::at(random.below(day.entries.len().max(1))) + random.pick(&[3, 5]);
+        let any = random.below(used);
+        fields[random.pick(&[r_or_p, any, any])] = wild_number(random, day.h);
     }
     fields
 }

@@ -1,5 +1,5 @@
 //! A list handed over as a value to the calls that plan: "2, 3, then 6 and 7 per entry; 2 and 3 then carry 0,
-//! 6 and 7 the entry's place", then 14, whatever place is asked for and whatever buffer is lent.
+//! 6 and 7 the entry's place", with 15 after 3 and 16 before 6, then 14, whatever place is asked for and whatever buffer is lent.
 
 use dock_tests::abi::Call;
 use dock_tests::check_bounds::{ask, calls, refused};
@@ -83,5 +83,5 @@ fn six_thousand_wild_values() {
         let room = random.pick(&[0, fields[0] as usize % 3_000, 1440, 1440, 2000]);
         ask(call, fields, room).0.number as usize
     });
-    seen.more_than(40, &[0, 2, 3, 6, 7, 9, 11, 13, 14]);
+    seen.more_than(40, &[0, 2, 3, 6, 7, 9, 11, 13, 14, 15, 16]);
 }

@@ -1,5 +1,5 @@
 //! A list handed over as a value to the planner: "2, 3, then 6 and 7 per entry; 2 and 3 then carry 0, 6 and 7
-//! the entry's place", then 14, then 11, then 9.
+//! the entry's place", with 15 after 3 and 16 before 6, then 14, then 11, then 9.
 
 use dock_tests::check::{not_planned, overload, schedule, test_refused};
 use dock_tests::flat::{self, Fields};

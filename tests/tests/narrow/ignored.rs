@@ -138,7 +138,7 @@ fn a_right_entry_at_place_n_is_none_of_the_list() {
 fn an_empty_list_before_sixty_four_places_of_junk() {
     for junk in [1, 3, 65_535, u32::MAX] {
         let mut fields = [junk; SIZE];
-        (fields[0], fields[1]) = (3, 0);
+        fields[..3].copy_from_slice(&[3, 0, 0]);
         let (answer, narrowed) = abi::settle(&fields);
         assert_eq!((answer.number, answer.values), (0, [0, 0, 0]));
         assert!(narrowed == flat::of_day(&boxes(3, "")), "zeros after {junk}");

@@ -48,5 +48,5 @@ fn nine_comes_before_ten() {
 #[test]
 fn ten_thousand_wild_values() {
     let seen = values::wild(61, 10_000, |_, fields| number(&settle(fields)));
-    seen.more_than(100, &[0, 2, 3, 6, 7, 9, 14]);
+    seen.more_than(100, &[0, 2, 3, 6, 7, 9, 14, 15, 16]);
 }
