@@ -22,21 +22,31 @@ pub fn damaged(random: &mut Random) -> Vec<u8> {
     damaged_form(random, &day)
 }
 
-/// The bytes of a random list that has an opening minute, with one to three damages, each of them once in three times
-/// in the header.
+/// The bytes of a random list that has an opening minute, with one to three damages: in the header, the opening minute
+/// written anywhere, or any other.
 pub fn damaged_opened(random: &mut Random) -> Vec<u8> {
-    let mut day = apart_or_not(random);
+    let mut day = any_drawn_day(random);
     while day.h == 1 {
-        day = apart_or_not(random);
+        day = any_drawn_day(random);
     }
-    let mut bytes = writer::form(&told_apart(opened(random, day)));
+    let drawn = opened(random, day);
+    let mut bytes = writer::form(&if random.once_in(3) { drawn } else { told_apart(drawn) });
     for _ in 0..=random.below(3) {
-        match random.once_in(3) {
-            true => change_header(random, &mut bytes),
-            false => damage(random, &mut bytes),
+        match random.below(4) {
+            0 => change_header(random, &mut bytes),
+            1 => copy_opening(random, &mut bytes),
+            _ => damage(random, &mut bytes),
         }
     }
     bytes
+}
+
+/// Writes the two bytes of the opening minute over any two after them, if there are such.
+fn copy_opening(random: &mut Random, bytes: &mut [u8]) {
+    if bytes.len() >= 7 {
+        let at = 5 + random.below(bytes.len() - 6);
+        bytes.copy_within(3..5, at);
+    }
 }
 
 /// The bytes of this list with one to three damages.

@@ -26,7 +26,7 @@ fn every_byte_more_is_left_over() {
 }
 
 /// Tries each other value of each byte, and counts what is told.
-fn every_change(mut bytes: Vec<u8>) -> Told {
+pub fn every_change(mut bytes: Vec<u8>) -> Told {
     let mut told = Told::default();
     for place in 0..bytes.len() {
         let right = bytes[place];
