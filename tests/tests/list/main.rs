@@ -10,6 +10,7 @@ mod opening_bytes;
 mod opening_damaged;
 mod opening_entries;
 mod opening_values;
+mod row_length;
 mod seals_and_serials;
 mod untouched;
 mod write_buffer;
