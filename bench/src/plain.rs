@@ -1,7 +1,7 @@
-//! The plain Rust program: document 01 with document 02's tie rule, line by line, without the proved code and
-//! without a faster way.
+//! The plain Rust program: document 01 with document 02's tie rule and opening minute, line by line, without the
+//! proved code and without a faster way.
 //! Jackson's schedule goes minute by minute, and every start, end and bound is found by trying one minute
-//! after the other. Like the library it takes a list as 450 numbers and writes what it answers into what it
+//! after the other. Like the library it takes a list as 451 numbers and writes what it answers into what it
 //! is lent. The value check, row 11 and the count of broken entries are those of the tests. Their second
 //! planner is no such program: it steps from one arrival or end to the next, and copies the list for every
 //! start.

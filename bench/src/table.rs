@@ -10,7 +10,7 @@ pub fn text(before: Option<&Before>) -> String {
     let how = format!(
         "\
 Full days of 1,440 minutes and 64 entries, by the proved library and by a plain Rust program. Both take a
-list as 450 numbers and write windows, bounds and plan into memory that is lent to them, and each time must
+list as 451 numbers and write windows, bounds and plan into memory that is lent to them, and each time must
 answer and leave the same. Times are in milliseconds.
 
 plan       narrowing, Jackson's schedule of the settled windows, and all bounds

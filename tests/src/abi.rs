@@ -1,35 +1,43 @@
 //! The calls of the static library. They check nothing beforehand; what is lent to the library is filled
-//! with values that it does not write by chance, so that what it leaves alone can be told.
+//! with values that it does not write by chance, so that what it leaves alone can be told. A list crosses as a row of
+//! numbers with its length. Most calls here take any row, so that one of another length can be tried too.
 
 use crate::day::MOST_ENTRIES;
 use crate::flat::Fields;
 
 extern "C" {
-    fn dock_read(bytes: *const u8, len: usize, fields: *mut Fields) -> Answer;
-    fn dock_write(fields: *const Fields, out: *mut u8, len: usize) -> Answer;
-    fn dock_overload(fields: *const Fields) -> Answer;
-    fn dock_schedule(fields: *const Fields, plan: *mut u8, len: usize) -> Answer;
-    fn dock_settle(fields: *const Fields, narrowed: *mut Fields) -> Answer;
+    fn dock_read(bytes: *const u8, len: usize, fields: *mut u32, numbers: usize) -> Answer;
+    fn dock_write(fields: *const u32, numbers: usize, out: *mut u8, len: usize) -> Answer;
+    fn dock_overload(fields: *const u32, numbers: usize) -> Answer;
+    fn dock_schedule(fields: *const u32, numbers: usize, plan: *mut u8, len: usize) -> Answer;
+    fn dock_settle(fields: *const u32, numbers: usize, narrowed: *mut u32, narrowed_numbers: usize)
+        -> Answer;
     fn dock_plan(
-        fields: *const Fields,
+        fields: *const u32,
+        numbers: usize,
         plan: *mut u8,
         len: usize,
-        narrowed: *mut Fields,
+        narrowed: *mut u32,
+        narrowed_numbers: usize,
         bounds: *mut Bounds,
     ) -> Answer;
     fn dock_early(
-        fields: *const Fields,
+        fields: *const u32,
+        numbers: usize,
         place: u64,
         plan: *mut u8,
         len: usize,
-        narrowed: *mut Fields,
+        narrowed: *mut u32,
+        narrowed_numbers: usize,
     ) -> Answer;
     fn dock_late(
-        fields: *const Fields,
+        fields: *const u32,
+        numbers: usize,
         place: u64,
         plan: *mut u8,
         len: usize,
-        narrowed: *mut Fields,
+        narrowed: *mut u32,
+        narrowed_numbers: usize,
     ) -> Answer;
     fn dock_report(bytes: *const u8, len: usize, out: *mut u8, room: usize) -> Answer;
     fn dock_refusal_line(number: u64, values: *const [u64; 3], out: *mut u8, room: usize) -> Answer;
@@ -62,8 +70,13 @@ fn lending_fields(call: impl FnOnce(&mut Fields) -> Answer) -> (Answer, Fields) 
 
 /// Reads a list through the library.
 pub fn read(bytes: &[u8]) -> (Answer, Fields) {
-    // SAFETY: the library reads `bytes.len()` bytes and writes one array, all of them lent here.
-    lending_fields(|fields| unsafe { dock_read(bytes.as_ptr(), bytes.len(), fields) })
+    lending_fields(|fields| read_into(bytes, fields))
+}
+
+/// Reads a list through the library into this row, whatever it holds.
+pub fn read_into(bytes: &[u8], fields: &mut [u32]) -> Answer {
+    // SAFETY: the library reads `bytes.len()` bytes and writes the numbers of `fields`, all of them lent here.
+    unsafe { dock_read(bytes.as_ptr(), bytes.len(), fields.as_mut_ptr(), fields.len()) }
 }
 
 /// Bytes before and behind those that are lent to a call, which it has no business with.
@@ -80,37 +93,37 @@ fn lending(room: usize, call: impl FnOnce(&mut [u8]) -> Answer) -> (Answer, Vec<
 }
 
 /// Writes a list through the library into `room` bytes, and gives all of them back.
-pub fn write(fields: &Fields, room: usize) -> (Answer, Vec<u8>) {
-    // SAFETY: the library reads one array and writes the bytes of `out`, all of them lent here.
-    lending(room, |out| unsafe { dock_write(fields, out.as_mut_ptr(), out.len()) })
+pub fn write(fields: &[u32], room: usize) -> (Answer, Vec<u8>) {
+    // SAFETY: the library reads the numbers of `fields` and writes the bytes of `out`, all of them lent here.
+    lending(room, |out| unsafe { dock_write(fields.as_ptr(), fields.len(), out.as_mut_ptr(), out.len()) })
 }
 
 /// Tests a list for overload through the library.
-pub fn overload(fields: &Fields) -> Answer {
-    // SAFETY: the library reads one array, which is lent here.
-    unsafe { dock_overload(fields) }
+pub fn overload(fields: &[u32]) -> Answer {
+    // SAFETY: the library reads the numbers of `fields`, all of them lent here.
+    unsafe { dock_overload(fields.as_ptr(), fields.len()) }
 }
 
 /// Plans a list through the library into `room` bytes, and gives all of them back.
-pub fn schedule(fields: &Fields, room: usize) -> (Answer, Vec<u8>) {
+pub fn schedule(fields: &[u32], room: usize) -> (Answer, Vec<u8>) {
     lending(room, |plan| schedule_into(fields, plan))
 }
 
 /// Plans a list through the library into these bytes, whatever they hold.
-pub fn schedule_into(fields: &Fields, plan: &mut [u8]) -> Answer {
-    // SAFETY: the library reads one array and writes the bytes of `plan`, all of them lent here.
-    unsafe { dock_schedule(fields, plan.as_mut_ptr(), plan.len()) }
+pub fn schedule_into(fields: &[u32], plan: &mut [u8]) -> Answer {
+    // SAFETY: the library reads the numbers of `fields` and writes the bytes of `plan`, all of them lent here.
+    unsafe { dock_schedule(fields.as_ptr(), fields.len(), plan.as_mut_ptr(), plan.len()) }
 }
 
 /// Settles a list's windows through the library.
-pub fn settle(fields: &Fields) -> (Answer, Fields) {
+pub fn settle(fields: &[u32]) -> (Answer, Fields) {
     lending_fields(|narrowed| settle_into(fields, narrowed))
 }
 
-/// Settles a list's windows through the library into these fields, whatever they hold.
-pub fn settle_into(fields: &Fields, narrowed: &mut Fields) -> Answer {
-    // SAFETY: the library reads one array and writes another, both of them lent here.
-    unsafe { dock_settle(fields, narrowed) }
+/// Settles a list's windows through the library into this row, whatever it holds.
+pub fn settle_into(fields: &[u32], narrowed: &mut [u32]) -> Answer {
+    // SAFETY: the library reads the numbers of `fields` and writes those of `narrowed`, all of them lent here.
+    unsafe { dock_settle(fields.as_ptr(), fields.len(), narrowed.as_mut_ptr(), narrowed.len()) }
 }
 
 /// The least ends of 64 places, then their greatest starts.
@@ -141,7 +154,7 @@ impl Lent {
 }
 
 /// Makes a call of the library with `room` bytes for the plan, and gives back all that was lent.
-pub fn ask(call: Call, fields: &Fields, room: usize) -> (Answer, Lent) {
+pub fn ask(call: Call, fields: &[u32], room: usize) -> (Answer, Lent) {
     let mut lent = Lent::untouched(0);
     let (answer, plan) =
         lending(room, |plan| ask_lending(call, fields, plan, &mut lent.narrowed, &mut lent.bounds));
@@ -149,24 +162,27 @@ pub fn ask(call: Call, fields: &Fields, room: usize) -> (Answer, Lent) {
 }
 
 /// Makes a call of the library with this lent to it, whatever it holds.
-pub fn ask_into(call: Call, fields: &Fields, lent: &mut Lent) -> Answer {
+pub fn ask_into(call: Call, fields: &[u32], lent: &mut Lent) -> Answer {
     ask_lending(call, fields, &mut lent.plan, &mut lent.narrowed, &mut lent.bounds)
 }
 
-fn ask_lending(
+/// Makes a call of the library with these bytes, this row and these bounds lent to it, whatever they hold.
+pub fn ask_lending(
     call: Call,
-    fields: &Fields,
+    fields: &[u32],
     plan: &mut [u8],
-    narrowed: &mut Fields,
+    narrowed: &mut [u32],
     bounds: &mut Bounds,
 ) -> Answer {
+    let (fields, numbers) = (fields.as_ptr(), fields.len());
     let (plan, len) = (plan.as_mut_ptr(), plan.len());
-    // SAFETY: the library reads one array and writes `len` bytes and one or two arrays, all of them lent here.
+    let (narrowed, more) = (narrowed.as_mut_ptr(), narrowed.len());
+    // SAFETY: the library reads one row and writes bytes, another row and perhaps the bounds, all of them lent here.
     unsafe {
         match call {
-            Call::Plan => dock_plan(fields, plan, len, narrowed, bounds),
-            Call::Early(place) => dock_early(fields, place, plan, len, narrowed),
-            Call::Late(place) => dock_late(fields, place, plan, len, narrowed),
+            Call::Plan => dock_plan(fields, numbers, plan, len, narrowed, more, bounds),
+            Call::Early(place) => dock_early(fields, numbers, place, plan, len, narrowed, more),
+            Call::Late(place) => dock_late(fields, numbers, place, plan, len, narrowed, more),
         }
     }
 }

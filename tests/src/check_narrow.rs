@@ -77,8 +77,10 @@ pub fn rounds(day: &Day) -> Rounds {
 /// moves, or all before a refusal.
 #[track_caller]
 pub fn rounds_leave(day: &Day, wanted: &[(&str, u64)]) {
-    let wanted =
-        wanted.iter().map(|&(windows, moves)| Narrowed { day: samples::boxes(day.h, windows), moves });
+    let wanted = wanted.iter().map(|&(windows, moves)| Narrowed {
+        day: Day { opening: day.opening, ..samples::boxes(day.h, windows) },
+        moves,
+    });
     assert_eq!(rounds(day).done, Vec::from_iter(wanted), "rounds of {day:?}");
 }
 
@@ -104,7 +106,7 @@ pub fn by_trying_everything(day: &Day) -> Answer {
 
 /// The windows of the first n entries.
 pub fn windows_in(fields: &Fields, n: usize) -> Windows {
-    let places = fields[2..].chunks_exact(flat::WIDTH).take(n);
+    let places = fields[flat::at(0)..].chunks_exact(flat::WIDTH).take(n);
     places.map(|place| (place[3] as u16, place[4] as u16)).collect()
 }
 

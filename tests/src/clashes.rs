@@ -19,7 +19,7 @@ pub fn share_a_minute(h: u16, one: Window, other: Window) -> bool {
 /// A day of `h` minutes with an entry of a minute for each serial and window, pause and whole in turn.
 pub fn day(h: u16, entries: &[(u32, Window)]) -> Day {
     let entry = |(place, &(serial, (r, d)))| Entry { serial, seal: None, r, d, p: 1, whole: place % 2 == 1 };
-    Day { h, entries: entries.iter().enumerate().map(entry).collect() }
+    Day { h, opening: 0, entries: entries.iter().enumerate().map(entry).collect() }
 }
 
 /// Whether one of two windows ends by the time that the other begins: "Windows that only touch are fine."
@@ -46,7 +46,7 @@ pub fn told(entries: &[(u32, Window)]) -> Option<usize> {
 pub fn merged(depots: &[&Day]) -> Day {
     let h = depots[0].h;
     assert!(depots.iter().all(|depot| depot.h == h), "the same day");
-    Day { h, entries: depots.iter().flat_map(|depot| depot.entries.clone()).collect() }
+    Day { h, opening: 0, entries: depots.iter().flat_map(|depot| depot.entries.clone()).collect() }
 }
 
 /// A depot's list of a spring day of ten hours. Each depot numbers its boxes from 1; its hours begin at minute
@@ -61,5 +61,5 @@ pub fn depot(first: u16) -> Day {
         whole,
     };
     let boxes = [(0, 120, 25, false), (10, 70, 20, true), (30, 60, 10, false), (60, 120, 30, true)];
-    Day { h: 600, entries: (1..).zip(boxes).map(entry).collect() }
+    Day { h: 600, opening: 0, entries: (1..).zip(boxes).map(entry).collect() }
 }

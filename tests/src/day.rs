@@ -1,4 +1,4 @@
-//! The day's list and its refusals, as document 01 describes them.
+//! The day's list and its refusals, as document 01 describes them, with the opening minute of document 02.
 
 /// An entry. A field that may be missing from the bytes and has a default, r or d, is always here.
 #[derive(Clone, Debug, Default, PartialEq, Eq)]
@@ -15,6 +15,8 @@ pub struct Entry {
 #[derive(Clone, Debug, PartialEq, Eq)]
 pub struct Day {
     pub h: u16,
+    /// "Without it the opening minute is 0."
+    pub opening: u16,
     pub entries: Vec<Entry>,
 }
 
@@ -26,7 +28,8 @@ pub struct Interval {
     pub work: u64,
 }
 
-/// The rows of document 01's table that the library's calls know, and 14 of document 02, with what each carries.
+/// The rows of document 01's table that the library's calls know, and 14, 15 and 16 of document 02, with what each
+/// carries; and 100, of a row of numbers that has another length than a list's.
 #[derive(Clone, Copy, Debug, PartialEq, Eq)]
 pub enum Refusal {
     Missing { length: usize },
@@ -43,6 +46,9 @@ pub enum Refusal {
     ShortBuffer { needed: usize },
     UnknownPlace { place: u64 },
     SerialClash { place: usize },
+    Opening { carries: usize },
+    BeforeOpening { place: usize },
+    RowLength { numbers: usize },
 }
 
 impl Refusal {
@@ -63,14 +69,20 @@ impl Refusal {
             Refusal::ShortBuffer { needed } => (12, needed),
             Refusal::UnknownPlace { place } => return (13, [place, 0, 0]),
             Refusal::SerialClash { place } => (14, place),
+            Refusal::Opening { carries } => (15, carries),
+            Refusal::BeforeOpening { place } => (16, place),
+            Refusal::RowLength { numbers } => (100, numbers),
         };
         (number, [carries as u64, 0, 0])
     }
 }
 
 impl Entry {
-    /// The rules 6 and 7, which bytes and values share; `place` is what the refusal carries.
-    pub fn fault(&self, h: u16, place: usize) -> Result<(), Refusal> {
+    /// The rules 16, 6 and 7, which bytes and values share; `place` is what the refusal carries.
+    pub fn fault(&self, h: u16, opening: u16, place: usize) -> Result<(), Refusal> {
+        if self.r < opening {
+            return Err(Refusal::BeforeOpening { place });
+        }
         if self.p == 0 {
             return Err(Refusal::NoMinutes { place });
         }
@@ -110,5 +122,5 @@ pub const MOST_ENTRIES: usize = 64;
 
 /// The byte of a minute that no entry has.
 pub const IDLE: u8 = 255;
-/// The bytes of a longest list: a header of 3, and 64 entries with all fields.
-pub const LONGEST_LIST: usize = 963;
+/// The bytes of a longest list: a header of 3, 2 with the opening minute, and 64 entries with all fields.
+pub const LONGEST_LIST: usize = 965;

@@ -1,12 +1,19 @@
-//! A list as 450 numbers, the form in which the static library takes and gives it: H, n, then for each of
-//! 64 places the serial, whether a seal stands, the seal's number, r, d, p, and whether the entry is whole.
+//! A list as 451 numbers, the form in which the static library takes and gives it: H, n, the opening minute, then for
+//! each of 64 places the serial, whether a seal stands, the seal's number, r, d, p, and whether the entry is whole.
 
 use crate::day::{Day, Entry, MOST_ENTRIES};
 
 /// How many numbers a place has.
 pub const WIDTH: usize = 7;
 /// How many numbers a list has.
-pub const SIZE: usize = 2 + WIDTH * MOST_ENTRIES;
+pub const SIZE: usize = at(MOST_ENTRIES);
+/// Where the opening minute stands.
+pub const OPENING: usize = 2;
+
+/// Where the numbers of a place begin.
+pub const fn at(place: usize) -> usize {
+    3 + WIDTH * place
+}
 
 pub type Fields = [u32; SIZE];
 
@@ -15,6 +22,7 @@ pub type Fields = [u32; SIZE];
 pub struct Value {
     pub h: u16,
     pub n: u8,
+    pub opening: u16,
     pub places: Vec<Entry>,
 }
 
@@ -23,6 +31,7 @@ pub fn of_day(day: &Day) -> Fields {
     let mut fields = [0; SIZE];
     fields[0] = u32::from(day.h);
     fields[1] = day.entries.len() as u32;
+    fields[OPENING] = u32::from(day.opening);
     for (place, entry) in day.entries.iter().enumerate() {
         put(&mut fields, place, entry);
     }
@@ -40,17 +49,17 @@ pub fn put(fields: &mut Fields, place: usize, entry: &Entry) {
         u32::from(entry.p),
         u32::from(entry.whole),
     ];
-    fields[2 + WIDTH * place..][..WIDTH].copy_from_slice(&numbers);
+    fields[at(place)..][..WIDTH].copy_from_slice(&numbers);
 }
 
 fn minute(number: u32) -> u16 {
     u16::try_from(number).unwrap_or(u16::MAX)
 }
 
-/// The value that 450 numbers stand for: a number too large for its field as the field's largest, which the
+/// The value that 451 numbers stand for: a number too large for its field as the field's largest, which the
 /// rules then refuse, and any other number than 0 as a yes.
 pub fn value(fields: &Fields) -> Value {
-    let places = fields[2..].chunks_exact(WIDTH).map(|place| match place {
+    let places = fields[at(0)..].chunks_exact(WIDTH).map(|place| match place {
         &[serial, stands, seal, r, d, p, whole] => Entry {
             serial,
             seal: (stands != 0).then_some(seal),
@@ -62,5 +71,5 @@ pub fn value(fields: &Fields) -> Value {
         _ => unreachable!("a place has {WIDTH} numbers"),
     });
     let n = u8::try_from(fields[1]).unwrap_or(u8::MAX);
-    Value { h: minute(fields[0]), n, places: places.collect() }
+    Value { h: minute(fields[0]), n, opening: minute(fields[OPENING]), places: places.collect() }
 }

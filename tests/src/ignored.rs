@@ -2,7 +2,7 @@
 //! in two places before or after.
 
 use crate::day::Day;
-use crate::flat::{self, Fields, WIDTH};
+use crate::flat::{self, Fields, OPENING};
 use crate::random::Random;
 use crate::samples::told_apart;
 
@@ -18,15 +18,15 @@ pub fn with_any(random: &mut Random, fields: &Fields, numbers: &[usize]) -> Fiel
     let mut fields = *fields;
     for place in 0..fields[1] as usize {
         for number in numbers {
-            fields[2 + WIDTH * place + number] = random.any() as u32 >> random.below(32);
+            fields[flat::at(place) + number] = random.any() as u32 >> random.below(32);
         }
     }
     if numbers.contains(&SERIAL) {
         if random.once_in(2) {
-            (0..fields[1] as usize).for_each(|place| fields[2 + WIDTH * place + SERIAL] %= 3);
+            (0..fields[1] as usize).for_each(|place| fields[flat::at(place) + SERIAL] %= 3);
         }
         for (place, entry) in told_apart(list(&fields)).entries.iter().enumerate() {
-            fields[2 + WIDTH * place + SERIAL] = entry.serial;
+            fields[flat::at(place) + SERIAL] = entry.serial;
         }
     }
     fields
@@ -36,14 +36,14 @@ pub fn with_any(random: &mut Random, fields: &Fields, numbers: &[usize]) -> Fiel
 pub fn list(fields: &Fields) -> Day {
     let mut entries = flat::value(fields).places;
     entries.truncate(fields[1] as usize);
-    Day { h: fields[0] as u16, entries }
+    Day { h: fields[0] as u16, opening: fields[OPENING] as u16, entries }
 }
 
 /// The value with this serial in every entry.
 pub fn with_one_serial(fields: &Fields, serial: u32) -> Fields {
     let mut fields = *fields;
     for place in 0..fields[1] as usize {
-        fields[2 + WIDTH * place + SERIAL] = serial;
+        fields[flat::at(place) + SERIAL] = serial;
     }
     fields
 }
@@ -57,7 +57,7 @@ pub fn has_a_serial_twice(fields: &Fields) -> bool {
 /// The value with other numbers in all its places from n on.
 pub fn with_rest(fields: &Fields, other: impl FnMut() -> u32) -> Fields {
     let mut fields = *fields;
-    let used = 2 + WIDTH * fields[1] as usize;
+    let used = flat::at(fields[1] as usize);
     fields[used..].fill_with(other);
     fields
 }

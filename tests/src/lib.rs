@@ -37,7 +37,9 @@ pub mod cases; // inputs with their reports, from files
 pub mod chains; // days that need many rounds
 pub mod clashes; // lists in which a serial stands twice
 pub mod ignored; // values that differ in what no call looks at
+pub mod opening; // days with an opening minute, and the same days without one
 pub mod random; // lists, damaged inputs and values, fixed by their seeds
+pub mod rows; // rows of numbers of another length than a list's
 pub mod samples; // lists that several tests share, and short forms to write others down
 pub mod told; // how often each number was answered
 pub mod values; // values that every call refuses or accepts

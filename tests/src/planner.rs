@@ -4,7 +4,7 @@ use crate::day::{Day, Refusal};
 use crate::flat::Value;
 use crate::{jackson, overload, writer};
 
-/// What the overload test makes of a value: "2, 3, then 6 and 7 per entry", 14, then 9.
+/// What the overload test makes of a value: 2, 3, 15, then 16, 6 and 7 per entry, 14, then 9.
 pub fn overload(value: &Value) -> Result<(), Refusal> {
     given_windows(&writer::checked(value)?)
 }

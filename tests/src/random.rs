@@ -1,10 +1,13 @@
 //! Random lists, damaged inputs and wild values. Every sequence is fixed by its seed. In a list that is well-formed
 //! equal serials stand in windows that share no minute; those that are drawn or doubled may be refused with 14.
 
+mod damage;
+
+pub use damage::{damaged, damaged_form, damaged_opened, wild_fields, with_header_changed};
+
 use crate::day::{Day, Entry, LONGEST_DAY, MOST_ENTRIES};
-use crate::flat::{self, Fields, WIDTH};
+use crate::opening;
 use crate::samples::told_apart;
-use crate::writer;
 
 /// The generator splitmix64.
 pub struct Random(u64);
@@ -38,6 +41,11 @@ impl Random {
 
     pub fn pick<T: Copy>(&mut self, from: &[T]) -> T {
         from[self.below(from.len())]
+    }
+
+    /// A generator beside this one, which stays as it is.
+    fn beside(&self) -> Random {
+        Random(self.0 ^ 0x0F0E_2026)
     }
 
     fn wide(&mut self) -> u32 {
@@ -74,7 +82,7 @@ pub fn drawn_day(random: &mut Random, most: usize) -> Day {
     let any = random.within(1, LONGEST_DAY);
     let h = random.pick(&[1, 2, any % 20 + 1, any, LONGEST_DAY]);
     let n = random.below(most + 1);
-    Day { h, entries: entries(random, h, n) }
+    Day { h, opening: 0, entries: entries(random, h, n) }
 }
 
 /// Such a list: mostly a short one, else one of any length or a full one.
@@ -83,6 +91,36 @@ pub fn any_drawn_day(random: &mut Random) -> Day {
     let mut day = drawn_day(random, most);
     if random.once_in(8) {
         day.entries.resize_with(MOST_ENTRIES, || entry(random, day.h));
+    }
+    match random.once_in(3) {
+        true => opened(random, day),
+        false => day,
+    }
+}
+
+/// The same list, as it is drawn, in a room that opens at some minute after 0, if the day has one: no window begins or
+/// ends before that.
+pub fn opened(random: &mut Random, mut day: Day) -> Day {
+    let last = day.h - 1;
+    if last == 0 {
+        return day;
+    }
+    let any = random.within(1, last);
+    day.opening = random.pick(&[1, any.min(9), any, last]);
+    for entry in &mut day.entries {
+        entry.d = entry.d.max(day.opening + 1);
+        entry.r = entry.r.max(day.opening);
+        entry.p = entry.p.min(entry.d - entry.r);
+    }
+    day
+}
+
+/// The same day, or once in four times so much later in a day of at most `most` minutes, with the opening minute at
+/// which it then begins. That is drawn beside the sequence, so that the days which follow do not depend on it.
+fn now_or_later(random: &Random, day: Day, most: u16) -> Day {
+    let mut beside = random.beside();
+    if day.h < most && beside.once_in(4) {
+        return opening::later(&day, beside.within(1, most - day.h));
     }
     day
 }
@@ -117,19 +155,21 @@ pub fn entry(random: &mut Random, h: u16) -> Entry {
     Entry { serial: random.wide(), seal, r, d, p, whole: random.once_in(2) }
 }
 
-/// A well-formed list of at most 8 minutes and 5 entries, with a plan or without one.
+/// A well-formed list of at most 8 minutes and 5 entries, with a plan or without one, and perhaps with an opening
+/// minute.
 pub fn small_day(random: &mut Random) -> Day {
     let h = random.within(1, 8);
     let n = random.below(6);
     if random.once_in(4) {
-        return told_apart(Day { h, entries: entries(random, h, n) });
+        let day = told_apart(Day { h, opening: 0, entries: entries(random, h, n) });
+        return now_or_later(random, day, 8);
     }
     let idle = random.pick(&[0, 2, 9]);
     let mut day = planned_day(random, h, n, idle, &[1, 2, 4, 8]);
     if random.once_in(2) {
         work_more(random, &mut day);
     }
-    day
+    now_or_later(random, day, 8)
 }
 
 /// A list of `n` entries, or as many as there are minutes, that has a plan. One is made up, idle once in
@@ -159,7 +199,7 @@ pub fn planned_day(random: &mut Random, h: u16, n: usize, idle: usize, grids: &[
         entry.d = (end.div_ceil(grid) * grid).min(h);
         entry.p = minutes.len() as u16;
     }
-    told_apart(Day { h, entries })
+    told_apart(Day { h, opening: 0, entries })
 }
 
 /// A list of `n` entries, at least 1 and at most as many as there are minutes, that has a plan in which none
@@ -182,7 +222,7 @@ pub fn unbroken_day(random: &mut Random, h: u16, n: usize, idle: bool, wider: u1
         free = end;
     }
     shuffle(random, &mut entries);
-    told_apart(Day { h, entries })
+    told_apart(Day { h, opening: 0, entries })
 }
 
 /// A full day with an unbroken plan, of whole entries but for one in `pause`, and none if that is 0.
@@ -212,7 +252,7 @@ pub fn blocked_day(random: &mut Random) -> Day {
 /// them are interrupted. There is a plan, as the minutes to both sides of an entry are enough for the one
 /// around it.
 pub fn interrupted_day(random: &mut Random) -> Day {
-    let mut day = Day { h: LONGEST_DAY, entries: vec![] };
+    let mut day = Day { h: LONGEST_DAY, opening: 0, entries: vec![] };
     let (mut r, mut d) = (0, LONGEST_DAY);
     for _ in 0..MOST_ENTRIES {
         let (before, after) = (random.within(1, 11), random.within(1, 11));
@@ -227,7 +267,7 @@ pub fn interrupted_day(random: &mut Random) -> Day {
 /// A full day in which many entries have the same r, d or p, so that ties are frequent, here and in the mirror, and a
 /// quarter of them, with a minute each, interrupts the others.
 pub fn crowded_day(random: &mut Random) -> Day {
-    let mut day = Day { h: LONGEST_DAY, entries: vec![] };
+    let mut day = Day { h: LONGEST_DAY, opening: 0, entries: vec![] };
     for place in 0..MOST_ENTRIES as u16 {
         let quarter = random.pick(&[0, 360, 720, 1080]);
         let (r, d, p) = if place % 4 == 0 {
@@ -243,13 +283,13 @@ pub fn crowded_day(random: &mut Random) -> Day {
 }
 
 /// A day of at most `most` minutes and `n` entries, of which three in four or all are whole: windows of any
-/// kind, or drawn around a plan that breaks entries or not.
+/// kind, or drawn around a plan that breaks entries or not; and perhaps with an opening minute.
 pub fn mixed_day(random: &mut Random, most: u16, n: usize) -> Day {
     let h = random.within(1, most);
     let n = random.below(n + 1);
     let idle = random.pick(&[0, 2, 9]);
     let mut day = match random.below(4) {
-        0 => told_apart(Day { h, entries: entries(random, h, n) }),
+        0 => told_apart(Day { h, opening: 0, entries: entries(random, h, n) }),
         1 => unbroken_day(random, h, n.clamp(1, h.into()), idle > 0, h / 2),
         _ => planned_day(random, h, n, idle, &[1, 2, 4, 8]),
     };
@@ -258,13 +298,13 @@ pub fn mixed_day(random: &mut Random, most: u16, n: usize) -> Day {
     }
     let mixed = random.once_in(2);
     day.entries.iter_mut().for_each(|entry| entry.whole = !mixed || !random.once_in(4));
-    day
+    now_or_later(random, day, most)
 }
 
 /// Two wide whole entries, and two pause entries of a minute that leave little between them: here 10 comes in
 /// round two now and then. Windows drawn around a plan hardly ever do that.
 pub fn crossed_day(random: &mut Random) -> Day {
-    let mut day = Day { h: 7, entries: vec![] };
+    let mut day = Day { h: 7, opening: 0, entries: vec![] };
     for _ in 0..2 {
         let r = random.within(1, 5);
         let d = random.within(r + 1, r + 2);
@@ -280,7 +320,7 @@ pub fn crossed_day(random: &mut Random) -> Day {
 /// whole entries, and pause entries cannot end at once.
 pub fn nested_day(random: &mut Random, h: u16, n: usize) -> Day {
     let quarter = h / 4;
-    let mut day = Day { h, entries: vec![] };
+    let mut day = Day { h, opening: 0, entries: vec![] };
     for _ in 0..n {
         let (r, d, p) = if random.once_in(2) {
             (random.within(0, quarter), h - random.within(0, quarter), random.within(1, 3.min(h / 2)))
@@ -308,79 +348,4 @@ pub fn work_more(random: &mut Random, day: &mut Day) {
         let entry = &mut roomy[chosen];
         entry.p = random.within(entry.p + 1, entry.d - entry.r);
     }
-}
-
-/// A list of any length, once in three times with its serials as they are drawn.
-fn apart_or_not(random: &mut Random) -> Day {
-    let day = any_drawn_day(random);
-    if random.once_in(3) {
-        day
-    } else {
-        told_apart(day)
-    }
-}
-
-/// The bytes of a random list with one to three damages.
-pub fn damaged(random: &mut Random) -> Vec<u8> {
-    let day = apart_or_not(random);
-    damaged_form(random, &day)
-}
-
-/// The bytes of this list with one to three damages.
-pub fn damaged_form(random: &mut Random, day: &Day) -> Vec<u8> {
-    let mut bytes = writer::form(day);
-    for _ in 0..=random.below(3) {
-        damage(random, &mut bytes);
-    }
-    bytes
-}
-
-/// The bytes of this list with another byte in its header.
-pub fn with_header_changed(random: &mut Random, day: &Day) -> Vec<u8> {
-    let mut bytes = writer::form(day);
-    let at = random.below(3);
-    let byte = bytes[at];
-    while bytes[at] == byte {
-        let any = random.any() as u8;
-        bytes[at] = random.pick(&[0, 1, 5, 6, 64, 65, 128, byte.wrapping_sub(1), byte.wrapping_add(1), any]);
-    }
-    bytes
-}
-
-fn damage(random: &mut Random, bytes: &mut Vec<u8>) {
-    let end = bytes.len();
-    let at = random.below(end + 1);
-    let byte = random.any() as u8;
-    match random.below(7) {
-        0 if at < end => bytes[at] = byte,
-        1 if at < end => bytes[at] ^= 1 << (byte % 8),
-        2 if at < end => bytes[at] = random.pick(&[0, 1, bytes[0], bytes[end - 1], 0xFF]),
-        3 => bytes.truncate(at),
-        4 => bytes.extend((0..=random.below(20)).map(|i| byte.wrapping_mul(i as u8))),
-        5 => drop(bytes.splice(at.., writer::form(&any_day(random)).into_iter().skip(3))),
-        6 => drop(bytes.drain(at..(at + random.below(4)).min(end))),
-        _ => bytes.insert(at, byte),
-    }
-}
-
-/// A flat value that may break any rule: a list, often with noise behind it, with up to three numbers
-/// changed.
-pub fn wild_fields(random: &mut Random) -> Fields {
-    let day = apart_or_not(random);
-    let mut fields = flat::of_day(&day);
-    if random.once_in(2) {
-        let n = 2 + WIDTH * day.entries.len();
-        fields[n..].fill_with(|| random.any() as u32);
-    }
-    for _ in 0..random.below(4) {
-        let used = 2 + WIDTH * (day.entries.len() + 1).min(MOST_ENTRIES);
-        fields[random.below(used)] = wild_number(random, day.h);
-    }
-    fields
-}
-
-fn wild_number(random: &mut Random, h: u16) -> u32 {
-    let h = u32::from(h);
-    let any = random.any() as u32;
-    random.pick(&[0, 1, h - 1, h, h + 1, 64, 65, 255, 256, 1441, 65_535, 65_536, 65_536 + h, any % 1500, any])
 }

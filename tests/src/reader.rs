@@ -1,4 +1,4 @@
-//! The second reader: takes the fields one after the other, as document 01 names them. One box in two places is
+//! The second reader: takes the fields one after the other, as documents 01 and 02 name them. One box in two places is
 //! looked for last, when the whole input is known to be a list: "after 8 when reading".
 
 use crate::day::{Day, Entry, Refusal, LONGEST_DAY, MOST_ENTRIES};
@@ -45,27 +45,39 @@ pub fn read(input: &[u8]) -> Result<Day, Refusal> {
     if h == 0 || h > LONGEST_DAY {
         return Err(Refusal::DayLength);
     }
-    let n = cursor.number(1)? as usize;
+    // "Bit 7 of the count byte now says that two bytes with the opening minute follow the header; bits 0 to 6 are n"
+    let count = cursor.number(1)? as usize;
+    let n = count % 128;
     if n > MOST_ENTRIES {
         return Err(Refusal::TooMany { carries: 2 });
     }
+    let opening = if count >= 128 { written_opening(&mut cursor, h)? } else { 0 };
     let (mut maps, mut entries) = (vec![], vec![]);
     for _ in 0..n {
         maps.push(cursor.place());
-        entries.push(entry(&mut cursor, h)?);
+        entries.push(entry(&mut cursor, h, opening)?);
     }
     if !cursor.left.is_empty() {
         return Err(Refusal::LeftOver { first: cursor.place() });
     }
-    let day = Day { h, entries };
+    let day = Day { h, opening, entries };
     match day.first_clash() {
         Some(place) => Err(Refusal::SerialClash { place: maps[place] }),
         None => Ok(day),
     }
 }
 
+/// "If the two bytes are missing that is 1, after 3. An opening minute written as 0, or one of H or more, is refused as
+/// 15 next, carrying 3".
+fn written_opening(cursor: &mut Cursor, h: u16) -> Result<u16, Refusal> {
+    match cursor.two()? {
+        opening if (1..h).contains(&opening) => Ok(opening),
+        _ => Err(Refusal::Opening { carries: 3 }),
+    }
+}
+
 /// Reads one entry. All its fields are taken before any of them is judged.
-fn entry(cursor: &mut Cursor, h: u16) -> Result<Entry, Refusal> {
+fn entry(cursor: &mut Cursor, h: u16, opening: u16) -> Result<Entry, Refusal> {
     let place = cursor.place();
     let map = cursor.number(1)?;
     let bit = |number: u32| map >> number & 1 == 1;
@@ -77,12 +89,13 @@ fn entry(cursor: &mut Cursor, h: u16) -> Result<Entry, Refusal> {
     let r = cursor.field(bit(2), 2)?;
     let d = cursor.field(bit(3), 2)?;
     let p = cursor.two()?;
-    if r == Some(0) || d == Some(u32::from(h)) {
+    // "A missing r means the opening minute, and a written r equal to it is 5."
+    if r == Some(u32::from(opening)) || d == Some(u32::from(h)) {
         return Err(Refusal::WrittenDefault { place });
     }
-    let r = r.map_or(0, |r| r as u16);
+    let r = r.map_or(opening, |r| r as u16);
     let d = d.map_or(h, |d| d as u16);
     let entry = Entry { serial, seal, r, d, p, whole: bit(5) };
-    entry.fault(h, place)?;
+    entry.fault(h, opening, place)?;
     Ok(entry)
 }

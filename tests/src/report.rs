@@ -6,7 +6,7 @@ use crate::narrow::{self, Narrowed};
 use crate::{bounds, flat, jackson, reader};
 
 /// The bytes that the program takes at most: one more than a longest list has.
-pub const LONGEST_INPUT: usize = 964;
+pub const LONGEST_INPUT: usize = 966;
 /// A buffer in which every report fits.
 pub const ENOUGH: usize = 22_352;
 
@@ -39,7 +39,8 @@ pub fn planned(Narrowed { day, moves }: &Narrowed) -> String {
     [head].into_iter().chain(entries).chain(runs).collect()
 }
 
-/// "its place, serial, seal or `-`, `pause` or `whole`, settled r, settled d, p, least end, greatest start"
+/// "its place, serial, seal or `-`, `pause` or `whole`, settled r, settled d, p, least end, greatest start": minutes of
+/// the day, whenever the room opens.
 fn entry_line(day: &Day, place: usize) -> String {
     let Entry { serial, seal, r, d, p, whole } = &day.entries[place];
     let seal = seal.map_or("-".to_string(), |seal| seal.to_string());

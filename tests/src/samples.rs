@@ -2,7 +2,7 @@
 
 use crate::day::{Day, Entry, IDLE, LONGEST_DAY, MOST_ENTRIES};
 use crate::flat::{self, Fields, SIZE};
-use crate::writer;
+use crate::{opening, writer};
 
 /// Bytes written as in document 01: hexadecimal, with blanks and bars anywhere.
 pub fn hex(text: &str) -> Vec<u8> {
@@ -20,7 +20,7 @@ pub fn plan(minutes: &str) -> Vec<u8> {
 /// A day of `h` minutes with r, d and p of each entry: all of them pause, with serials that differ.
 pub fn windows(h: u16, entries: &[(u16, u16, u16)]) -> Day {
     let entry = |(serial, &(r, d, p))| Entry { serial, seal: None, r, d, p, whole: false };
-    Day { h, entries: (101..).zip(entries).map(entry).collect() }
+    Day { h, opening: 0, entries: (101..).zip(entries).map(entry).collect() }
 }
 
 /// The same list with the entries at these places whole.
@@ -89,7 +89,7 @@ pub fn many_moves() -> Day {
 pub fn four_of(part: &Day) -> Day {
     let later = |entry: &Entry, by: u16| Entry { r: entry.r + by, d: entry.d + by, ..entry.clone() };
     let entries = part.entries.iter().flat_map(|entry| [0, 360, 720, 1080].map(|by| later(entry, by)));
-    Day { h: LONGEST_DAY, entries: entries.collect() }
+    Day { h: LONGEST_DAY, opening: 0, entries: entries.collect() }
 }
 
 /// A pause entry with these minutes, right or wrong.
@@ -146,6 +146,20 @@ pub fn shorts(n: usize) -> Vec<Written> {
 pub fn list(h: u16, entries: &[Written]) -> Vec<u8> {
     let mut bytes = h.to_le_bytes().to_vec();
     bytes.push(entries.len() as u8);
+    push_entries(&mut bytes, entries);
+    bytes
+}
+
+/// The bytes of such a list with its opening minute written, right or wrong.
+pub fn opened_list(h: u16, opening: u16, entries: &[Written]) -> Vec<u8> {
+    let mut bytes = h.to_le_bytes().to_vec();
+    bytes.push(0x80 | entries.len() as u8);
+    bytes.extend(opening.to_le_bytes());
+    push_entries(&mut bytes, entries);
+    bytes
+}
+
+fn push_entries(bytes: &mut Vec<u8>, entries: &[Written]) {
     for entry in entries {
         let stands = [entry.seal.is_some(), entry.r.is_some(), entry.d.is_some(), true, entry.whole];
         let map = (1..).zip(stands).fold(1, |map, (bit, stands)| map | u8::from(stands) << bit);
@@ -155,24 +169,32 @@ pub fn list(h: u16, entries: &[Written]) -> Vec<u8> {
         bytes.extend([entry.r, entry.d].iter().flatten().flat_map(|minute| minute.to_le_bytes()));
         bytes.extend(entry.p.to_le_bytes());
     }
-    bytes
 }
 
-/// A longest list: 64 entries with all their fields.
+/// A longest list: an opening minute, and 64 entries with all their fields.
 pub fn longest() -> Day {
-    let entry = |i: usize| {
-        let i = i as u32;
-        let r = 1 + 20 * i as u16;
+    Day { opening: 300, ..all_fields(301, 17) }
+}
+
+/// A longest list without an opening minute, which has two bytes less.
+pub fn longest_from_0() -> Day {
+    all_fields(1, 20)
+}
+
+/// 64 entries with all their fields, each alone in a window of so many minutes, one after the other from `first` on.
+fn all_fields(first: u16, width: u16) -> Day {
+    let entry = |i: u16| {
+        let r = first + width * i;
         Entry {
-            serial: 0x0104_0302 * (i + 1),
-            seal: Some(i),
+            serial: 0x0104_0302 * (u32::from(i) + 1),
+            seal: Some(i.into()),
             r,
-            d: r + 20,
-            p: 1 + i as u16 % 20,
+            d: r + width,
+            p: 1 + i % width,
             whole: i % 3 == 1,
         }
     };
-    Day { h: LONGEST_DAY, entries: (0..MOST_ENTRIES).map(entry).collect() }
+    Day { h: LONGEST_DAY, opening: 0, entries: (0..MOST_ENTRIES as u16).map(entry).collect() }
 }
 
 /// A full day in which each entry begins a minute after the last, from `first` on, and ends a minute before
@@ -187,7 +209,7 @@ pub fn interrupted(first: u16, whole: bool, p: impl Fn(usize) -> u16) -> Day {
         p: p(place),
         whole,
     };
-    Day { h: LONGEST_DAY, entries: (0..MOST_ENTRIES).map(entry).collect() }
+    Day { h: LONGEST_DAY, opening: 0, entries: (0..MOST_ENTRIES).map(entry).collect() }
 }
 
 /// A day with a long report: 64 entries and 127 runs, nearly all with numbers of the most digits.
@@ -205,16 +227,33 @@ pub fn every_shape() -> Day {
         p: 256 + shape as u16 % 3,
         whole: shape & 8 != 0,
     };
-    Day { h: 777, entries: (0..16).map(entry).collect() }
+    Day { h: 777, opening: 0, entries: (0..16).map(entry).collect() }
 }
 
-/// Accepted inputs, from the smallest to a longest.
+/// Accepted inputs without an opening minute, from the smallest to the longest.
 pub fn inputs() -> Vec<Vec<u8>> {
     vec![
         hex("01 00 00"),
         document(),
         writer::form(&every_shape()),
         list(1, &shorts(MOST_ENTRIES)),
+        writer::form(&longest_from_0()),
+    ]
+}
+
+/// Document 01's sample five minutes later, in a room that opens at minute 5.
+pub fn opened_document() -> Vec<u8> {
+    hex("11 00 83 05 00 | 11 F5 01 00 00 04 00 | 3F F6 01 00 00 4D 00 00 00 07 00 0D 00 03 00
+         | 1F F7 01 00 00 4E 00 00 00 08 00 0B 00 02 00")
+}
+
+/// Accepted inputs with an opening minute, from the smallest to the longest.
+pub fn opened_inputs() -> Vec<Vec<u8>> {
+    vec![
+        hex("02 00 80 01 00"),
+        opened_document(),
+        writer::form(&opening::later(&every_shape(), 258)),
+        opened_list(2, 1, &shorts(MOST_ENTRIES)),
         writer::form(&longest()),
     ]
 }

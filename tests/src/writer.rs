@@ -7,13 +7,17 @@ use crate::flat::Value;
 pub fn form(day: &Day) -> Vec<u8> {
     let mut bytes = day.h.to_le_bytes().to_vec();
     bytes.push(day.entries.len() as u8);
+    if day.opening != 0 {
+        bytes[2] |= 0b1000_0000;
+        bytes.extend(day.opening.to_le_bytes());
+    }
     for entry in &day.entries {
-        push_entry(&mut bytes, entry, day.h);
+        push_entry(&mut bytes, entry, day);
     }
     bytes
 }
 
-fn push_entry(bytes: &mut Vec<u8>, entry: &Entry, h: u16) {
+fn push_entry(bytes: &mut Vec<u8>, entry: &Entry, &Day { h, opening, .. }: &Day) {
     let map_at = bytes.len();
     bytes.push(0b01_0001);
     bytes.extend(entry.serial.to_le_bytes());
@@ -21,7 +25,7 @@ fn push_entry(bytes: &mut Vec<u8>, entry: &Entry, h: u16) {
         bytes[map_at] |= 0b00_0010;
         bytes.extend(seal.to_le_bytes());
     }
-    if entry.r != 0 {
+    if entry.r != opening {
         bytes[map_at] |= 0b00_0100;
         bytes.extend(entry.r.to_le_bytes());
     }
@@ -44,7 +48,8 @@ pub fn write(value: &Value, room: usize) -> Result<Vec<u8>, Refusal> {
     Ok(bytes)
 }
 
-/// The list that a value stands for: what follows its n entries is no part of it. 14 comes "after the last 7".
+/// The list that a value stands for: what follows its n entries is no part of it. 15 comes after 3 and carries "0 for a
+/// value, where only H or more is wrong", and 14 comes "after the last 7".
 pub fn checked(value: &Value) -> Result<Day, Refusal> {
     if value.h == 0 || value.h > LONGEST_DAY {
         return Err(Refusal::DayLength);
@@ -53,9 +58,12 @@ pub fn checked(value: &Value) -> Result<Day, Refusal> {
     if n > MOST_ENTRIES {
         return Err(Refusal::TooMany { carries: 0 });
     }
-    let day = Day { h: value.h, entries: value.places[..n].to_vec() };
+    if value.opening >= value.h {
+        return Err(Refusal::Opening { carries: 0 });
+    }
+    let day = Day { h: value.h, opening: value.opening, entries: value.places[..n].to_vec() };
     for (place, entry) in day.entries.iter().enumerate() {
-        entry.fault(value.h, place)?;
+        entry.fault(day.h, day.opening, place)?;
     }
     match day.first_clash() {
         Some(place) => Err(Refusal::SerialClash { place }),

@@ -5,7 +5,7 @@
 use dock_tests::abi::{self, Call, Lent};
 use dock_tests::check_bounds::{ask, calls, refused};
 use dock_tests::day::{Day, LONGEST_DAY, MOST_ENTRIES};
-use dock_tests::flat::{self, Fields, SIZE, WIDTH};
+use dock_tests::flat::{self, Fields, SIZE};
 use dock_tests::random::{self, Random};
 use dock_tests::samples::{self, boxes, plan};
 use dock_tests::{check, values};
@@ -206,10 +206,10 @@ fn from_place_n_on_there_are_zeros() {
         let entries = Vec::from_iter((0..n).map(|place| (place, LONGEST_DAY - place, 1 + place % 3)));
         let mut fields = flat::of_day(&samples::windows(LONGEST_DAY, &entries));
         let used = usize::from(n);
-        fields[2 + WIDTH * used..].fill(7);
+        fields[flat::at(used)..].fill(7);
         let (answer, lent) = abi::ask(Call::Plan, &fields, LONGEST_DAY.into());
         assert_eq!(answer.number, 0, "{n} entries");
-        assert!(lent.narrowed[2 + WIDTH * used..].iter().all(|&number| number == 0), "{n} entries");
+        assert!(lent.narrowed[flat::at(used)..].iter().all(|&number| number == 0), "{n} entries");
         for bounds in lent.bounds.chunks(MOST_ENTRIES) {
             assert!(bounds[used..].iter().all(|&bound| bound == 0), "bounds of {n} entries");
         }

@@ -5,7 +5,7 @@ use dock_tests::abi::{self, Call, Lent};
 use dock_tests::check_bounds::{ask, ask_all, asked, by_trying_everything, calls, refused};
 use dock_tests::clashes::{self, depot, merged};
 use dock_tests::day::{Day, IDLE, MOST_ENTRIES};
-use dock_tests::flat::{self, Fields, SIZE, WIDTH};
+use dock_tests::flat::{self, Fields, SIZE};
 use dock_tests::samples::{boxes, with_serials};
 use dock_tests::{brute, writer};
 
@@ -74,7 +74,7 @@ fn the_given_windows_decide_and_not_the_settled_ones() {
     // as given, place 2 shares minute 3 with place 1; settled, it begins at 4
     let day = boxes(8, "p[0,4)3 w[3,4)1 w[2,8)2");
     turned_back(&with_serials(day.clone(), &[6, 7, 7]), 2);
-    assert_eq!(asked(Call::Plan, &day).1.narrowed[2 + 2 * WIDTH + 3], 4, "with serials that differ");
+    assert_eq!(asked(Call::Plan, &day).1.narrowed[flat::at(2) + 3], 4, "with serials that differ");
 }
 
 /// "A refusal writes nothing to any lent buffer", whatever stands in them.

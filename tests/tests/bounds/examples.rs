@@ -166,11 +166,11 @@ fn sample() -> Fields {
 fn the_sample_input_has_the_numbers_of_its_report() {
     let (answer, lent) = abi::ask(Call::Plan, &sample(), 12);
     assert_eq!((answer.number, answer.values), (0, [1, 0, 0]));
-    assert_eq!(lent.narrowed[..2], [12, 3]);
-    assert_eq!(lent.narrowed[2..9], [501, 0, 0, 0, 12, 4, 0]);
-    assert_eq!(lent.narrowed[9..16], [502, 1, 77, 5, 8, 3, 1]);
-    assert_eq!(lent.narrowed[16..23], [503, 1, 78, 3, 6, 2, 0]);
-    assert!(lent.narrowed[23..].iter().all(|&number| number == 0), "zeros after the list");
+    assert_eq!(lent.narrowed[..3], [12, 3, 0]);
+    assert_eq!(lent.narrowed[3..10], [501, 0, 0, 0, 12, 4, 0]);
+    assert_eq!(lent.narrowed[10..17], [502, 1, 77, 5, 8, 3, 1]);
+    assert_eq!(lent.narrowed[17..24], [503, 1, 78, 3, 6, 2, 0]);
+    assert!(lent.narrowed[24..].iter().all(|&number| number == 0), "zeros after the list");
     assert_eq!(lent.bounds[..4], [9, 8, 5, 0]);
     assert_eq!(lent.bounds[MOST_ENTRIES..][..4], [8, 5, 3, 0]);
     assert_eq!(lent.plan, plan("0 0 0 2 2 1 1 1 0 - - -"));

@@ -100,7 +100,7 @@ fn every_place_of_a_full_day() {
     let day = random::full_day(&mut random, false, 40, 2);
     let (_, lent) = asked(Call::Plan, &day);
     let places = flat::value(&lent.narrowed).places;
-    let (answer, again) = ask_all(&Day { h: LONGEST_DAY, entries: places });
+    let (answer, again) = ask_all(&Day { h: LONGEST_DAY, opening: 0, entries: places });
     assert_eq!((answer.number, answer.values[0]), (0, 0));
     assert!(again.narrowed == lent.narrowed && again.bounds == lent.bounds, "settled once more");
 }

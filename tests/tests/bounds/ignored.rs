@@ -106,7 +106,7 @@ fn a_right_entry_at_place_n_is_none_of_the_list() {
 fn an_empty_list_before_sixty_four_places_of_junk() {
     for junk in [1, 3, 65_535, u32::MAX] {
         let mut fields = [junk; SIZE];
-        (fields[0], fields[1]) = (3, 0);
+        fields[..3].copy_from_slice(&[3, 0, 0]);
         let (answer, lent) = ask(Call::Plan, &fields, 3);
         assert_eq!((answer.number, answer.values), (0, [0, 0, 0]));
         assert_eq!(lent.plan, plan("- - -"));
@@ -195,7 +195,7 @@ fn a_seal_of_0_is_not_a_missing_seal() {
     day.entries[0].seal = Some(0);
     for call in calls(2) {
         let (_, lent) = asked(call, &day);
-        assert_eq!((lent.narrowed[3], lent.narrowed[10]), (1, 0), "{call:?}");
+        assert_eq!((lent.narrowed[flat::at(0) + 1], lent.narrowed[flat::at(1) + 1]), (1, 0), "{call:?}");
     }
 }
 

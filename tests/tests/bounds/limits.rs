@@ -72,7 +72,7 @@ fn one_entry_fills_the_day() {
 #[test]
 fn one_entry_is_too_long_for_the_day() {
     let mut fields = flat::of_day(&windows(LONGEST_DAY, &[(0, 1440, 1440)]));
-    fields[7] = 1441;
+    fields[flat::at(0) + 5] = 1441;
     calls(1).into_iter().for_each(|call| refused(call, &fields, 1440, 7, 0));
     fields[0] = 1441;
     calls(1).into_iter().for_each(|call| refused(call, &fields, 1441, 2, 0));
@@ -118,9 +118,12 @@ fn sixty_four_entries_that_may_have_any_minutes() {
 fn sixty_four_entries_with_all_their_fields() {
     for mut day in of_either_kind(windows(LONGEST_DAY, &[(2, 1439, 3); MOST_ENTRIES])) {
         day.entries.iter_mut().for_each(|entry| entry.seal = Some(77));
-        assert_eq!(written(&flat::of_day(&day), LONGEST_LIST).len(), LONGEST_LIST);
-        assert_eq!(bounds(&day), [(5, 1436); MOST_ENTRIES]);
-        assert_eq!(asked(Call::Plan, &day).0.values, [0, 0, 0]);
+        for (opening, bytes) in [(0, 963), (1, LONGEST_LIST)] {
+            day.opening = opening;
+            assert_eq!(written(&flat::of_day(&day), LONGEST_LIST).len(), bytes);
+            assert_eq!(bounds(&day), [(5, 1436); MOST_ENTRIES]);
+            assert_eq!(asked(Call::Plan, &day).0.values, [0, 0, 0]);
+        }
     }
 }
 
@@ -148,7 +151,7 @@ fn the_last_minute_of_the_longest_day() {
     let found = bounds(&day);
     assert_eq!((found[63], found[0]), ((1440, 1439), (75, 1439 - 75)));
     let settled = asked(Call::Plan, &whole(day, &[63]));
-    assert_eq!(settled.1.narrowed[2 + 7 * 63 + 3..][..2], [1439, 1440]);
+    assert_eq!(settled.1.narrowed[3 + 7 * 63 + 3..][..2], [1439, 1440]);
     assert_eq!((settled.0.values, settled.1.plan[1439]), ([1, 0, 0], 63));
 }
 

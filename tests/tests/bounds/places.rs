@@ -4,10 +4,10 @@
 use dock_tests::abi::Call;
 use dock_tests::check_bounds::{ask, calls, refused};
 use dock_tests::day::{Day, Entry, LONGEST_DAY, MOST_ENTRIES};
-use dock_tests::flat::{self, Fields, WIDTH};
+use dock_tests::flat::{self, Fields};
 use dock_tests::ignored::with_one_serial;
 use dock_tests::samples::{boxes, entry, value, windows};
-use dock_tests::values;
+use dock_tests::values::{self, Mended};
 
 /// Both calls that ask for a place.
 fn shown(place: u64) -> [Call; 2] {
@@ -89,37 +89,38 @@ fn a_place_behind_the_list_is_13() {
     }
 }
 
-/// A list that is wrong in every row, mended row by row: 2, 3, 6, 7, 14, then 13, 11, 9, 10.
+/// A list that is wrong in every row, mended row by row: 2, 3, 15, 16, 6, 7, 14, then 13, 11, 9, 10.
 #[test]
 fn the_rows_in_their_order() {
-    let first = Entry { whole: true, ..entry(0, 6, 3) };
-    let wrong = value(0, 65, &[first, entry(2, 4, 2), entry(2, 7, 0)]);
-    let mut fields = values::mended(wrong, 6, 4, |fields, number, carries| {
+    let first = Entry { whole: true, ..entry(1, 7, 3) };
+    let wrong = value(0, 65, &[first, entry(3, 5, 2), entry(0, 8, 0)]);
+    let right = Mended { h: 7, opening: 1, r: 3, d: 5 };
+    let mut fields = values::mended(wrong, right, |fields, number, carries| {
         for call in [Call::Plan].into_iter().chain([0, 2, 3, 255].into_iter().flat_map(shown)) {
-            for room in [0, 5, 6, 7, 2000] {
+            for room in [0, 6, 7, 8, 2000] {
                 refused(call, fields, room, number.into(), carries as u64);
             }
         }
     });
-    let (second, third) = (2 + WIDTH, 2 + 2 * WIDTH);
+    let (second, third) = (flat::at(1), flat::at(2));
     let later_rows = |fields: &Fields, number, values| {
-        for room in [0, 5, 6, 7] {
+        for room in [0, 6, 7, 8] {
             for place in [3, 255] {
                 shown(place).iter().for_each(|&call| refused(call, fields, room, 13, place));
             }
             for call in calls(3) {
                 let (answer, _) = ask(call, fields, room);
-                let wanted = if room < 6 { (11, [6, 0, 0]) } else { (number, values) };
+                let wanted = if room < 7 { (11, [7, 0, 0]) } else { (number, values) };
                 assert_eq!((answer.number, answer.values), wanted, "{call:?} in {room} bytes");
             }
         }
     };
-    later_rows(&fields, 9, [2, 4, 3]);
-    fields[third + 3..third + 5].copy_from_slice(&[0, 1]);
+    later_rows(&fields, 9, [3, 5, 3]);
+    fields[third + 3..third + 5].copy_from_slice(&[1, 2]);
     later_rows(&fields, 10, [0, 0, 0]);
-    fields[second + 3..second + 5].copy_from_slice(&[4, 6]);
+    fields[second + 3..second + 5].copy_from_slice(&[5, 7]);
     for call in calls(3) {
-        assert_eq!(ask(call, &fields, 6).0.number, 0, "{call:?} of the list mended");
+        assert_eq!(ask(call, &fields, 7).0.number, 0, "{call:?} of the list mended");
     }
 }
 
@@ -128,7 +129,7 @@ fn the_rows_in_their_order() {
 fn each_row_before_the_next_one() {
     let wrong = {
         let mut fields = flat::of_day(&boxes(6, "p[0,6)2 w[0,6)2"));
-        fields[2 + WIDTH + 5] = 0;
+        fields[flat::at(1) + 5] = 0;
         fields
     };
     let right = flat::of_day(&boxes(6, "p[0,6)2 w[0,6)2"));

@@ -98,8 +98,11 @@ fn through_the_mirror(call: Call, day: &Day) -> Option<(u64, Vec<u8>, Day)> {
         Call::Late(place) => Call::Early(place),
     };
     let (answer, lent) = abi::ask(there, &flat::of_day(&mirror::day(day)), day.h.into());
-    let narrowed = Day { h: day.h, entries: flat::value(&lent.narrowed).places[..n].to_vec() };
-    (answer.number == 0).then(|| (h - answer.values[1], mirror::plan(&lent.plan), mirror::day(&narrowed)))
+    (answer.number == 0).then(|| {
+        let entries = flat::value(&lent.narrowed).places[..n].to_vec();
+        let turned = mirror::day(&Day { h: day.h, opening: 0, entries });
+        (h - answer.values[1], mirror::plan(&lent.plan), Day { opening: day.opening, ..turned })
+    })
 }
 
 /// "Late: the mirror .. of Jackson's schedule of the mirrored list": the late plan of a day is the mirror of the

@@ -19,7 +19,7 @@ fn ties(call: Call, day: &Day) -> Option<Ties> {
         return None;
     }
     let entries = flat::value(&lent.narrowed).places[..day.entries.len()].to_vec();
-    let settled = Day { h: day.h, entries };
+    let settled = Day { h: day.h, opening: day.opening, entries };
     let bound = answer.values[1] as u16;
     let (windows, plan) = match call {
         Call::Plan => (settled, lent.plan),

@@ -1,5 +1,5 @@
 //! A list handed over as a value to the calls that plan: "2, 3, then 6 and 7 per entry; 2 and 3 then carry 0,
-//! 6 and 7 the entry's place", then 14, whatever place is asked for and whatever buffer is lent.
+//! 6 and 7 the entry's place", with 15 after 3 and 16 before 6, then 14, whatever place is asked for and whatever buffer is lent.
 
 use dock_tests::abi::Call;
 use dock_tests::check_bounds::{ask, calls, refused};
@@ -63,13 +63,13 @@ fn values_at_the_limits_are_planned() {
 #[test]
 fn a_yes_is_answered_as_1() {
     let mut fields = flat::of_day(&boxes(4, "w[0,3)2 w[0,4)2"));
-    (fields[3], fields[4], fields[8]) = (5, 77, 9);
-    (fields[10], fields[11], fields[15]) = (0, 88, u32::MAX);
+    (fields[4], fields[5], fields[9]) = (5, 77, 9);
+    (fields[11], fields[12], fields[16]) = (0, 88, u32::MAX);
     for call in calls(2) {
         let (answer, lent) = ask(call, &fields, 4);
         assert_eq!((answer.number, answer.values[0]), (0, 2), "{call:?}");
-        assert_eq!(lent.narrowed[2..9], [101, 1, 77, 0, 2, 2, 1], "{call:?}");
-        assert_eq!(lent.narrowed[9..16], [102, 0, 0, 2, 4, 2, 1], "{call:?}");
+        assert_eq!(lent.narrowed[3..10], [101, 1, 77, 0, 2, 2, 1], "{call:?}");
+        assert_eq!(lent.narrowed[10..17], [102, 0, 0, 2, 4, 2, 1], "{call:?}");
     }
 }
 
@@ -83,5 +83,5 @@ fn six_thousand_wild_values() {
         let room = random.pick(&[0, fields[0] as usize % 3_000, 1440, 1440, 2000]);
         ask(call, fields, room).0.number as usize
     });
-    seen.more_than(40, &[0, 2, 3, 6, 7, 9, 11, 13, 14]);
+    seen.more_than(40, &[0, 2, 3, 6, 7, 9, 11, 13, 14, 15, 16]);
 }

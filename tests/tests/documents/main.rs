@@ -1,8 +1,10 @@
 //! What the documents say: the pages of this repository, what its files import, the traps of document 01, wrong
-//! readings of document 02's tie rule and of its running sum, and the smallest days that the tie rule changes.
+//! readings of document 02's tie rule, of its running sum and of its opening minute, and the smallest days that the tie
+//! rule changes.
 
 mod format;
 mod imports;
+mod opening_traps;
 mod pages;
 mod picture;
 mod refusals;

@@ -36,8 +36,8 @@ fn each_refusal_has_its_section() {
     let headings: Vec<_> = sections.iter().map(|(number, case, _)| (*number, case.clone())).collect();
     assert_eq!(headings, defined());
     let numbers: Vec<usize> = headings.iter().map(|(number, _)| *number).collect();
-    assert_eq!(numbers, (1..=numbers.len()).collect::<Vec<_>>());
-    assert!(numbers.len() >= 14, "{numbers:?}");
+    assert_eq!(numbers, (1..numbers.len()).chain([100]).collect::<Vec<_>>());
+    assert!(numbers.len() >= 17, "{numbers:?}");
 }
 
 #[test]
@@ -47,7 +47,7 @@ fn each_section_says_what_to_do() {
             assert_eq!(text.matches(part).count(), 1, "{number} {case}: {part}");
         }
         let printed = text.contains(&format!("`refused {number} "));
-        assert!(printed || (11..=13).contains(&number), "{number} {case}: how the program prints it");
+        assert!(printed || [11, 12, 13, 100].contains(&number), "{number} {case}: how the program prints it");
         assert_ne!(printed, text.contains("never printed by the program"), "{number} {case}");
     }
 }

@@ -337,8 +337,9 @@ fn the_sum_kept_in_16_bits() {
 /// nothing enters. A box there does.
 #[test]
 fn places_from_n_on_met_too() {
-    let all =
-        |fields: &Fields| by_way(&RIGHT, &Day { h: fields[0] as u16, entries: flat::value(fields).places });
+    let all = |fields: &Fields| {
+        by_way(&RIGHT, &Day { h: fields[0] as u16, opening: 0, entries: flat::value(fields).places })
+    };
     for day in small::pause_days_up_to(3, 3) {
         assert_eq!(all(&flat::of_day(&day)), document::shown(&day), "zeros behind {day:?}");
     }

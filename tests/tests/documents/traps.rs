@@ -18,7 +18,7 @@ use std::collections::BTreeMap;
 fn keyed_by_serial(day: &Day) -> Day {
     let by_serial: BTreeMap<u32, Entry> =
         day.entries.iter().map(|entry| (entry.serial, entry.clone())).collect();
-    Day { h: day.h, entries: by_serial.into_values().collect() }
+    Day { h: day.h, opening: day.opening, entries: by_serial.into_values().collect() }
 }
 
 /// "The same serial may stand twice", in windows that share no minute (document 02). Where they share one the list is

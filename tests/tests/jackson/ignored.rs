@@ -128,7 +128,7 @@ fn a_right_entry_at_place_n_is_not_planned() {
 fn an_empty_list_before_sixty_four_places_of_junk() {
     for junk in [1, 3, 65_535, u32::MAX] {
         let mut fields = [junk; flat::SIZE];
-        (fields[0], fields[1]) = (3, 0);
+        fields[..3].copy_from_slice(&[3, 0, 0]);
         assert_eq!(abi::overload(&fields), Answer { number: 0, values: [0; 3] });
         let (answer, bytes) = abi::schedule(&fields, 3);
         assert_eq!((answer.number, bytes), (0, plan("- - -")));

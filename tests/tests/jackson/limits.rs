@@ -28,7 +28,7 @@ fn one_entry_fills_days_of_every_length() {
 #[test]
 fn one_entry_is_too_long_for_the_day() {
     let mut fields = flat::of_day(&windows(LONGEST_DAY, &[(0, 1440, 1440)]));
-    fields[7] = 1441;
+    fields[flat::at(0) + 5] = 1441;
     test_refused(&fields, 7, 0);
     not_planned(&fields, 1440, 7, 0);
     fields[0] = 1441;

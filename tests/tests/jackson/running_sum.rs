@@ -89,7 +89,7 @@ fn any_day(random: &mut Random) -> Day {
     let n = 1 + random.below(MOST_ENTRIES);
     let grid = grid(random, h);
     let most = (u32::from(h) * random.pick(&[1, 2, 3]) / n as u32).max(1) as u16;
-    let mut day = Day { h, entries: vec![] };
+    let mut day = Day { h, opening: 0, entries: vec![] };
     for _ in 0..n {
         let end = random.within(1, h.div_ceil(grid));
         let (r, d) = (random.within(0, end - 1) * grid, (end * grid).min(h));
@@ -208,7 +208,7 @@ fn stretched(day: &Day, by: u16, from: u16) -> Day {
         p: entry.p * by,
         ..entry.clone()
     };
-    Day { h: day.h * by + from, entries: day.entries.iter().map(entry).collect() }
+    Day { h: day.h * by + from, opening: 0, entries: day.entries.iter().map(entry).collect() }
 }
 
 /// Every day of at most 4 minutes and 3 entries, later, longer, and with minutes above 255 whose low bytes are not in

@@ -204,10 +204,10 @@ fn the_order_of_merging_decides_the_place() {
         entries.splice(at..at, other.entries.clone());
         // box 1 is the only one that stands twice in hours that overlap: place 0 of the first depot, or place 4
         // behind the second's, and of the second depot place `at`
-        turned_back(&Day { h: one.h, entries }, if at == 0 { 4 } else { at });
+        turned_back(&Day { h: one.h, opening: 0, entries }, if at == 0 { 4 } else { at });
     }
     let without: Vec<Entry> = [&one.entries[1..], &other.entries].concat();
-    let day = Day { h: one.h, entries: without };
+    let day = Day { h: one.h, opening: 0, entries: without };
     every_entry_is_kept(&day, &planned(&day));
 }
 

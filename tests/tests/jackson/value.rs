@@ -1,10 +1,10 @@
 //! A list handed over as a value to the planner: "2, 3, then 6 and 7 per entry; 2 and 3 then carry 0, 6 and 7
-//! the entry's place", then 14, then 11, then 9.
+//! the entry's place", with 15 after 3 and 16 before 6, then 14, then 11, then 9.
 
 use dock_tests::check::{not_planned, overload, schedule, test_refused};
 use dock_tests::flat::{self, Fields};
 use dock_tests::samples::{entry, value};
-use dock_tests::values;
+use dock_tests::values::{self, Mended};
 
 /// More room than any day needs.
 const ROOM: usize = 2000;
@@ -54,12 +54,12 @@ fn every_day_length_without_entries() {
 /// buffer, mended step by step.
 #[test]
 fn the_rows_in_their_order() {
-    let wrong = value(0, 65, &[entry(0, 100, 60), entry(0, 100, 60), entry(0, 101, 0)]);
-    let mut fields = values::mended(wrong, 100, 100, refused);
+    let wrong = value(0, 65, &[entry(1, 100, 60), entry(1, 100, 60), entry(0, 101, 0)]);
+    let mut fields = values::mended(wrong, Mended { h: 100, opening: 1, r: 1, d: 100 }, refused);
     not_planned(&fields, 99, 11, 100);
     let refusal = schedule(&fields, 100).expect_err("must be overloaded");
-    assert_eq!(refusal.code(), (9, [0, 100, 121]));
+    assert_eq!(refusal.code(), (9, [1, 100, 121]));
     assert_eq!(overload(&fields), Err(refusal), "the overload test passes over 11");
-    fields[2 + flat::WIDTH + 5] = 39;
+    fields[flat::at(1) + 5] = 38;
     accepted(&fields);
 }

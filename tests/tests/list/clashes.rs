@@ -9,7 +9,8 @@ use dock_tests::flat::{self, SIZE};
 use dock_tests::ignored::with_rest;
 use dock_tests::random::{self, Random};
 use dock_tests::samples::{self, entry, hex, list, shorts, value, Written, SHORT};
-use dock_tests::{abi, values, writer};
+use dock_tests::values::{self, Mended};
+use dock_tests::{abi, writer};
 
 /// More room than any list needs.
 const ROOM: usize = 1000;
@@ -25,7 +26,7 @@ fn told(day: &Day, place: Option<usize>) {
         assert_eq!(written(&fields, ROOM), bytes);
         return;
     };
-    let before = Day { h: day.h, entries: day.entries[..place].to_vec() };
+    let before = Day { h: day.h, opening: day.opening, entries: day.entries[..place].to_vec() };
     refused(&bytes, 14, writer::form(&before).len());
     for room in [0, bytes.len() - 1, bytes.len(), ROOM] {
         not_written(&fields, room, 14, place);
@@ -242,22 +243,24 @@ fn the_place_in_the_bytes_after_entries_of_different_lengths() {
     }
 }
 
-/// The last of 64 entries: its map is at 3 + 63 * 7 after the shortest ones, and at 3 + 63 * 15 after the longest.
+/// The last of 64 entries: its map is at 3 + 63 * 7 after the shortest ones, and at 3 + 63 * 15 after the longest, two
+/// further with an opening minute.
 #[test]
 fn the_last_of_sixty_four_entries() {
     let mut short = shorts(MOST_ENTRIES);
     short[63].serial = 9;
     refused(&list(1, &short), 14, 444);
-    let mut day = samples::longest();
-    day.entries[63].serial = day.entries[62].serial;
-    told(&day, None);
-    day.entries[63].r -= 1;
-    refused(&writer::form(&day), 14, 948);
-    not_written(&flat::of_day(&day), LONGEST_LIST, 14, 63);
-    day.entries[63].serial = day.entries[0].serial;
-    told(&day, None);
-    day.entries[63].r = 20;
-    told(&day, Some(63));
+    for (mut day, place) in [(samples::longest_from_0(), 948), (samples::longest(), 950)] {
+        day.entries[63].serial = day.entries[62].serial;
+        told(&day, None);
+        day.entries[63].r -= 1;
+        refused(&writer::form(&day), 14, place);
+        not_written(&flat::of_day(&day), LONGEST_LIST, 14, 63);
+        day.entries[63].serial = day.entries[0].serial;
+        told(&day, None);
+        day.entries[63].r = day.entries[0].d - 1;
+        told(&day, Some(63));
+    }
 }
 
 /// 64 entries of one serial, one after the other, are a list; with the last one a minute earlier they are not.
@@ -365,15 +368,16 @@ fn the_rows_of_reading_in_their_order() {
     assert_eq!(accepted(&bytes).entries.len(), 3);
 }
 
-/// The same of a value: 2, 3, then 6 and 7 of all entries, 14, and then 12.
+/// The same of a value: 2, 3, 15, then 16, 6 and 7 of all entries, 14, and then 12.
 #[test]
 fn the_rows_of_writing_in_their_order() {
-    let wrong = value(0, 65, &[entry(0, 100, 1), entry(0, 100, 1), entry(0, 101, 0)]);
-    let right = values::mended(wrong, 100, 100, |fields, number, carries| {
-        [0, 3, 24, ROOM].iter().for_each(|&room| not_written(fields, room, number, carries));
+    let wrong = value(0, 65, &[entry(1, 100, 1), entry(1, 100, 1), entry(0, 101, 0)]);
+    let right = Mended { h: 100, opening: 1, r: 1, d: 100 };
+    let right = values::mended(wrong, right, |fields, number, carries| {
+        [0, 3, 5, 26, ROOM].iter().for_each(|&room| not_written(fields, room, number, carries));
     });
-    not_written(&right, 23, 12, 24);
-    assert_eq!(written(&right, 24).len(), 24);
+    not_written(&right, 25, 12, 26);
+    assert_eq!(written(&right, 26).len(), 26);
 }
 
 /// Only the first n entries count: a box may stand again behind the list, and the list is written as it is.
@@ -460,7 +464,7 @@ fn ten_thousand_lists_of_few_serials() {
     for turn in 0..10_000 {
         let h = random.pick(&[5, 20, 300, LONGEST_DAY]);
         let n = if turn % 20 == 0 { MOST_ENTRIES } else { 1 + random.below(6) };
-        let mut day = Day { h, entries: random::entries(&mut random, h, n) };
+        let mut day = Day { h, opening: 0, entries: random::entries(&mut random, h, n) };
         let few = random.pick(&[1, 2, 4, 300]);
         day.entries.iter_mut().for_each(|entry| entry.serial = random.below(few) as u32);
         if turn % 2 == 0 {
@@ -525,6 +529,7 @@ fn two_depots_in_the_same_hours_are_turned_back() {
     // one after the other in turn: box 1 stands twice at once
     let in_turn = Day {
         h: one.h,
+        opening: 0,
         entries: one.entries.iter().zip(&other.entries).flat_map(|(a, b)| [a.clone(), b.clone()]).collect(),
     };
     told(&in_turn, Some(1));

@@ -26,7 +26,7 @@ fn every_byte_more_is_left_over() {
 }
 
 /// Tries each other value of each byte, and counts what is told.
-fn every_change(mut bytes: Vec<u8>) -> Told {
+pub fn every_change(mut bytes: Vec<u8>) -> Told {
     let mut told = Told::default();
     for place in 0..bytes.len() {
         let right = bytes[place];
@@ -69,7 +69,8 @@ fn a_hundred_thousand_damaged_lists() {
     for _ in 0..100_000 {
         told.count(check::number(&check::read(&random::damaged(&mut random))));
     }
-    told.more_than(500, &[0, 1, 2, 3, 4, 5, 6, 7, 8, 14]);
+    told.more_than(500, &[0, 1, 2, 3, 4, 5, 6, 7, 8, 14, 15]);
+    told.more_than(100, &[16]);
 }
 
 #[test]

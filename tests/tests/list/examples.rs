@@ -9,11 +9,11 @@ fn the_documents_sample_in_flat_form() {
     check::accepted(&samples::document());
     let (answer, fields) = abi::read(&samples::document());
     assert_eq!((answer.number, answer.values), (0, [0, 0, 0]));
-    assert_eq!(fields[..2], [12, 3]);
-    assert_eq!(fields[2..9], [501, 0, 0, 0, 12, 4, 0]);
-    assert_eq!(fields[9..16], [502, 1, 77, 2, 8, 3, 1]);
-    assert_eq!(fields[16..23], [503, 1, 78, 3, 6, 2, 0]);
-    assert!(fields[23..].iter().all(|&number| number == 0));
+    assert_eq!(fields[..3], [12, 3, 0]);
+    assert_eq!(fields[3..10], [501, 0, 0, 0, 12, 4, 0]);
+    assert_eq!(fields[10..17], [502, 1, 77, 2, 8, 3, 1]);
+    assert_eq!(fields[17..24], [503, 1, 78, 3, 6, 2, 0]);
+    assert!(fields[24..].iter().all(|&number| number == 0));
 }
 
 #[test]
@@ -42,8 +42,15 @@ fn a_broken_map_byte_is_told_even_as_the_last_byte() {
 }
 
 #[test]
-fn the_longest_list_has_963_bytes() {
+fn the_longest_list_has_965_bytes() {
     let bytes = writer::form(&samples::longest());
-    assert_eq!((bytes.len(), LONGEST_LIST), (963, 963));
+    assert_eq!((bytes.len(), LONGEST_LIST), (965, 965));
     assert_eq!(check::accepted(&bytes), samples::longest());
+}
+
+#[test]
+fn the_longest_list_without_an_opening_minute_has_963_bytes() {
+    let bytes = writer::form(&samples::longest_from_0());
+    assert_eq!(bytes.len(), 963);
+    assert_eq!(check::accepted(&bytes), samples::longest_from_0());
 }

@@ -1,4 +1,5 @@
-//! The header: its length, the day's length H, the number of entries n, in this order.
+//! The header: its length, the day's length H, the number of entries n, in this order. What follows where bit 7 of the
+//! count byte stands is the matter of opening_bytes.rs.
 
 use dock_tests::check::{accepted, refused};
 use dock_tests::day::Day;
@@ -17,7 +18,7 @@ fn every_day_length() {
     for h in 0..=u16::MAX {
         let bytes = list(h, &[]);
         match h {
-            1..=1440 => assert_eq!(accepted(&bytes), Day { h, entries: vec![] }),
+            1..=1440 => assert_eq!(accepted(&bytes), Day { h, opening: 0, entries: vec![] }),
             _ => refused(&bytes, 2, 0),
         }
     }
@@ -29,15 +30,15 @@ fn every_number_of_entries_before_an_input_that_ends() {
         let bytes = [100, 0, n];
         match n {
             0 => assert!(accepted(&bytes).entries.is_empty()),
-            1..=64 => refused(&bytes, 1, 3),
-            _ => refused(&bytes, 3, 2),
+            1..=64 | 128..=192 => refused(&bytes, 1, 3),
+            65..=127 | 193..=255 => refused(&bytes, 3, 2),
         }
     }
 }
 
 #[test]
 fn every_number_of_entries_with_as_many_entries() {
-    for n in 0..=u8::MAX {
+    for n in 0..=127_u8 {
         let bytes = list(100, &shorts(n.into()));
         match n {
             0..=64 => assert_eq!(accepted(&bytes).entries.len(), usize::from(n)),
@@ -51,6 +52,7 @@ fn a_wrong_day_comes_before_too_many_entries() {
     refused(&hex("00 00 41"), 2, 0);
     refused(&hex("A1 05 FF"), 2, 0);
     refused(&hex("A0 05 41"), 3, 2);
+    refused(&hex("A0 05 FF"), 3, 2);
 }
 
 #[test]

@@ -13,7 +13,7 @@ const VALUES: [u32; 10] = [0, 1, 255, 256, 65_535, 65_536, 0x0102_0304, 0x7FFF_F
 fn numbers(bytes: &[u8], place: usize) -> [u32; flat::WIDTH] {
     accepted(bytes);
     let (_, fields) = abi::read(bytes);
-    std::array::from_fn(|i| fields[2 + flat::WIDTH * place + i])
+    std::array::from_fn(|i| fields[flat::at(place) + i])
 }
 
 #[test]

@@ -18,6 +18,9 @@ fn a_refused_input_leaves_the_fields_as_they_were() {
         (7, after("11 01000000 6500")),
         (8, after("11 01000000 0100 | 00")),
         (14, after("11 01000000 0100")),
+        (1, hex("64 00 81 07")),
+        (15, hex("64 00 81 64 00 | 11 01000000 0100")),
+        (16, hex("64 00 82 03 00 | 3F 01000000 02000000 0400 3200 0100 | 15 02000000 0200 0100")),
     ];
     for (number, bytes) in inputs {
         let (answer, fields) = abi::read(&bytes);

@@ -6,7 +6,15 @@ use dock_tests::{flat, samples, writer};
 
 fn lists() -> Vec<Day> {
     let document = accepted(&samples::document());
-    vec![Day { h: 1, entries: vec![] }, document, samples::every_shape(), samples::longest()]
+    vec![
+        Day { h: 1, opening: 0, entries: vec![] },
+        Day { h: 2, opening: 1, entries: vec![] },
+        document,
+        accepted(&samples::opened_document()),
+        samples::every_shape(),
+        samples::longest_from_0(),
+        samples::longest(),
+    ]
 }
 
 #[test]
@@ -31,7 +39,7 @@ fn a_buffer_that_is_too_short_is_12_with_the_bytes_needed() {
 fn a_longer_buffer_keeps_the_bytes_after_the_form() {
     for day in lists() {
         let form = writer::form(&day);
-        for room in [form.len() + 1, form.len() + 2, 964, 2000] {
+        for room in [form.len() + 1, form.len() + 2, 966, 2000] {
             assert_eq!(written(&flat::of_day(&day), room), form);
         }
     }
@@ -39,7 +47,7 @@ fn a_longer_buffer_keeps_the_bytes_after_the_form() {
 
 #[test]
 fn an_empty_list_needs_3_bytes() {
-    let fields = flat::of_day(&Day { h: 258, entries: vec![] });
+    let fields = flat::of_day(&Day { h: 258, opening: 0, entries: vec![] });
     for room in 0..3 {
         not_written(&fields, room, 12, 3);
     }

@@ -1,7 +1,7 @@
 //! What a flat value may hold besides the list: places from n on, a number beside no seal, any flag.
 
 use dock_tests::check::{not_written, written};
-use dock_tests::flat::{self, Fields, WIDTH};
+use dock_tests::flat::{self, Fields};
 use dock_tests::ignored::with_rest;
 use dock_tests::random::{self, Random};
 use dock_tests::{check, samples, writer};
@@ -24,7 +24,7 @@ fn places_from_n_on_are_never_written() {
 fn places_from_n_on_are_never_checked() {
     let mut fields = sample();
     fields[1] = 2;
-    fields[2 + 2 * WIDTH + 5] = 0;
+    fields[flat::at(2) + 5] = 0;
     assert_eq!(written(&fields, ROOM).len(), 25);
     fields[1] = 3;
     not_written(&fields, ROOM, 6, 2);
@@ -54,8 +54,8 @@ fn lists_that_differ_only_from_n_on_are_written_alike() {
 fn any_number_but_0_is_a_yes() {
     for yes in [1, 2, 255, 256, 65_536, u32::MAX] {
         let mut fields = sample();
-        fields[10] = yes;
-        fields[15] = yes;
+        fields[11] = yes;
+        fields[16] = yes;
         assert_eq!(written(&fields, ROOM), samples::document());
     }
 }
@@ -63,6 +63,6 @@ fn any_number_but_0_is_a_yes() {
 #[test]
 fn a_number_beside_a_missing_seal_is_nothing() {
     let mut fields = sample();
-    fields[4] = 0xDEAD_BEEF;
+    fields[5] = 0xDEAD_BEEF;
     assert_eq!(written(&fields, ROOM), samples::document());
 }

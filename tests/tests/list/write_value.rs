@@ -1,4 +1,4 @@
-//! A list handed over as a value: 2, 3, then 6 and 7 for each entry by its place, then 14, and only then 12.
+//! A list handed over as a value: 2, 3, 15, then 16, 6 and 7 for each entry by its place, then 14, and only then 12.
 
 use dock_tests::check::{accepted, not_written, number, write, written};
 use dock_tests::day::{Entry, MOST_ENTRIES};
@@ -70,5 +70,5 @@ fn fifty_thousand_wild_values() {
         let any = random.below(1000);
         number(&write(fields, random.pick(&[0, 3, any, ROOM, ROOM])))
     });
-    seen.more_than(500, &[0, 2, 3, 6, 7, 12, 14]);
+    seen.more_than(500, &[0, 2, 3, 6, 7, 12, 14, 15, 16]);
 }

@@ -19,10 +19,10 @@ fn overloaded(day: &Day, a: u16, b: u16, work: u64) {
 fn example_a_in_numbers() {
     let (answer, fields) = abi::settle(&flat::of_day(&boxes(4, "w[0,3)2 w[0,4)2")));
     assert_eq!((answer.number, answer.values), (0, [2, 0, 0]));
-    assert_eq!(fields[..2], [4, 2]);
-    assert_eq!(fields[2..9], [101, 0, 0, 0, 2, 2, 1]);
-    assert_eq!(fields[9..16], [102, 0, 0, 2, 4, 2, 1]);
-    assert!(fields[16..].iter().all(|&number| number == 0), "zeros after the list");
+    assert_eq!(fields[..3], [4, 2, 0]);
+    assert_eq!(fields[3..10], [101, 0, 0, 0, 2, 2, 1]);
+    assert_eq!(fields[10..17], [102, 0, 0, 2, 4, 2, 1]);
+    assert!(fields[17..].iter().all(|&number| number == 0), "zeros after the list");
 }
 
 /// "(a) .. 1 move in each of rounds one and two, none in round three". Round one moves place 1, and only then
@@ -102,11 +102,11 @@ fn the_sample_input_from_its_bytes() {
     assert_eq!(answer.number, 0);
     let (answer, narrowed) = abi::settle(&fields);
     assert_eq!((answer.number, answer.values), (0, [1, 0, 0]));
-    assert_eq!(narrowed[..2], [12, 3]);
-    assert_eq!(narrowed[2..9], [501, 0, 0, 0, 12, 4, 0]);
-    assert_eq!(narrowed[9..16], [502, 1, 77, 5, 8, 3, 1]);
-    assert_eq!(narrowed[16..23], [503, 1, 78, 3, 6, 2, 0]);
-    assert!(narrowed[23..].iter().all(|&number| number == 0), "zeros after the list");
+    assert_eq!(narrowed[..3], [12, 3, 0]);
+    assert_eq!(narrowed[3..10], [501, 0, 0, 0, 12, 4, 0]);
+    assert_eq!(narrowed[10..17], [502, 1, 77, 5, 8, 3, 1]);
+    assert_eq!(narrowed[17..24], [503, 1, 78, 3, 6, 2, 0]);
+    assert!(narrowed[24..].iter().all(|&number| number == 0), "zeros after the list");
 }
 
 /// Its one move is made in round one: the whole entry may not begin before 5, as [3,6) is needed for two

@@ -78,8 +78,8 @@ fn from_place_n_on_the_answer_has_zeros() {
     for n in [0, 1, 2, 10, 63, 64] {
         let mut entries = random::entries(&mut random, 1440, n);
         entries.iter_mut().for_each(|entry| entry.p = 1);
-        let day = samples::told_apart(Day { h: 1440, entries });
-        let used = 2 + WIDTH * n;
+        let day = samples::told_apart(Day { h: 1440, opening: 0, entries });
+        let used = flat::at(n);
         let mut fields = flat::of_day(&day);
         fields[used..].fill_with(|| random.any() as u32);
         let (answer, narrowed) = abi::settle(&fields);
@@ -101,7 +101,7 @@ fn all_but_the_windows_is_answered_as_given() {
         let (answer, narrowed) = abi::settle(&fields);
         assert_eq!(answer.number, 0, "{day:?}");
         for (at, (given, found)) in fields.iter().zip(&narrowed).enumerate() {
-            let of_a_window = at >= 2 && matches!((at - 2) % WIDTH, 3 | 4);
+            let of_a_window = at >= flat::at(0) && matches!((at - flat::at(0)) % WIDTH, 3 | 4);
             assert!(of_a_window || given == found, "number {at} of {day:?}");
         }
         moved += usize::from(answer.values[0] > 0);
@@ -114,12 +114,12 @@ fn all_but_the_windows_is_answered_as_given() {
 #[test]
 fn a_yes_is_answered_as_1() {
     let mut fields = flat::of_day(&boxes(4, "w[0,3)2 w[0,4)2"));
-    (fields[3], fields[4], fields[8]) = (5, 77, 9);
-    (fields[10], fields[11], fields[15]) = (0, 88, u32::MAX);
+    (fields[4], fields[5], fields[9]) = (5, 77, 9);
+    (fields[11], fields[12], fields[16]) = (0, 88, u32::MAX);
     let (answer, narrowed) = abi::settle(&fields);
     assert_eq!((answer.number, answer.values), (0, [2, 0, 0]));
-    assert_eq!(narrowed[2..9], [101, 1, 77, 0, 2, 2, 1]);
-    assert_eq!(narrowed[9..16], [102, 0, 0, 2, 4, 2, 1]);
+    assert_eq!(narrowed[3..10], [101, 1, 77, 0, 2, 2, 1]);
+    assert_eq!(narrowed[10..17], [102, 0, 0, 2, 4, 2, 1]);
     assert_eq!(settle(&fields).expect("settled").moves, 2);
 }
 

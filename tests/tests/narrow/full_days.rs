@@ -148,7 +148,7 @@ fn side_by_side(parts: &[Day]) -> Day {
             first += part.h;
         }
     }
-    Day { h, entries }
+    Day { h, opening: 0, entries }
 }
 
 /// A small day that is settled, as trying everything says, with its settled windows and moves.

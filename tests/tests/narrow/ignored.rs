@@ -70,8 +70,8 @@ fn travels_along(seed: u64, numbers: &[usize]) {
         twice += usize::from(ignored::has_a_serial_twice(&other));
         assert!(said(&other, n) == before, "{numbers:?} of {day:?}");
         let (answer, narrowed) = abi::settle(&other);
-        for at in (0..n).flat_map(|place| numbers.iter().map(move |number| 2 + WIDTH * place + number)) {
-            let wanted = match (at - 2) % WIDTH {
+        for at in (0..n).flat_map(|place| numbers.iter().map(move |number| flat::at(place) + number)) {
+            let wanted = match (at - flat::at(0)) % WIDTH {
                 STANDS => u32::from(other[at] != 0),
                 SEAL if other[at - 1] == 0 => 0, // a number beside no seal is nothing
                 _ => other[at],
@@ -138,7 +138,7 @@ fn a_right_entry_at_place_n_is_none_of_the_list() {
 fn an_empty_list_before_sixty_four_places_of_junk() {
     for junk in [1, 3, 65_535, u32::MAX] {
         let mut fields = [junk; SIZE];
-        (fields[0], fields[1]) = (3, 0);
+        fields[..3].copy_from_slice(&[3, 0, 0]);
         let (answer, narrowed) = abi::settle(&fields);
         assert_eq!((answer.number, answer.values), (0, [0, 0, 0]));
         assert!(narrowed == flat::of_day(&boxes(3, "")), "zeros after {junk}");
@@ -207,7 +207,7 @@ fn two_serials_thirty_two_times_each() {
     };
     let all = |part: &str| {
         let entries = (0..32).flat_map(|turn| times(part, 4 * turn)).collect();
-        with_serials(Day { h: 128, entries }, &[[8, 9]; 32].concat())
+        with_serials(Day { h: 128, opening: 0, entries }, &[[8, 9]; 32].concat())
     };
     assert_eq!(settled(&all("w[0,3)2 w[0,4)2")), (all("w[0,2)2 w[2,4)2"), 64));
 }

@@ -42,7 +42,7 @@ fn one_entry_fills_the_day() {
         stays(&windows(h, &[(0, h, h)]));
     }
     let mut fields = flat::of_day(&whole_windows(LONGEST_DAY, &[(0, 1440, 1440)]));
-    fields[7] = 1441;
+    fields[flat::at(0) + 5] = 1441;
     not_settled(&fields, 7, 0);
     fields[0] = 1441;
     not_settled(&fields, 2, 0);

@@ -22,7 +22,11 @@ fn orders(n: usize) -> Vec<Vec<usize>> {
 
 /// The same list with its entries in this order.
 fn ordered(day: &Day, order: &[usize]) -> Day {
-    Day { h: day.h, entries: order.iter().map(|&place| day.entries[place].clone()).collect() }
+    Day {
+        h: day.h,
+        opening: day.opening,
+        entries: order.iter().map(|&place| day.entries[place].clone()).collect(),
+    }
 }
 
 /// The same list with all entries pause but one.

@@ -32,7 +32,11 @@ fn as_the_free_minutes_say(h: u16, (r, d, p): (u16, u16, u16), blocks: &[(u16, u
             let moves = u64::from(first != r) + u64::from(end != d);
             assert_eq!((answer.number, answer.values), (0, [moves, 0, 0]), "{day:?}, starts {starts:?}");
             let wanted = among(h, (first, end, p), blocks);
-            assert!(fields == flat::of_day(&wanted), "{:?} of {day:?}, starts {starts:?}", &fields[..9]);
+            assert!(
+                fields == flat::of_day(&wanted),
+                "{:?} of {day:?}, starts {starts:?}",
+                &fields[..flat::at(1)]
+            );
         }
     }
     answer.number

@@ -42,7 +42,7 @@ fn the_files_are_those_that_are_listed() {
 #[test]
 fn the_cases_are_of_every_kind() {
     let numbers: BTreeSet<_> = cases::all().iter().map(|case| number(&case.report)).collect();
-    assert_eq!(numbers, (0..=10).chain([14]).collect());
+    assert_eq!(numbers, (0..=10).chain(14..=16).collect());
     let heads: Vec<_> =
         cases::all().iter().filter_map(|case| case.report.lines().next().map(String::from)).collect();
     assert!(heads.iter().any(|head| head.starts_with("day 1 entries 0 ")), "{heads:?}");
@@ -56,8 +56,9 @@ fn the_long_cases_are_what_they_are_said_to_be() {
     let longest = writer::form(&samples::longest());
     assert_eq!(list("document"), samples::document());
     assert_eq!(list("longest-list"), longest);
-    assert_eq!(list("longest-list-and-1")[..963], longest);
-    assert_eq!(list("far-over")[..963], longest);
+    assert_eq!(list("longest-list-and-1")[..965], longest);
+    assert_eq!(list("far-over")[..965], longest);
+    assert_eq!(list("longest-list-from-0"), writer::form(&samples::longest_from_0()));
     assert_eq!(list("full-day"), writer::form(&samples::four_of(&samples::many_moves())));
     assert_eq!(list("long-text"), writer::form(&samples::long_text()));
 }

@@ -1,4 +1,4 @@
-//! How the program reads: a pipe delivers pieces, and 964 bytes are all that it takes.
+//! How the program reads: a pipe delivers pieces, and 966 bytes are all that it takes.
 
 use dock_tests::cases::{self, Case};
 use dock_tests::program::{connected, fed, output, wrote};
@@ -82,9 +82,9 @@ fn many_pieces_of_different_lengths() {
     }
 }
 
-/// After 964 bytes the program ends though the pipe stays open, and nothing more comes.
+/// After 966 bytes the program ends though the pipe stays open, and nothing more comes.
 #[test]
-fn it_does_not_wait_for_more_than_964_bytes() {
+fn it_does_not_wait_for_more_than_966_bytes() {
     let Case { list, report, .. } = case("longest-list-and-1");
     assert_eq!(list.len(), LONGEST_INPUT);
     let (text, _pipe) = fed(|mut pipe| {
@@ -106,10 +106,10 @@ fn a_never_ending_input() {
     assert!(gone, "the program read on");
 }
 
-/// From a file too, of which the program takes no more than 964 bytes: whoever reads on finds the others.
+/// From a file too, of which the program takes no more than 966 bytes: whoever reads on finds the others.
 #[test]
 fn a_file_as_input() {
-    for (name, taken) in [("empty-input", 0), ("document", 40), ("longest-list", 963), ("far-over", 964)] {
+    for (name, taken) in [("empty-input", 0), ("document", 40), ("longest-list", 965), ("far-over", 966)] {
         let mut file = File::open(cases::folder().join(name).with_extension("list")).expect("a case");
         let shared = file.try_clone().expect("the same file, with one place in it");
         assert_eq!(connected(Stdio::from(shared)), case(name).report, "{name}");

@@ -1,5 +1,6 @@
-//! The program `dock` as it is built, the sample days, and the command ./dock-report.
+//! The program `dock` as it is built, the sample days, the command ./dock-report and the script bench/run.
 
+mod bench;
 mod cases;
 mod command;
 mod input;

@@ -1,4 +1,4 @@
-//! The limits of a report: inputs around 964 bytes, days without entries and full ones, numbers of many
+//! The limits of a report: inputs around 966 bytes, days without entries and full ones, numbers of many
 //! digits, and how long a text can be.
 
 use dock_tests::check_report::report;
@@ -10,12 +10,28 @@ use dock_tests::writer;
 
 /// A longest list has a plan, with any byte after it one is left over, and what follows makes no difference.
 #[test]
-fn inputs_of_963_964_965_and_5000_bytes() {
+fn inputs_of_965_966_967_and_5000_bytes() {
     let list = writer::form(&samples::longest());
     assert_eq!(list.len(), LONGEST_LIST);
     assert!(report(&list).starts_with("day 1440 entries 64 moves 0 broken 0\n"));
     let mut random = Random::new(231);
-    for length in [964, 965, 1_000, 1_927, 5_000, 70_000] {
+    for length in [966, 967, 1_000, 1_927, 5_000, 70_000] {
+        for _ in 0..4 {
+            let mut input = list.clone();
+            input.resize_with(length, || random.any() as u8);
+            assert_eq!(report(&input), "refused 8 at 965\n", "{length} bytes");
+        }
+    }
+}
+
+/// The same of a longest list without an opening minute.
+#[test]
+fn inputs_of_963_964_965_966_and_5000_bytes() {
+    let list = writer::form(&samples::longest_from_0());
+    assert_eq!(list.len(), 963);
+    assert!(report(&list).starts_with("day 1440 entries 64 moves 0 broken 0\n"));
+    let mut random = Random::new(234);
+    for length in [964, 965, 966, 1_000, 1_927, 5_000, 70_000] {
         for _ in 0..4 {
             let mut input = list.clone();
             input.resize_with(length, || random.any() as u8);
@@ -24,21 +40,25 @@ fn inputs_of_963_964_965_and_5000_bytes() {
     }
 }
 
-/// The first 964 bytes decide, whatever stands in them and after them.
+/// The first 966 bytes decide, whatever stands in them and after them.
 #[test]
-fn the_first_964_bytes_decide() {
+fn the_first_966_bytes_decide() {
     let mut random = Random::new(232);
-    let longest = writer::form(&samples::longest());
-    let starts: [Vec<u8>; 6] = [
+    let [longest, from_0] = [samples::longest(), samples::longest_from_0()].map(|day| writer::form(&day));
+    let starts: [Vec<u8>; 10] = [
         vec![],
         vec![0, 0],
         samples::hex("0C 00"),
         samples::document(),
-        longest[..962].to_vec(),
-        [&longest[..948], &[0x1F; 16]].concat(),
+        samples::opened_document(),
+        from_0[..962].to_vec(),
+        [&from_0[..948], &[0x1F; 16]].concat(),
+        from_0,
+        longest[..964].to_vec(),
+        [&longest[..950], &[0x1F; 16]].concat(),
     ];
     for start in starts {
-        for length in [964, 965, 966, 2_000, 5_000] {
+        for length in [966, 967, 968, 2_000, 5_000] {
             let mut input = start.clone();
             input.resize_with(length, || random.any() as u8);
             assert_eq!(report(&input), report(&input[..LONGEST_INPUT]), "{length} bytes");
@@ -46,19 +66,21 @@ fn the_first_964_bytes_decide() {
     }
 }
 
-/// The bytes of an input before 964 all count: each prefix of a longest list lacks a byte.
+/// The bytes of an input before 966 all count: each prefix of a longest list lacks a byte.
 #[test]
 fn every_prefix_of_a_longest_list() {
-    let list = writer::form(&samples::longest());
-    for length in 0..list.len() {
-        assert_eq!(report(&list[..length]), format!("refused 1 at {length}\n"));
+    for day in [samples::longest(), samples::longest_from_0()] {
+        let list = writer::form(&day);
+        for length in 0..list.len() {
+            assert_eq!(report(&list[..length]), format!("refused 1 at {length}\n"));
+        }
     }
 }
 
 #[test]
 fn days_without_entries() {
     for h in [1, 9, 10, 99, 100, 999, 1_000, 1_439, 1_440] {
-        let text = report(&writer::form(&Day { h, entries: vec![] }));
+        let text = report(&writer::form(&Day { h, opening: 0, entries: vec![] }));
         assert_eq!(text, format!("day {h} entries 0 moves 0 broken 0\n"));
     }
 }
@@ -86,20 +108,21 @@ fn the_last_minute() {
 /// What 4 and 6 carry has up to three digits.
 #[test]
 fn a_refusal_at_each_entry() {
-    let mut day = samples::longest();
-    for place in 0..MOST_ENTRIES {
-        let mut wrong = writer::form(&day);
-        let map = 3 + 15 * place;
-        wrong[map + 13] = 0;
-        wrong[map + 14] = 0;
-        assert_eq!(report(&wrong), format!("refused 6 at {map}\n"));
-        wrong[map] = 0xFF;
-        assert_eq!(report(&wrong), format!("refused 4 at {map}\n"));
+    for (mut day, header) in [(samples::longest_from_0(), 3), (samples::longest(), 5)] {
+        for place in 0..MOST_ENTRIES {
+            let mut wrong = writer::form(&day);
+            let map = header + 15 * place;
+            wrong[map + 13] = 0;
+            wrong[map + 14] = 0;
+            assert_eq!(report(&wrong), format!("refused 6 at {map}\n"));
+            wrong[map] = 0xFF;
+            assert_eq!(report(&wrong), format!("refused 4 at {map}\n"));
+        }
+        day.entries.truncate(63);
+        let mut bytes = writer::form(&day);
+        bytes[2] += 1;
+        assert_eq!(report(&bytes), format!("refused 1 at {}\n", header + 945));
     }
-    day.entries.truncate(63);
-    let mut bytes = writer::form(&day);
-    bytes[2] = 64;
-    assert_eq!(report(&bytes), "refused 1 at 948\n");
 }
 
 /// Work is not reckoned in 16 bits: 64 entries of 1,440 minutes, and of 1,024, whose work is 65,536.

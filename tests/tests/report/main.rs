@@ -3,5 +3,6 @@
 mod buffers;
 mod examples;
 mod limits;
+mod opening;
 mod random_lists;
 mod refusal_lines;

@@ -25,7 +25,7 @@ fn the_documents_examples() {
     line(10, [0, 0, 0], "refused 10 entry 0\n");
 }
 
-/// One of each row of document 01's table, and 14 of document 02.
+/// One of each row of document 01's table, and 14, 15 and 16 of document 02; and 100, for a row of another length.
 #[test]
 fn every_row() {
     for (number, values, text) in [
@@ -36,13 +36,16 @@ fn every_row() {
         (5, [3, 0, 0], "refused 5 at 3\n"),
         (6, [948, 0, 0], "refused 6 at 948\n"),
         (7, [63, 0, 0], "refused 7 at 63\n"),
-        (8, [963, 0, 0], "refused 8 at 963\n"),
+        (8, [965, 0, 0], "refused 8 at 965\n"),
         (9, [0, 1440, 92_160], "refused 9 from 0 to 1440 work 92160\n"),
         (10, [63, 0, 0], "refused 10 entry 63\n"),
         (11, [1440, 0, 0], "refused 11 at 1440\n"),
-        (12, [963, 0, 0], "refused 12 at 963\n"),
+        (12, [965, 0, 0], "refused 12 at 965\n"),
         (13, [u64::MAX, 0, 0], "refused 13 at 18446744073709551615\n"),
-        (14, [948, 0, 0], "refused 14 at 948\n"),
+        (14, [950, 0, 0], "refused 14 at 950\n"),
+        (15, [3, 0, 0], "refused 15 at 3\n"),
+        (16, [950, 0, 0], "refused 16 at 950\n"),
+        (100, [451, 0, 0], "refused 100 at 451\n"),
     ] {
         line(number, values, text);
     }
@@ -65,6 +68,8 @@ fn every_number() {
     line(0, [3, 5, 7], "refused 0 at 3\n");
     line(14, [3, 5, 7], "refused 14 at 3\n");
     line(15, [3, 5, 7], "refused 15 at 3\n");
+    line(16, [3, 5, 7], "refused 16 at 3\n");
+    line(17, [3, 5, 7], "refused 17 at 3\n");
     line(256 + 9, [3, 5, 7], "refused 265 at 3\n");
     line((1 << 32) + 10, [3, 5, 7], "refused 4294967306 at 3\n");
 }
@@ -72,7 +77,7 @@ fn every_number() {
 #[test]
 fn values_of_every_length() {
     for value in numbers() {
-        for number in [1, 7, 9, 10, 13, 14, u64::MAX] {
+        for number in [1, 7, 9, 10, 13, 14, 15, 16, 100, u64::MAX] {
             line_stored(refusal(number, [value, 0, 0]), 100);
             line_stored(refusal(number, [1, value, !value]), 100);
         }
