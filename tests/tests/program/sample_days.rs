@@ -13,13 +13,15 @@ fn folder() -> PathBuf {
     cases::root().join("samples")
 }
 
-/// The day that a description tells after an empty line, in the form `day 240` and then, for each entry,
-/// `serial 501 seal - pause from 0 to 240 needs 60`.
+/// The day that a description tells after an empty line, in the form `day 240`, or `day 240 opens 30` with an opening
+/// minute, and then, for each entry, `serial 501 seal - pause from 0 to 240 needs 60`.
 fn told(description: &str) -> Day {
     let (_, lines) = description.split_once("\n\n").expect("an empty line before the day");
     let mut lines = lines.lines();
-    let h = lines.next().and_then(|line| line.strip_prefix("day ")).expect("the day's length");
-    Day { h: h.parse().expect("minutes"), opening: 0, entries: lines.map(entry).collect() }
+    let head = lines.next().and_then(|line| line.strip_prefix("day ")).expect("the day's length");
+    let (h, opening) = head.split_once(" opens ").unwrap_or((head, "0"));
+    let minutes = |word: &str| word.parse().expect("minutes");
+    Day { h: minutes(h), opening: minutes(opening), entries: lines.map(entry).collect() }
 }
 
 fn entry(line: &str) -> Entry {
