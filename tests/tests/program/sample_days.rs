@@ -23,7 +23,6 @@ fn told(description: &str) -> Day {
     let minutes = |word: &str| word.parse().expect("minutes");
     Day { h: minutes(h), opening: minutes(opening), entries: lines.map(entry).collect() }
 }
-}
 
 fn entry(line: &str) -> Entry {
     let words: Vec<&str> = line.split(' ').collect();
