@@ -7,7 +7,7 @@ use dock_tests::{program, writer};
 use std::fs;
 use std::path::PathBuf;
 
-const SAMPLES: [&str; 5] = ["morning", "no-place", "one-box-twice", "overloaded", "tight"];
+const SAMPLES: [&str; 6] = ["late-opening", "morning", "no-place", "one-box-twice", "overloaded", "tight"];
 
 fn folder() -> PathBuf {
     cases::root().join("samples")
