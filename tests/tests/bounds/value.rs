@@ -1,5 +1,6 @@
 //! A list handed over as a value to the calls that plan: "2, 3, then 6 and 7 per entry; 2 and 3 then carry 0,
-//! 6 and 7 the entry's place", with 15 after 3 and 16 before 6, then 14, whatever place is asked for and whatever buffer is lent.
+//! 6 and 7 the entry's place", with 15 after 3 and 16 before 6, then 14, whatever place is asked for and whatever
+//! buffer is lent.
 
 use dock_tests::abi::Call;
 use dock_tests::check_bounds::{ask, calls, refused};
