@@ -9,11 +9,12 @@ use lib.ListN.{length, getD, length-map, length-take, List·getD-eq-default}
 use lib.Seq.{take-append-seam}
 use Rattle.base.proofs.Sums.{le-or-lt}
 use Rattle.list.specs.DayLists.{entriesOf, blank}
-use Rattle.list.specs.Clashes.{InWindow, Clash}
+use Rattle.list.specs.Clashes.{InWindow}
 use Rattle.list.specs.Checks.{WellFormed}
 use Rattle.list.specs.declared.types.Entry.{Entry}
 use Rattle.list.specs.declared.types.Frame.{Frame}
 use Rattle.list.specs.declared.types.DayList.{DayList}
+use Rattle.list.proofs.ClashFacts.{clash-carried}
 use Rattle.list.proofs.Sound.{Sound, Every, sound-list, sound-at, list-apart, well-formed}
 use Rattle.jackson.specs.Windows.{windowsOf}
 use Rattle.jackson.specs.Mirrors.{mirror, mirrorEntry, mirrorList}
@@ -34,10 +35,10 @@ every-mirror : (f g : Frame) (es : List Entry) → g .h ≡ f .h → g .opening 
 every-mirror f g [] same always s = tt
 every-mirror f g (e ∷ es) same always s = (mirror-sound f g e same always (s .0), every-mirror f g es same always (s .1))
 
-at-place : (f : Entry → Entry) (es : List Entry) (i : ℕ) → i < length es → getD (map f es) i blank ≡ f (getD es i blank)
-at-place f [] i h = absurd (omega arith)
-at-place f (e ∷ es) zero h = refl
-at-place f (e ∷ es) (suc i) h = at-place f es i (omega arith)
+mapped-at : (f : Entry → Entry) (es : List Entry) (i : ℕ) → i < length es → getD (map f es) i blank ≡ f (getD es i blank)
+mapped-at f [] i h = absurd (omega arith)
+mapped-at f (e ∷ es) zero h = refl
+mapped-at f (e ∷ es) (suc i) h = mapped-at f es i (omega arith)
 
 module _ (l : DayList) where
   abbrev h : ℕ
@@ -53,7 +54,7 @@ module _ (l : DayList) where
   count-is = ap length entries-are ∙ length-map es (mirrorEntry h)
 
   entry-is : (i : ℕ) → i < length es → getD (entriesOf (mirrorList l)) i blank ≡ mirrorEntry h (getD es i blank)
-  entry-is i place = ap (λ (xs : List Entry). getD xs i blank) entries-are ∙ at-place (mirrorEntry h) es i place
+  entry-is i place = ap (λ (xs : List Entry). getD xs i blank) entries-are ∙ mapped-at (mirrorEntry h) es i place
 
   -- from place n on there are none
   past : (i : ℕ) → length es ≤ i → getD (entriesOf (mirrorList l)) i blank ≡ getD es i blank
@@ -88,8 +89,8 @@ module _ (l : DayList) where
           (λ over. ap (λ (e : Entry). e .p) (past i over))
           (λ place. ap (λ (e : Entry). e .p) (entry-is i place))
 
-  list-formed : WellFormed l → WellFormed (mirrorList l)
-  list-formed formed =
+  mirror-formed : WellFormed l → WellFormed (mirrorList l)
+  mirror-formed formed =
       let given = sound-list l formed in
       well-formed (mirrorList l)
       (record {
@@ -102,30 +103,19 @@ module _ (l : DayList) where
         opening = given .header .some-minutes;
         entries = rw entries-are (every-mirror (l .frame) _ es refl refl (given .entries));
       })
-      (λ i k c. list-apart l formed i k (clash-given i k c))
+      (λ i k c. list-apart l formed i k (clash-carried (entriesOf (mirrorList l)) es count-is serials (λ t. h - suc t) back i k c))
     where
+      serials : (i : ℕ) → i < length es → getD (entriesOf (mirrorList l)) i blank .serial ≡ getD es i blank .serial
+      serials i place = ap (λ (e : Entry). e .serial) (entry-is i place)
+
       -- minute t of the mirrored window is minute h - 1 - t of the window
-      back : (i : ℕ) → i < length es → (t : ℕ) → InWindow (mirrorEntry h (getD es i blank)) t → InWindow (getD es i blank) (h - suc t)
+      back : (i : ℕ) → i < length es → (t : ℕ) → InWindow (getD (entriesOf (mirrorList l)) i blank) t
+          → InWindow (getD es i blank) (h - suc t)
       back i place t w =
           let s = sound-at l formed i place in
-          (omega (arith, w .0, w .1, s .in-day, s .room), omega (arith, w .0, w .1, s .in-day, s .room))
-
-      -- entries that clash in the mirror do so in the list
-      clash-given : (i k : ℕ) → Clash (entriesOf (mirrorList l)) i k → Clash es i k
-      clash-given i k c =
-          let later : k < length es = omega (arith, c .in-list, count-is) in
-          let before : i < length es = omega (arith, later, c .earlier) in
-          let x = entry-is i before in
-          let y = entry-is k later in
-          record {
-            earlier = c .earlier;
-            in-list = later;
-            serial = sym (ap (λ (e : Entry). e .serial) x) ∙ c .serial ∙ ap (λ (e : Entry). e .serial) y;
-            minute = h - suc (c .minute);
-            in-earlier = back i before (c .minute) (rw x at (c .in-earlier));
-            in-later = back k later (c .minute) (rw y at (c .in-later));
-          }
+          let z : InWindow (mirrorEntry h (getD es i blank)) t = rw (entry-is i place) at w in
+          (omega (arith, z .0, z .1, s .in-day, s .room), omega (arith, z .0, z .1, s .in-day, s .room))
 
 -- the law holds of every list
 pub mirror-law : (l : DayList) → MirrorLaw l
-mirror-law l = record { windows = windows-are l; formed = list-formed l }
+mirror-law l = record { windows = windows-are l; formed = mirror-formed l }

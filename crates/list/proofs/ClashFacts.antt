@@ -1,6 +1,6 @@
 -- Entries that clash: what the search of row 14 tells, as facts.
 -- Assumes nothing.
-use mathlib.Core.Path.{_≡_}
+use mathlib.Core.Path.{_≡_, sym, _∙_}
 use mathlib.Core.Bool.{Bool, true}
 use mathlib.Core.List.{List}
 use Prim.Native.Nat.{ℕ, _<_, _≤_, min, max}
@@ -13,7 +13,7 @@ use Rattle.base.proofs.Sums.{le-or-lt}
 use Rattle.base.proofs.Inversion.{both}
 use Rattle.base.proofs.Searches.{First, first-below, one-first}
 use Rattle.list.specs.DayLists.{blank}
-use Rattle.list.specs.Clashes.{clash, clashesEarlier, firstClash, Clash, Apart, FirstClash}
+use Rattle.list.specs.Clashes.{clash, clashesEarlier, firstClash, InWindow, Clash, Apart, FirstClash}
 use Rattle.list.specs.declared.types.Entry.{Entry}
 
 module _ (es : List Entry) where
@@ -90,3 +90,21 @@ module _ (es : List Entry) where
         passes = λ _. earlier-told k (f .partner) (f .clashes);
         none-before = λ j before t. let z = earlier-facts j (omega (arith, f .clashes .in-list)) t in f .first (z .0) j before (z .1);
       })
+
+-- Entries that have the serials of others, and a minute of whose windows tells one of theirs: where two of them clash, so do the others.
+pub clash-carried : (es fs : List Entry) → length es ≡ length fs
+    → ((i : ℕ) → i < length fs → getD es i blank .serial ≡ getD fs i blank .serial)
+    → (minute : ℕ → ℕ)
+    → ((i : ℕ) → i < length fs → (t : ℕ) → InWindow (getD es i blank) t → InWindow (getD fs i blank) (minute t))
+    → (i k : ℕ) → Clash es i k → Clash fs i k
+clash-carried es fs count serial minute within i k c =
+    let later : k < length fs = omega (arith, c .in-list, count) in
+    let before : i < length fs = omega (arith, later, c .earlier) in
+    record {
+      earlier = c .earlier;
+      in-list = later;
+      serial = sym (serial i before) ∙ c .serial ∙ serial k later;
+      minute = minute (c .minute);
+      in-earlier = within i before (c .minute) (c .in-earlier);
+      in-later = within k later (c .minute) (c .in-later);
+    }

@@ -6,10 +6,11 @@ use Prim.Native.Nat.{ℕ, suc, _+_, _-_, _<_, _≤_}
 use native.Mathlib.Omega.{arith}
 use lib.ListN.{length, getD, length-take, List·getD-eq-default}
 use Rattle.list.specs.DayLists.{entriesOf, blank, isWhole, wholeIn}
-use Rattle.list.specs.Clashes.{InWindow, Clash}
+use Rattle.list.specs.Clashes.{InWindow}
 use Rattle.list.specs.Checks.{WellFormed}
 use Rattle.list.specs.declared.types.Entry.{Entry}
 use Rattle.list.specs.declared.types.DayList.{DayList}
+use Rattle.list.proofs.ClashFacts.{clash-carried}
 use Rattle.list.proofs.Sound.{Sound, Every, sound-list, sound-at, list-apart, well-formed}
 use Rattle.jackson.specs.Windows.{Windows, windowsOf}
 use Rattle.base.proofs.Sums.{le-or-lt}
@@ -75,10 +76,6 @@ module _ (l : DayList) (w : Windows) (keeps : Keeps (windowsOf l) w) where
           (λ h. ap (λ (e : Entry). isWhole (e .kind)) (past-places i h .0 ∙ sym (past-places i h .1)))
           (λ h. ap (λ (e : Entry). isWhole (e .kind)) (listed-entry l w i h))
 
-  -- a minute of the narrower window lies in the one given
-  shrunk : (i : ℕ) → i < length (entriesOf l) → (t : ℕ) → (w .r i ≤ t) × (t < w .d i) → InWindow (getD (entriesOf l) i blank) t
-  shrunk i place t h = (omega (arith, keeps .inside .r i place, h .0), omega (arith, keeps .inside .d i place, h .1))
-
   -- it passes the value check, if the list given does
   pub listed-formed : WellFormed l → WellFormed (listWith l w)
   unfolding listWith
@@ -95,23 +92,18 @@ module _ (l : DayList) (w : Windows) (keeps : Keeps (windowsOf l) w) where
         opening = sound-list l formed .opening;
         entries = rw (listed-entries l w) (with-every w (Sound (l .frame)) 0 (entriesOf l) sound);
       })
-      (λ i k c. list-apart l formed i k (clash-given i k c))
+      (λ i k c. list-apart l formed i k
+      (clash-carried (entriesOf (listWith l w)) (entriesOf l) (listed-count l w) serials (λ t. t) within i k c))
     where
-      -- windows only shrink, so that entries that clash did so before
-      clash-given : (i k : ℕ) → Clash (entriesOf (listWith l w)) i k → Clash (entriesOf l) i k
-      clash-given i k c =
-          let later : k < length (entriesOf l) = omega (arith, c .in-list, listed-count l w) in
-          let before : i < length (entriesOf l) = omega (arith, later, c .earlier) in
-          let x = listed-entry l w i before in
-          let y = listed-entry l w k later in
-          record {
-            earlier = c .earlier;
-            in-list = later;
-            serial = sym (ap (λ (e : Entry). e .serial) x) ∙ c .serial ∙ ap (λ (e : Entry). e .serial) y;
-            minute = c .minute;
-            in-earlier = shrunk i before (c .minute) (rw x at (c .in-earlier));
-            in-later = shrunk k later (c .minute) (rw y at (c .in-later));
-          }
+      serials : (i : ℕ) → i < length (entriesOf l) → getD (entriesOf (listWith l w)) i blank .serial ≡ getD (entriesOf l) i blank .serial
+      serials i place = ap (λ (e : Entry). e .serial) (listed-entry l w i place)
+
+      -- a minute of the narrower window lies in the one given
+      within : (i : ℕ) → i < length (entriesOf l) → (t : ℕ) → InWindow (getD (entriesOf (listWith l w)) i blank) t
+          → InWindow (getD (entriesOf l) i blank) t
+      within i place t h =
+          let z : (w .r i ≤ t) × (t < w .d i) = rw (listed-entry l w i place) at h in
+          (omega (arith, keeps .inside .r i place, z .0), omega (arith, keeps .inside .d i place, z .1))
 
       sound : (j k : ℕ) → k ≡ 0 + j → j < length (entriesOf l) → Sound (l .frame) (entryWith (getD (entriesOf l) j blank) (w .r k) (w .d k))
       sound j k z h =
