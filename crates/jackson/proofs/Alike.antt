@@ -1,5 +1,5 @@
--- Lists that are planned alike: those that differ in serials, seals and kinds alone, if the value check answers both alike, and so those
--- equal by document 01's rule.
+-- Lists that are planned alike: those that differ in their opening minute, serials, seals and kinds alone, if the value check answers both
+-- alike, and so those equal by document 01's rule.
 -- Assumes nothing.
 use mathlib.Core.Path.{_≡_, refl, sym, ap, _∙_}
 use mathlib.Core.List.{List, [], _∷_, _++_, map}
@@ -9,6 +9,7 @@ use Rattle.base.specs.Outcomes.{Outcome, answered, refused, firstOf, andThen}
 use Rattle.list.specs.Checks.{checkOf}
 use Rattle.list.specs.DayLists.{entriesOf, blank, SameList}
 use Rattle.list.specs.declared.types.Entry.{Entry}
+use Rattle.list.specs.declared.types.Frame.{Frame}
 use Rattle.list.specs.declared.types.DayList.{DayList}
 use Rattle.jackson.specs.Windows.{Windows, windowsOf, plain, SameWindows}
 use Rattle.jackson.specs.Minutes.{dayStart, schedule}
@@ -17,7 +18,7 @@ use Rattle.jackson.specs.Calls.{testOf, listBeside, bufferRow, fillOf, p
 
 -- lists that are equal have the same numbers
 pub same-alike : {a b : DayList} → SameList a b → SameWindows a b
-same-alike s = record { frame = s .frame; n = s .n; entries = ap (map plain) (s .entries) }
+same-alike s = record { h = ap (λ (f : Frame). f .h) (s .frame); n = s .n; entries = ap (map plain) (s .entries) }
 
 module _ {a b : DayList} (s : SameWindows a b) where
   -- lists of the same numbers have the same windows
@@ -25,7 +26,7 @@ module _ {a b : DayList} (s : SameWindows a b) where
   alike-windows =
       λ j.
       record {
-        h = s .frame j .h;
+        h = s .h j;
         n = count j;
         r = λ i. numbers i j .r;
         d = λ i. numbers i j .d;
@@ -53,7 +54,7 @@ module _ {a b : DayList} (s : SameWindows a b) (checked : checkOf a ≡ checkOf 
   alike-filled room =
       λ j.
       andThen (checked j)
-      (λ _. firstOf (bufferRow (s .frame j .h) room ∷ []) (overloadOf (alike-windows s j)))
+      (λ _. firstOf (bufferRow (s .h j) room ∷ []) (overloadOf (alike-windows s j)))
 
   pub alike-plan : (room : ℕ) (old : List ℕ) → planAfter (fillOf a room) (windowsOf a) old ≡ planAfter (fillOf b room) (windowsOf b) old
   alike-plan room old = rw (alike-filled room) (go (fillOf b room))

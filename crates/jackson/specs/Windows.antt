@@ -37,9 +37,9 @@ windowsOf l =
 abbrev pub plain : Entry → Entry
 plain e = record { serial = 0; seal = Missing; r = e .r; d = e .d; p = e .p; kind = Pause }
 
--- two lists with the same H, opening minute and n, and of each entry the same r, d and p: serials, seals and kinds are not compared
+-- two lists with the same H and n, and of each entry the same r, d and p: opening minutes, serials, seals and kinds are not compared
 pub record SameWindows (a b : DayList) : Type 0 where
-  pub frame : a .frame ≡ b .frame
+  pub h : a .frame .h ≡ b .frame .h
   pub n : a .n ≡ b .n
   pub entries : map plain (entriesOf a) ≡ map plain (entriesOf b)
 

@@ -1,5 +1,5 @@
--- Lists that are narrowed alike: those that differ in serials and seals alone, if the value check answers both alike, and so those equal by
--- document 01's rule; and what travels along into the list answered.
+-- Lists that are narrowed alike: those that differ in their opening minute, serials and seals alone, if the value check answers both alike,
+-- and so those equal by document 01's rule; and what travels along into the list answered.
 -- Assumes nothing.
 use mathlib.Core.Path.{_≡_, refl, sym, ap, _∙_}
 use mathlib.Core.List.{List, [], _∷_, map, map-map}
@@ -11,6 +11,7 @@ use Rattle.base.specs.Outcomes.{Outcome, answered, andThen}
 use Rattle.list.specs.DayLists.{entriesOf, blank, dayList, SameList, isWhole, wholeIn}
 use Rattle.list.specs.Checks.{checkOf}
 use Rattle.list.specs.declared.types.Entry.{Entry}
+use Rattle.list.specs.declared.types.Frame.{Frame}
 use Rattle.list.specs.declared.types.DayList.{DayList}
 use Rattle.list.proofs.Alike.{same-checked}
 use Rattle.jackson.specs.Windows.{Windows, plain, SameWindows}
@@ -21,18 +22,19 @@ use Rattle.narrow.specs.Calls.{bare, SameTimes, entryWith, entriesWith, 
 
 -- lists that are equal have the same numbers and kinds
 pub same-times : {a b : DayList} → SameList a b → SameTimes a b
-same-times s = record { frame = s .frame; n = s .n; entries = ap (map bare) (s .entries) }
+same-times s = record { h = ap (λ (f : Frame). f .h) (s .frame); n = s .n; entries = ap (map bare) (s .entries) }
 
--- lists that differ in serials and seals alone have the same numbers, so that jackson's Alike speaks of them
+-- lists that differ so have the same numbers, so that jackson's Alike speaks of them
 pub times-windows : {a b : DayList} → SameTimes a b → SameWindows a b
 times-windows {a} {b} s =
     record {
-      frame = s .frame;
+      h = s .h;
       n = s .n;
       entries = sym (map-map plain bare (entriesOf a)) ∙ ap (map plain) (s .entries) ∙ map-map plain bare (entriesOf b);
     }
 
--- windows, moves and refusals do not depend on serials and seals, nor on what stands from n on, if the value check answers both lists alike
+-- windows, moves and refusals do not depend on opening minutes, serials and seals, nor on what stands from n on, if the value check answers
+-- both lists alike
 module _ {a b : DayList} (s : SameTimes a b) where
   pub times-whole : wholeIn a ≡ wholeIn b
   times-whole = λ j i. isWhole (bares i j .kind)

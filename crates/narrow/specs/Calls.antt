@@ -24,9 +24,9 @@ use Rattle.narrow.specs.declared.types.NarrowAnswer.{NarrowAnswer}
 abbrev pub bare : Entry → Entry
 bare e = record { serial = 0; seal = Missing; r = e .r; d = e .d; p = e .p; kind = e .kind }
 
--- two lists with the same H, opening minute and n, and of each entry the same r, d, p and kind: serials and seals are not compared
+-- two lists with the same H and n, and of each entry the same r, d, p and kind: opening minutes, serials and seals are not compared
 pub record SameTimes (a b : DayList) : Type 0 where
-  pub frame : a .frame ≡ b .frame
+  pub h : a .frame .h ≡ b .frame .h
   pub n : a .n ≡ b .n
   pub entries : map bare (entriesOf a) ≡ map bare (entriesOf b)
 

@@ -1,5 +1,5 @@
--- Lists that are planned alike: those that differ in serials and seals alone, if the value check answers both alike, and so those equal by
--- document 01's rule.
+-- Lists that are planned alike: those that differ in their opening minute, serials and seals alone, if the value check answers both alike,
+-- and so those equal by document 01's rule.
 -- Assumes nothing.
 use Prim.Native.Nat.{ℕ}
 use mathlib.Core.Path.{_≡_, refl}
@@ -20,17 +20,17 @@ use Rattle.planner.specs.Calls.{planChecks, shownChecks, narrowAfter, se
 use Rattle.bounds.specs.ShownPlans.{boundOf, shownPlan}
 use Rattle.bounds.specs.declared.types.Shown.{Shown}
 
--- windows, moves, refusals, bounds, broken entries and plans do not depend on serials and seals, nor on what stands from n on, if the value
--- check answers both lists alike
+-- windows, moves, refusals, bounds, broken entries and plans do not depend on opening minutes, serials and seals, nor on what stands from n
+-- on, if the value check answers both lists alike
 module _ {a b : DayList} (s : SameTimes a b) (checked : checkOf a ≡ checkOf b) where
   -- the checks before 9
   pub times-plan-checked : (room : ℕ) → planChecks a room ≡ planChecks b room
   unfolding planChecks
-  times-plan-checked room = rw (checked, s .frame) refl
+  times-plan-checked room = rw (checked, s .h) refl
 
   pub times-shown-checked : (k room : ℕ) → shownChecks a k room ≡ shownChecks b k room
   unfolding shownChecks
-  times-shown-checked k room = rw (checked, s .frame, s .n) refl
+  times-shown-checked k room = rw (checked, s .h, s .n) refl
 
   -- the settled windows and the moves, or the refusal
   times-after : {x y : Outcome (Unit {0})} → x ≡ y → narrowAfter x a ≡ narrowAfter y b
