@@ -15,7 +15,7 @@ use Rattle.list.specs.declared.types.Entry.{Entry}
 use Rattle.list.specs.declared.types.Frame.{Frame}
 use Rattle.list.specs.declared.types.DayList.{DayList}
 use Rattle.list.proofs.ClashFacts.{clash-carried}
-use Rattle.list.proofs.Sound.{Sound, Every, sound-list, sound-at, list-apart, well-formed}
+use Rattle.list.proofs.Sound.{Sound, every-at-places, sound-list, sound-at, list-apart, well-formed}
 use Rattle.jackson.specs.Windows.{windowsOf}
 use Rattle.jackson.specs.Mirrors.{mirror, mirrorEntry, mirrorList}
 use Rattle.jackson.specs.Laws.{MirrorLaw}
@@ -29,11 +29,6 @@ mirror-sound f g e same always s =
       in-day = omega (arith, same);
       room = omega (arith, s .room, s .in-day);
     }
-
-every-mirror : (f g : Frame) (es : List Entry) → g .h ≡ f .h → g .opening ≡ 0 → Every (Sound f) es
-    → Every (Sound g) (map (mirrorEntry (f .h)) es)
-every-mirror f g [] same always s = tt
-every-mirror f g (e ∷ es) same always s = (mirror-sound f g e same always (s .0), every-mirror f g es same always (s .1))
 
 mapped-at : (f : Entry → Entry) (es : List Entry) (i : ℕ) → i < length es → getD (map f es) i blank ≡ f (getD es i blank)
 mapped-at f [] i h = absurd (omega arith)
@@ -101,10 +96,15 @@ module _ (l : DayList) where
               room = omega (arith, given .header .room, length-map es (mirrorEntry h), length-take (l .n) (l .entries));
             };
         opening = given .header .some-minutes;
-        entries = rw entries-are (every-mirror (l .frame) _ es refl refl (given .entries));
+        entries = every-at-places _ (entriesOf (mirrorList l)) sound;
       })
       (λ i k c. list-apart l formed i k (clash-carried (entriesOf (mirrorList l)) es count-is serials (λ t. h - suc t) back i k c))
     where
+      sound : (i : ℕ) → i < length (entriesOf (mirrorList l)) → Sound (mirrorList l .frame) (getD (entriesOf (mirrorList l)) i blank)
+      sound i h =
+          let place : i < length es = omega (arith, h, count-is) in
+          rw (entry-is i place) (mirror-sound (l .frame) (mirrorList l .frame) (getD es i blank) refl refl (sound-at l formed i place))
+
       serials : (i : ℕ) → i < length es → getD (entriesOf (mirrorList l)) i blank .serial ≡ getD es i blank .serial
       serials i place = ap (λ (e : Entry). e .serial) (entry-is i place)
 
@@ -118,4 +118,4 @@ module _ (l : DayList) where
 
 -- the law holds of every list
 pub mirror-law : (l : DayList) → MirrorLaw l
-mirror-law l = record { windows = windows-are l; formed = mirror-formed l }
+mirror-law l = record { opening = refl; windows = windows-are l; formed = mirror-formed l }

@@ -38,7 +38,8 @@ pub record ScheduleLaw (w : Windows) : Type 0 where
   pub follows : FollowsJackson w (placesIn (schedule w))
   pub one : (m : ℕ → ℕ) → FollowsJackson w m → (t : ℕ) → t < w .h → m t ≡ placesIn (schedule w) t
 
--- the law of the mirrored list, for every list: it has the mirrored windows, and is well-formed if the list is
+-- the law of the mirrored list, for every list: it has the mirrored windows and opening minute 0, and is well-formed if the list is
 pub record MirrorLaw (l : DayList) : Type 0 where
+  pub opening : mirrorList l .frame .opening ≡ 0
   pub windows : windowsOf (mirrorList l) ≡ mirror (windowsOf l)
   pub formed : WellFormed l → WellFormed (mirrorList l)

@@ -3,6 +3,7 @@
 -- arrays that hold a field of the entries.
 pub mod ClashFacts
 pub mod Sound
+pub mod OpeningLaws
 pub mod ClashLaws
 pub mod Alike
 pub mod Verdicts

@@ -103,6 +103,11 @@ every-place P [] all i h = absurd (omega arith)
 every-place P (e ∷ es) all zero h = all .0
 every-place P (e ∷ es) all (suc i) h = every-place P es (all .1) i (omega arith)
 
+-- and back
+pub every-at-places : (P : Entry → Type 0) (es : List Entry) → ((i : ℕ) → i < length es → P (getD es i blank)) → Every P es
+every-at-places P [] all = tt
+every-at-places P (e ∷ es) all = (all 0 (omega arith), every-at-places P es (λ i h. all (suc i) (omega arith)))
+
 -- a fact of every refusal up to row 7, and of every one from row 15 on, whatever value it carries
 abbrev pub Low : (Code → Type 0) → Type 0
 Low R = (k at : ℕ) → k ≤ 7 → R (code k (at ∷ []))

@@ -47,6 +47,10 @@ dayList f es = record { frame = f; n = length es; entries = es ++ replicate (mos
 abbrev pub emptyList : DayList
 emptyList = dayList (record { h = 0; opening = 0 }) []
 
+-- the list in a room that is open from minute 0 on
+abbrev pub alwaysOpen : DayList → DayList
+alwaysOpen l = record { frame = record { h = l .frame .h; opening = 0 }; n = l .n; entries = l .entries }
+
 -- "Two list values are equal if H, n and the first n entries are." And document 02: "The list value carries and compares that minute", at
 -- which the room opens.
 pub record SameList (a b : DayList) : Type 0 where

@@ -1,13 +1,34 @@
--- What row 14 of the value check says, in facts: `clash-law` of proofs/ClashLaws.antt, for every list.
-use Prim.Native.Nat.{ℕ}
+-- What rows 15, 16 and 14 of the value check say, in facts, for every list.
+use Prim.Native.Nat.{ℕ, _<_, _≤_}
 use mathlib.Core.Path.{_≡_}
+use mathlib.Core.Logic.{_↔_}
 use mathlib.Core.List.{[], _∷_}
+use lib.ListN.{length, getD}
 use Rattle.base.specs.Outcomes.{Code, code, answered, refused}
-use Rattle.list.specs.DayLists.{entriesOf}
+use Rattle.list.specs.Entries.{entryFault}
+use Rattle.list.specs.DayLists.{entriesOf, blank, alwaysOpen}
 use Rattle.list.specs.Clashes.{Apart, FirstClash}
-use Rattle.list.specs.Checks.{valuesFault, checkOf, WellFormed}
+use Rattle.list.specs.Checks.{headerFault, valuesFault, checkOf, WellFormed}
 use Rattle.list.specs.declared.types.DayList.{DayList}
 
+-- the room opens before the day is over, and no entry comes before it opens
+pub record OpensInTime (l : DayList) : Type 0 where
+  pub in-day : l .frame .opening < l .frame .h
+  pub entries : (i : ℕ) → i < length (entriesOf l) → l .frame .opening ≤ getD (entriesOf l) i blank .r
+
+-- `opening-law` of proofs/OpeningLaws.antt
+pub record OpeningLaw (l : DayList) : Type 0 where
+  -- an opening minute decides this and nothing else: without it the list is well-formed as well
+  pub accepted : WellFormed l ↔ WellFormed (alwaysOpen l) × OpensInTime l
+  -- rows 2 and 3 come first; then 15 is given exactly for an opening minute of H or more, "0 for a value"
+  pub before : (k : Code) → headerFault 0 (l .frame .h) (l .n) ≡ refused k → checkOf l ≡ refused k
+  pub late : headerFault 0 (l .frame .h) (l .n) ≡ answered tt → l .frame .h ≤ l .frame .opening → checkOf l ≡ refused (code 15 (0 ∷ []))
+  -- then 16 for the first entry that has a fault, if its r is before the opening minute, whatever its p is
+  pub early : headerFault 0 (l .frame .h) (l .n) ≡ answered tt → l .frame .opening < l .frame .h → (i : ℕ) → i < length (entriesOf l)
+      → ((j : ℕ) → j < i → entryFault (l .frame) j (getD (entriesOf l) j blank) ≡ answered tt)
+      → getD (entriesOf l) i blank .r < l .frame .opening → checkOf l ≡ refused (code 16 (i ∷ []))
+
+-- `clash-law` of proofs/ClashLaws.antt
 pub record ClashLaw (l : DayList) : Type 0 where
   -- rows 2, 3, 15, 16, 6 and 7 come first
   pub before : (k : Code) → valuesFault l ≡ refused k → checkOf l ≡ refused k

@@ -1,8 +1,7 @@
 -- The list with other windows: its windows, its kinds, and that it passes the value check.
 -- Assumes nothing.
 use mathlib.Core.Path.{_≡_, sym, ap, _∙_, fun-ext}
-use mathlib.Core.List.{List, [], _∷_}
-use Prim.Native.Nat.{ℕ, suc, _+_, _-_, _<_, _≤_}
+use Prim.Native.Nat.{ℕ, _<_, _≤_}
 use native.Mathlib.Omega.{arith}
 use lib.ListN.{length, getD, length-take, List·getD-eq-default}
 use Rattle.list.specs.DayLists.{entriesOf, blank, isWhole, wholeIn}
@@ -11,22 +10,12 @@ use Rattle.list.specs.Checks.{WellFormed}
 use Rattle.list.specs.declared.types.Entry.{Entry}
 use Rattle.list.specs.declared.types.DayList.{DayList}
 use Rattle.list.proofs.ClashFacts.{clash-carried}
-use Rattle.list.proofs.Sound.{Sound, Every, sound-list, sound-at, list-apart, well-formed}
+use Rattle.list.proofs.Sound.{Sound, every-at-places, sound-list, sound-at, list-apart, well-formed}
 use Rattle.jackson.specs.Windows.{Windows, windowsOf}
 use Rattle.base.proofs.Sums.{le-or-lt}
-use Rattle.narrow.specs.Calls.{entryWith, entriesWith, listWith}
+use Rattle.narrow.specs.Calls.{listWith}
 use Rattle.narrow.proofs.StepsKeep.{Keeps, keeps-h, keeps-n, keeps-p}
-use Rattle.narrow.proofs.Alike.{with-length, listed-entries, listed-entry, listed-count}
-
-module _ (w : Windows) where
-  -- what holds of each of them
-  with-every : (P : Entry → Type 0) (i : ℕ) (es : List Entry)
-      → ((j k : ℕ) → k ≡ i + j → j < length es → P (entryWith (getD es j blank) (w .r k) (w .d k)))
-      → Every P (entriesWith w i es)
-  unfolding entriesWith
-  with-every P i [] each = tt
-  with-every P i (e ∷ es) each =
-      (each 0 i (omega arith) (omega arith), with-every P (i + 1) es (λ j k z h. each (suc j) k (omega arith) (omega arith)))
+use Rattle.narrow.proofs.Alike.{with-length, listed-entry, listed-count}
 
 -- The windows of the list that is answered.
 module _ (l : DayList) (w : Windows) (keeps : Keeps (windowsOf l) w) where
@@ -90,7 +79,7 @@ module _ (l : DayList) (w : Windows) (keeps : Keeps (windowsOf l) w) where
               room = omega (arith, given .room, with-length w 0 (entriesOf l), length-take (l .n) (l .entries));
             };
         opening = sound-list l formed .opening;
-        entries = rw (listed-entries l w) (with-every w (Sound (l .frame)) 0 (entriesOf l) sound);
+        entries = every-at-places _ (entriesOf (listWith l w)) sound;
       })
       (λ i k c. list-apart l formed i k
       (clash-carried (entriesOf (listWith l w)) (entriesOf l) (listed-count l w) serials (λ t. t) within i k c))
@@ -105,14 +94,14 @@ module _ (l : DayList) (w : Windows) (keeps : Keeps (windowsOf l) w) where
           let z : (w .r i ≤ t) × (t < w .d i) = rw (listed-entry l w i place) at h in
           (omega (arith, keeps .inside .r i place, z .0), omega (arith, keeps .inside .d i place, z .1))
 
-      sound : (j k : ℕ) → k ≡ 0 + j → j < length (entriesOf l) → Sound (l .frame) (entryWith (getD (entriesOf l) j blank) (w .r k) (w .d k))
-      sound j k z h =
-          let q : k ≡ j = omega arith in
-          let place : j < w .n = omega (arith, keeps-n keeps) in
-          rw q
+      sound : (i : ℕ) → i < length (entriesOf (listWith l w)) → Sound (l .frame) (getD (entriesOf (listWith l w)) i blank)
+      sound i h =
+          let given : i < length (entriesOf l) = omega (arith, h, listed-count l w) in
+          let place : i < w .n = omega (arith, keeps-n keeps) in
+          rw (listed-entry l w i given)
           (record {
-            opened = omega (arith, keeps .inside .r j h, sound-at l formed j h .opened);
-            some-minutes = omega (arith, keeps .formed .minutes j place, keeps-p keeps j);
-            in-day = omega (arith, keeps .formed .in-day j place, keeps-h keeps);
-            room = omega (arith, keeps .formed .room j place, keeps-p keeps j);
+            opened = omega (arith, keeps .inside .r i given, sound-at l formed i given .opened);
+            some-minutes = omega (arith, keeps .formed .minutes i place, keeps-p keeps i);
+            in-day = omega (arith, keeps .formed .in-day i place, keeps-h keeps);
+            room = omega (arith, keeps .formed .room i place, keeps-p keeps i);
           })

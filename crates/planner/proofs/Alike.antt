@@ -6,10 +6,11 @@ use mathlib.Core.Path.{_≡_, refl}
 use mathlib.Core.List.{List}
 use lib.ListN.{length}
 use Rattle.base.specs.Outcomes.{Outcome, andThen}
-use Rattle.list.specs.Checks.{checkOf}
-use Rattle.list.specs.DayLists.{SameList, wholeIn}
+use Rattle.list.specs.Checks.{checkOf, WellFormed}
+use Rattle.list.specs.DayLists.{alwaysOpen, SameList, wholeIn}
 use Rattle.list.specs.declared.types.DayList.{DayList}
-use Rattle.list.proofs.Alike.{same-checked}
+use Rattle.list.proofs.OpeningLaws.{opening-law}
+use Rattle.list.proofs.Alike.{both-pass, same-checked}
 use Rattle.jackson.specs.Intervals.{overloadOf}
 use Rattle.jackson.specs.Minutes.{schedule}
 use Rattle.jackson.proofs.Alike.{alike-windows}
@@ -64,6 +65,17 @@ module _ {a b : DayList} (s : SameTimes a b) (checked : checkOf a ≡ checkOf b)
       → planned (shownPlan x (wholeIn a) k) old (shownOf a k (length old))
       ≡ planned (shownPlan x (wholeIn b) k) old (shownOf b k (length old))
   times-shown-plan x k old = λ j. planned (shownPlan x (times-whole s j) k) old (times-shown k (length old) j)
+
+-- a well-formed list is planned as it is without its opening minute: all of the above holds of the two
+module _ (l : DayList) (formed : WellFormed l) where
+  pub opened-times : SameTimes l (alwaysOpen l)
+  opened-times = record { h = refl; n = refl; entries = refl }
+
+  pub opened-checked : checkOf l ≡ checkOf (alwaysOpen l)
+  opened-checked = both-pass l (alwaysOpen l) formed (opening-law l .accepted .0 formed .0)
+
+  pub opened-planned : (room : ℕ) → planOf l room ≡ planOf (alwaysOpen l) room
+  opened-planned = times-planned opened-times opened-checked
 
 -- lists that are equal get equal answers: beside those above, which hold of them by `same-times`, the list answered
 module _ {a b : DayList} (s : SameList a b) where

@@ -1,0 +1,77 @@
+-- Rows 15 and 16 of the value check, in facts.
+-- Assumes nothing.
+use mathlib.Core.Path.{_≡_, refl, sym, ap, _∙_}
+use mathlib.Core.List.{List, [], _∷_}
+use Prim.Native.Nat.{ℕ, zero, suc, _+_, _<_}
+use native.Mathlib.Nat.{add-zero, zero-add}
+use native.Mathlib.Omega.{arith}
+use lib.ListN.{length, getD}
+use Rattle.base.specs.Outcomes.{Code, code, answered, refused}
+use Rattle.list.specs.Entries.{entryFault}
+use Rattle.list.specs.DayLists.{entriesOf, blank, alwaysOpen}
+use Rattle.list.specs.Checks.{entriesFault, valuesFault, checkOf, WellFormed}
+use Rattle.list.specs.Laws.{OpensInTime, OpeningLaw}
+use Rattle.list.specs.declared.types.Entry.{Entry}
+use Rattle.list.specs.declared.types.Frame.{Frame}
+use Rattle.list.specs.declared.types.DayList.{DayList}
+use Rattle.list.proofs.Sound.{every-at-places, sound-list, sound-at, opening-passes, list-apart, well-formed}
+use Rattle.list.proofs.CheckCases.{opens-late, before-opening}
+
+-- the first entry that has a fault is told
+first-fault : (f : Frame) (at : ℕ) (es : List Entry) (i : ℕ) → i < length es
+    → ((j : ℕ) → j < i → entryFault f (at + j) (getD es j blank) ≡ answered tt)
+    → (k : Code) → entryFault f (at + i) (getD es i blank) ≡ refused k → entriesFault f at es ≡ refused k
+unfolding entriesFault
+first-fault f at [] i h none k e = absurd (omega arith)
+first-fault f at (x ∷ es) zero h none k e = rw (rw (add-zero at) at e)
+first-fault f at (x ∷ es) (suc i) h none k e =
+    rw (rw (add-zero at) at (none 0 (omega arith)))
+    (first-fault f (at + 1) es i (omega arith) (λ j b. moved j ∙ none (suc j) (omega arith)) k (moved i ∙ e))
+  where
+    moved : (j : ℕ) → entryFault f (at + 1 + j) (getD es j blank) ≡ entryFault f (at + suc j) (getD es j blank)
+    moved j = let z : at + 1 + j ≡ at + suc j = omega arith in ap (λ (p : ℕ). entryFault f p (getD es j blank)) z
+
+module _ (l : DayList) where
+  abbrev f : Frame
+  f = l .frame
+
+  abbrev es : List Entry
+  es = entriesOf l
+
+  opened : WellFormed l → WellFormed (alwaysOpen l) × OpensInTime l
+  opened w =
+      let s = sound-list l w in (
+        well-formed (alwaysOpen l)
+            (record {
+              header = s .header;
+              opening = s .header .some-minutes;
+              entries = every-at-places _ es (λ i h. let e = sound-at l w i h in
+                  record { opened = omega arith; some-minutes = e .some-minutes; in-day = e .in-day; room = e .room });
+            })
+            (list-apart l w),
+        record { in-day = s .opening; entries = λ i h. sound-at l w i h .opened },
+      )
+
+  closed : WellFormed (alwaysOpen l) × OpensInTime l → WellFormed l
+  closed (w, o) =
+      let s = sound-list (alwaysOpen l) w in
+      well-formed l
+      (record {
+        header = s .header;
+        opening = o .in-day;
+        entries = every-at-places _ es (λ i h. let e = sound-at (alwaysOpen l) w i h in
+            record { opened = o .entries i h; some-minutes = e .some-minutes; in-day = e .in-day; room = e .room });
+      })
+      (list-apart (alwaysOpen l) w)
+
+  pub opening-law : OpeningLaw l
+  unfolding checkOf valuesFault
+  opening-law =
+      record {
+        accepted = (opened, closed);
+        before = λ k e. rw e refl;
+        late = λ header h. rw (header, ← (opens-late 0 f h)) refl;
+        early = λ header o i h none r.
+            let entry : entryFault f (0 + i) (getD es i blank) ≡ refused (code 16 (i ∷ [])) = simp zero-add (sym (before-opening f i _ r)) in
+            rw (header, opening-passes 0 f o, first-fault f 0 es i h (λ j b. simp zero-add (none j b)) _ entry) refl;
+      }
