@@ -79,7 +79,7 @@ step_gone() { ! grep -q '^State:.[^Z]' "/proc/$(cat "$scratch/step")/status" 2>/
 for signal in TERM HUP; do
     fresh
     fake rt ci "trap '' HUP TERM; echo \$\$ >'$scratch/step'; sleep 60; sleep 60"
-    .ci/run >"$scratch/log" 2>&1 &
+    env --default-signal=HUP,TERM .ci/run >"$scratch/log" 2>&1 & # under nohup, HUP would be ignored and could not be trapped
     until_holds [ -s "$scratch/step" ] && kill "-$signal" $!
     wait $!
     hold $? '0 passed, 1 failed' "signal $signal"
