@@ -10,7 +10,7 @@ use flat::joined;
 use flat::list_in;
 use flat::put_row;
 use flat::row_fault;
-use list::empty_list;
+use list::read_refused;
 use list::types::ReadAnswer;
 use list::types::Refusal;
 use list::types::Verdict;
@@ -84,13 +84,10 @@ fn list_beside(fields: &[u32], lent: usize) -> ReadAnswer
         return given;
     };
     let fault = row_fault(lent);
-    let Verdict::Accepted = fault else {
-        return ReadAnswer {
-            verdict: fault,
-            list: empty_list(),
-        };
-    };
-    given
+    match fault {
+        Verdict::Accepted => given,
+        Verdict::Refused(x) => read_refused(x),
+    }
 }
 
 // Reads a list. Accepted: `fields` is the list; else it keeps its values.

@@ -1,6 +1,7 @@
 // A list value as a row of 451 numbers.
 use crate::NUMBERS;
 use list::empty_list;
+use list::read_refused;
 use list::types::DayList;
 use list::types::ENTRIES;
 use list::types::Entry;
@@ -106,15 +107,12 @@ pub fn list_in(fields: &[u32]) -> ReadAnswer
     ensures { λ a. ⌜ ReadsRow (now (fields .entry)) a ⌝ }
 {
     let fault = row_fault(fields.len());
-    let Verdict::Accepted = fault else {
-        return ReadAnswer {
-            verdict: fault,
-            list: empty_list(),
-        };
-    };
-    ReadAnswer {
-        verdict: Verdict::Accepted,
-        list: value_in(fields),
+    match fault {
+        Verdict::Accepted => ReadAnswer {
+            verdict: Verdict::Accepted,
+            list: value_in(fields),
+        },
+        Verdict::Refused(x) => read_refused(x),
     }
 }
 

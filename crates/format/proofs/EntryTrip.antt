@@ -3,7 +3,6 @@
 -- Assumes nothing.
 use mathlib.Core.Path.{_≡_, refl, sym, ap, _∙_}
 use mathlib.Core.Bool.{Bool, true, false, cond, not, _&&_, not-and-self}
-use mathlib.Core.Logic.{inl, inr}
 use mathlib.Core.List.{List, [], _∷_, _++_, append-assoc}
 use Prim.Native.Nat.{ℕ, _+_, _^_, _≤_, _<_}
 use native.Mathlib.Nat.{add-zero}
@@ -17,7 +16,7 @@ use Rattle.format.specs.Maps.{legalMap, fieldsOf, mapOf, rPlace, dPlace,
 use Rattle.list.specs.Entries.{entryFault}
 use Rattle.format.specs.EntryFields.{defaultR, defaultD, sealOf, entryAt, entryOf, fieldsEntry, defaultWritten}
 use Rattle.format.specs.Forms.{sealed, fieldsIn, sealBytes, minuteBytes, entryBytes}
-use Rattle.format.specs.Laws.{ReadingRow, PlaceIn}
+use Rattle.format.specs.Laws.{PlaceIn}
 use Rattle.list.specs.Machine.{Bytes, SealFits}
 use Rattle.list.specs.declared.types.Seal.{Seal}
 use Rattle.list.specs.declared.types.Seal.the-variants.{Missing, Number}
@@ -31,7 +30,7 @@ use Rattle.format.proofs.FieldTrip.{past-field, u16-read, u32-read, u32
 use Rattle.format.proofs.FieldTrip.{minute-read, written-again, minute-stands}
 use Rattle.format.proofs.MapBytes.{map-form, map-back}
 use Rattle.base.proofs.Inversion.{Says, by-row, by-step, neither}
-use Rattle.format.proofs.CarriedPlaces.{at-end, at-place}
+use Rattle.format.proofs.CarriedPlaces.{at-end, at-place, at-early}
 use Rattle.list.proofs.Sound.{Sound, fault-says, faultless}
 use Rattle.format.proofs.FormCases.{seal-length, minute-length, entry-length}
 use Rattle.format.proofs.EntryCases.{entry-is, entry-legal, fields-taken}
@@ -157,7 +156,7 @@ module _ (f : Frame) (at : ℕ) (bs : List ℕ) (len : ℕ) (all : at + length b
         fits = λ b. record { serial = u32-small bs b 1; seal = seal-fits bs b 5 (m .seal) };
       }
 
-  here : 1 ≤ length bs → (n : ℕ) → 2 ≤ n → ReadingRow n → PlaceIn len (code n (at ∷ []))
+  here : 1 ≤ length bs → (n : ℕ) → 2 ≤ n → n ≤ 8 → PlaceIn len (code n (at ∷ []))
   here h n other row = at-place len n at other row (omega arith)
 
   fields-say : legalMap (getD bs 0 0) ≡ true → 1 ≤ length bs → Says (TakenEntry f bs) (PlaceIn len) (fieldsEntry f at m bs)
@@ -166,10 +165,10 @@ module _ (f : Frame) (at : ℕ) (bs : List ℕ) (len : ℕ) (all : at + length b
       let P = TakenEntry f bs in
       let R = PlaceIn len in
       by-row P R (ltb (length bs) (sizeOf m)) _ _ (λ t. at-end len _ all)
-      (λ l. by-row P R (defaultWritten f m e) _ _ (λ t. here h 5 (omega arith) (inl (omega arith)))
+      (λ l. by-row P R (defaultWritten f m e) _ _ (λ t. here h 5 (omega arith) (omega arith))
       (λ w. by-step (λ _. Sound f e) R P (entryFault f at e) _
-      (fault-says f at e R (here h 16 (omega arith) (inr (inr refl))) (here h 6 (omega arith) (inl (omega arith)))
-      (here h 7 (omega arith) (inl (omega arith))))
+      (fault-says f at e R (λ _. at-early len at (omega arith)) (here h 6 (omega arith) (omega arith))
+      (here h 7 (omega arith) (omega arith)))
       (λ _ s. taken legal (ltb-false _ _ l) w s)))
 
   -- what reading one entry says
@@ -184,6 +183,6 @@ module _ (f : Frame) (at : ℕ) (bs : List ℕ) (len : ℕ) (all : at + length b
       let h : 1 ≤ length bs = omega (arith, eqb-false (length bs) 0 n) in
       by-step (λ n. Says P R (fieldsEntry f at n bs)) R P (mapFields at map) _
       (by-row (λ n. Says P R (fieldsEntry f at n bs)) R (not (legalMap map)) _ _
-      (λ t. here h 4 (omega arith) (inl (omega arith)))
+      (λ t. here h 4 (omega arith) (omega arith))
       (λ t. fields-say (not-false _ t) h))
       (λ n s. s))

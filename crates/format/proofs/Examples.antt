@@ -23,7 +23,11 @@ read-examples =
       before-opening = refl;
       after-opening = refl;
       minute-missing = refl;
+      half-missing = refl;
       too-many = refl;
+      count-first = refl;
       zero-written = refl;
-      opens-late = refl;
+      opens-past-day = refl;
+      default-first = refl;
+      opening-first = refl;
     }

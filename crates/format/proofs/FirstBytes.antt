@@ -16,10 +16,11 @@ use Rattle.format.specs.EntryFields.{entryAt, fieldsEntry, entryOf}
 use Rattle.list.specs.Checks.{headerFault, openingFault}
 use Rattle.format.specs.Headers.{openingWritten, countOf, frameOf, entriesPlace, zeroWritten}
 use Rattle.format.specs.Reading.{entriesFrom, entriesRead, bodyOf, openedOf, decodeOf, readOf}
-use Rattle.format.specs.Laws.{PlaceIn}
+use Rattle.format.specs.Laws.{PlaceIn, LengthLaw}
 use Rattle.format.specs.Writing.{readLimit}
 use Rattle.list.specs.declared.types.Frame.{Frame}
 use Rattle.format.specs.declared.map.Fields.{Fields}
+use Rattle.format.proofs.LongestList.{longest, longest-reached}
 use Rattle.format.proofs.Places.{r-place-small, d-place-small, p-place-small}
 use Rattle.base.proofs.Inversion.{Says, Anything, by-row, by-step, says-refusal, same-after}
 use Rattle.list.proofs.Sound.{Header, header-says, OpensIn, opening-says}
@@ -150,7 +151,7 @@ module _ {xs ys : List ℕ} (a : Agree readLimit xs ys) where
   opened-over room =
       by-row (λ _. ⊥) Anything (ltb (length ys) from) _ _ (λ _. tt)
       (λ _. by-row (λ _. ⊥) Anything (zeroWritten ys) _ _ (λ _. tt)
-      (λ _. by-step (λ _. OpensIn f) Anything (λ _. ⊥) (openingFault 3 f) _ (opening-says 3 f Anything tt) (λ _ _. body-over room)))
+      (λ _. by-step (λ _. OpensIn f) Anything (λ _. ⊥) (openingFault 3 f) _ (opening-says 3 f Anything (λ _. tt)) (λ _ _. body-over room)))
 
   decode-over : Says (λ _. ⊥) Anything (decodeOf ys)
   unfolding decodeOf
@@ -173,3 +174,6 @@ first-bytes bs = go (leb (length bs) readLimit) refl
         let long : readLimit < length bs = leb-false _ _ e in
         let taken = length-take readLimit bs in
         read-same (record { left = omega (arith, taken); right = omega arith; byte = λ i l. getD-take readLimit bs i 0 l })
+
+pub length-law : LengthLaw
+length-law = record { longest = longest; reached = longest-reached; first-bytes = first-bytes }

@@ -24,7 +24,7 @@ use Rattle.list.specs.declared.types.Entry.{Entry}
 use Rattle.list.specs.declared.types.Frame.{Frame}
 use Rattle.list.specs.declared.types.DayList.{DayList}
 use Rattle.base.proofs.Inversion.{Says, by-row, by-step, says-which, says-refusal, both}
-use Rattle.format.proofs.CarriedPlaces.{at-end, at-place}
+use Rattle.format.proofs.CarriedPlaces.{at-end, at-place, at-opening}
 use Rattle.list.proofs.ClashFacts.{apart, first-clash, apart-told, first-told}
 use Rattle.list.proofs.Sound.{Header, header-says, OpensIn, opening-says, opening-passes, SoundList, well-formed}
 use Rattle.format.proofs.FieldTrip.{bytes-drop}
@@ -105,11 +105,11 @@ module _ (bs : List ℕ) where
   fifteen : from ≤ length bs → openingWritten bs ≡ true → PlaceIn (length bs) (code 15 (3 ∷ []))
   fifteen long w =
       let more : headerSize true ≤ length bs = rw w at long in
-      at-place (length bs) 15 3 (omega arith) (inr (inl refl)) (omega (arith, more))
+      at-opening (length bs) (omega (arith, more))
 
   opening-placed : from ≤ length bs → 1 ≤ f .h → (t : Bool) → openingWritten bs ≡ t
       → Says (λ _. OpensIn f) (PlaceIn (length bs)) (openingFault 3 f)
-  opening-placed long h true w = opening-says 3 f (PlaceIn (length bs)) (fifteen long w)
+  opening-placed long h true w = opening-says 3 f (PlaceIn (length bs)) (λ _. fifteen long w)
   opening-placed long h false w = let o : OpensIn f = rw w h in rw (opening-passes 3 f o) o
 
   -- what the rows of the opening minute, of the entries and row 8 say
@@ -128,7 +128,7 @@ module _ (bs : List ℕ) where
       (λ z. by-step (λ _. OpensIn f) R P (openingFault 3 f) _ (opening-placed long (h .some-minutes) (openingWritten bs) refl)
       (λ _ opens. by-step (λ x. Entries x × (o ≡ answered x)) R P o _
       (says-refusal (λ x. Entries x × (o ≡ answered x)) (λ k. R k × (o ≡ refused k)) R o (λ _ p. p .0) said)
-      (λ x taken. by-row P R (ltb (x .1) (length bs)) _ _ (λ l. at-place _ 8 (x .1) (omega arith) (inl (omega arith)) (ltb-true _ _ l))
+      (λ x taken. by-row P R (ltb (x .1) (length bs)) _ _ (λ l. at-place _ 8 (x .1) (omega arith) (omega arith) (ltb-true _ _ l))
       (λ l. decoded long h z opens x (taken .0) (taken .1) (ltb-false _ _ l))))))
 
   -- what rows 1 to 8, 15 and 16 say
@@ -140,8 +140,8 @@ module _ (bs : List ℕ) where
       by-row P R (ltb (length bs) 3) _ _ (λ t. at-end (length bs) _ refl)
       (λ t.
       let long : 3 ≤ length bs = ltb-false _ _ t in
-      let two = at-place (length bs) 2 0 (omega arith) (inl (omega arith)) (omega arith) in
-      let three = at-place (length bs) 3 2 (omega arith) (inl (omega arith)) (omega arith) in
+      let two = at-place (length bs) 2 0 (omega arith) (omega arith) (omega arith) in
+      let three = at-place (length bs) 3 2 (omega arith) (omega arith) (omega arith) in
       by-step (λ _. Header (f .h) n) R P (headerFault 2 (f .h) n) _ (header-says 2 (f .h) n R two three) (λ _ h. opened-says h))
 
   pub decoded-typed : (l : DayList) → decodeOf bs ≡ answered l → Bytes bs → Typed l

@@ -1,4 +1,4 @@
--- What reading says of an input, in facts: `read-law` of proofs/ReadLaws.antt, for every input.
+-- What reading says of an input, in facts: `read-law` of proofs/ReadLaws.antt, for every input; and how long lists are.
 use Prim.Native.Nat.{ℕ, _<_, _≤_}
 use mathlib.Core.Path.{_≡_}
 use mathlib.Core.Logic.{_⊎_}
@@ -7,21 +7,25 @@ use lib.ListN.{length, getD, take, drop}
 use Rattle.base.specs.Outcomes.{Code, code, answered, refused}
 use Rattle.list.specs.DayLists.{entriesOf, blank}
 use Rattle.list.specs.Clashes.{Apart, FirstClash}
+use Rattle.list.specs.Checks.{WellFormed}
 use Rattle.list.specs.declared.types.DayList.{DayList}
 use Rattle.format.specs.EntryFields.{entryOf}
 use Rattle.format.specs.Headers.{frameOf, countOf}
 use Rattle.format.specs.Reading.{entriesRead, decodeOf, readOf}
+use Rattle.format.specs.Writing.{bytesOf, longestList, readLimit}
 
 -- the rows of reading that look at one entry or at the header, or at the input's length: 1 to 8, 15 and 16
 abbrev pub ReadingRow : ℕ → Type 0
-ReadingRow n = (n ≤ 8) ⊎ ((n ≡ 15) ⊎ (n ≡ 16))
+ReadingRow n = ((1 ≤ n) × (n ≤ 8)) ⊎ ((n ≡ 15) ⊎ (n ≡ 16))
 
--- A refusal of an input of this length: one of those rows, of which 1 carries the length and any other a place inside the input.
+-- A refusal of an input of this length: one of those rows, of which 1 carries the length, 15 the opening minute's place and any other a
+-- place inside the input.
 pub record PlaceIn (len : ℕ) (k : Code) : Type 0 where
   pub reading : ReadingRow (k .number)
   pub place : ℕ
   pub carried : k .carries ≡ place ∷ []
   pub missing : k .number ≡ 1 → place ≡ len
+  pub opening : k .number ≡ 15 → place ≡ 3
   pub inside : (k .number ≡ 1 → ⊥) → place < len
 
 -- A refusal by 14 that carries the place at: those rows leave a list, whose entries take all of the input; this is its first entry that
@@ -49,3 +53,11 @@ pub record ReadLaw (bs : List ℕ) : Type 0 where
   pub apart : (l : DayList) → decodeOf bs ≡ answered l → Apart (entriesOf l) → readOf bs ≡ answered l
   pub clash : (l : DayList) → decodeOf bs ≡ answered l → (k : ℕ) → FirstClash (entriesOf l) k
       → (at : ℕ) × (readOf bs ≡ refused (code 14 (at ∷ [])))
+
+-- "A longest list has 965 bytes and the program takes 966.": `length-law` of proofs/FirstBytes.antt
+pub record LengthLaw : Type 0 where
+  -- no list's one form is longer than that, and one is as long
+  pub longest : (l : DayList) → WellFormed l → length (bytesOf l) ≤ longestList
+  pub reached : (l : DayList) × WellFormed l × (length (bytesOf l) ≡ longestList)
+  -- so one byte more decides how an input is read
+  pub first-bytes : (bs : List ℕ) → readOf (take readLimit bs) ≡ readOf bs

@@ -9,6 +9,7 @@ use list::first_clash;
 use list::header_fault;
 use list::opening_fault;
 use list::places_held;
+use list::read_refused;
 use list::types::DayList;
 use list::types::Frame;
 use list::types::ReadAnswer;
@@ -18,23 +19,13 @@ ghost use mathlib.Core.Path.{_≡_};
 ghost use mathlib.Core.Bool.{true};
 ghost use Prim.Native.Nat.{_≤_, _<_};
 ghost use lib.ListN.{length};
-ghost use Rattle.list.specs.DayLists.{emptyList, mostEntries};
+ghost use Rattle.list.specs.DayLists.{mostEntries};
 ghost use Rattle.format.specs.LittleEndian.{u16At};
 ghost use Rattle.format.specs.Headers.{frameOf, countOf, openingWritten, entriesPlace};
 ghost use Rattle.format.specs.Reading.{bodyOf, openedOf, decodeOf};
 ghost use Rattle.format.specs.Internal.{ReadsAs, firstEntries};
 ghost use Rattle.format.specs.Writing.{bytesOf};
 ghost use Rattle.format.specs.Calls.{Reads};
-
-// A refusal, with the empty list beside it.
-fn read_refused(x: Refusal) -> ReadAnswer
-    ensures { λ a. ⌜ a ≡ record { verdict = Verdict.Refused x; list = emptyList } ⌝ }
-{
-    ReadAnswer {
-        verdict: Verdict::Refused(x),
-        list: empty_list(),
-    }
-}
 
 // The entries after a sound header, from place `from` on, and row 8.
 fn read_body(bytes: &[u8], frame: Frame, n: u8, from: usize) -> ReadAnswer

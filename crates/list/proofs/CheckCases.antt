@@ -33,9 +33,9 @@ module _ (place h n : ℕ) where
   too-many z l k = simp (ne-eqb _ _ z, le-ltb _ _ l, lt-ltb _ _ k)
 
 -- row 15
-pub opens-late : (place : ℕ) (f : Frame) → f .h ≤ f .opening → refused (code 15 (place ∷ [])) ≡ openingFault place f
+pub opens-past-day : (place : ℕ) (f : Frame) → f .h ≤ f .opening → refused (code 15 (place ∷ [])) ≡ openingFault place f
 unfolding openingFault
-opens-late place f h = simp (le-leb _ _ h)
+opens-past-day place f h = simp (le-leb _ _ h)
 
 -- rows 16, 6 and 7 likewise
 module _ (f : Frame) (place : ℕ) (e : Entry) where

@@ -1,8 +1,8 @@
 -- Rows 15 and 16 of the value check, in facts.
 -- Assumes nothing.
-use mathlib.Core.Path.{_≡_, refl, sym, ap, _∙_}
+use mathlib.Core.Path.{_≡_, refl, sym, ap, subst, _∙_}
 use mathlib.Core.List.{List, [], _∷_}
-use Prim.Native.Nat.{ℕ, zero, suc, _+_, _<_}
+use Prim.Native.Nat.{ℕ, zero, suc, _+_, _<_, _≤_}
 use native.Mathlib.Nat.{add-zero, zero-add}
 use native.Mathlib.Omega.{arith}
 use lib.ListN.{length, getD}
@@ -14,8 +14,9 @@ use Rattle.list.specs.Laws.{OpensInTime, OpeningLaw}
 use Rattle.list.specs.declared.types.Entry.{Entry}
 use Rattle.list.specs.declared.types.Frame.{Frame}
 use Rattle.list.specs.declared.types.DayList.{DayList}
-use Rattle.list.proofs.Sound.{every-at-places, sound-list, sound-at, opening-passes, list-apart, well-formed}
-use Rattle.list.proofs.CheckCases.{opens-late, before-opening}
+use Rattle.base.proofs.Inversion.{Says}
+use Rattle.list.proofs.Sound.{check-tells, every-at-places, sound-list, sound-at, opening-passes, list-apart, well-formed}
+use Rattle.list.proofs.CheckCases.{opens-past-day, before-opening}
 
 -- the first entry that has a fault is told
 first-fault : (f : Frame) (at : ℕ) (es : List Entry) (i : ℕ) → i < length es
@@ -64,13 +65,37 @@ module _ (l : DayList) where
       })
       (list-apart (alwaysOpen l) w)
 
+  -- an entry comes before the room opens
+  abbrev Before : ℕ → Type 0
+  Before i = (i < length es) × (getD es i blank .r < f .opening)
+
+  -- what holds of a refusal, if it is 15 or 16
+  abbrev Told : Code → Type 0
+  Told x = ((at : ℕ) → x ≡ code 15 (at ∷ []) → f .h ≤ f .opening) × ((i : ℕ) → x ≡ code 16 (i ∷ []) → Before i)
+
+  told : Says (λ _. WellFormed l) Told (checkOf l)
+  told =
+      check-tells l Told
+      (λ n x h. (λ at q. absurd (omega (arith, h, number q)), λ i q. absurd (omega (arith, h, number q))))
+      (λ h. (λ _ _. h, λ i q. absurd (omega (arith, number q))))
+      (λ i h r. (λ at q. absurd (omega (arith, number q)), λ k q. subst Before (place q) (h, r)))
+      (λ _ _. (λ at q. absurd (omega (arith, number q)), λ i q. absurd (omega (arith, number q))))
+    where
+      number : {n m x y : ℕ} → code n (x ∷ []) ≡ code m (y ∷ []) → n ≡ m
+      number q = ap (λ (x : Code). x .number) q
+
+      place : {n m x y : ℕ} → code n (x ∷ []) ≡ code m (y ∷ []) → x ≡ y
+      place q = ap (λ (x : Code). getD (x .carries) 0 0) q
+
   pub opening-law : OpeningLaw l
   unfolding checkOf valuesFault
   opening-law =
       record {
         accepted = (opened, closed);
         before = λ k e. rw e refl;
-        late = λ header h. rw (header, ← (opens-late 0 f h)) refl;
+        fifteen = λ at e. (rw e at told) .0 at refl;
+        late = λ header h. rw (header, ← (opens-past-day 0 f h)) refl;
+        sixteen = λ i e. (rw e at told) .1 i refl;
         early = λ header o i h none r.
             let entry : entryFault f (0 + i) (getD es i blank) ≡ refused (code 16 (i ∷ [])) = simp zero-add (sym (before-opening f i _ r)) in
             rw (header, opening-passes 0 f o, first-fault f 0 es i h (λ j b. simp zero-add (none j b)) _ entry) refl;

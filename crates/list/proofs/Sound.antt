@@ -4,8 +4,9 @@ use mathlib.Core.Path.{_≡_, refl}
 use mathlib.Core.Bool.{_||_}
 use mathlib.Core.List.{List, [], _∷_}
 use Prim.Native.Nat.{ℕ, zero, suc, _+_, _≤_, _<_}
+use native.Mathlib.Nat.{add-zero, zero-add}
 use native.Mathlib.Omega.{arith}
-use borrow.Author.Tests.{ltb-true, ltb-false, eqb-false, le-ltb, ne-eqb, leb-false, lt-leb}
+use borrow.Author.Tests.{ltb-true, ltb-false, eqb-false, le-ltb, ne-eqb, leb-true, leb-false, lt-leb}
 use lib.Dec.{eqb, leb, ltb}
 use lib.ListN.{length, getD}
 use Rattle.base.specs.Outcomes.{Code, code, Outcome, answered, refused}
@@ -51,10 +52,11 @@ abbrev pub OpensIn : Frame → Type 0
 OpensIn f = f .opening < f .h
 
 module _ (place : ℕ) (f : Frame) where
-  -- what row 15 says
-  pub opening-says : (R : Code → Type 0) → R (code 15 (place ∷ [])) → Says (λ _. OpensIn f) R (openingFault place f)
+  -- what row 15 says: of a refusal, whatever holds of it
+  pub opening-says : (R : Code → Type 0) → (f .h ≤ f .opening → R (code 15 (place ∷ []))) → Says (λ _. OpensIn f) R (openingFault place f)
   unfolding openingFault
-  opening-says R fifteen = by-row (λ _. OpensIn f) R (leb (f .h) (f .opening)) _ _ (λ t. fifteen) (λ t. leb-false _ _ t)
+  opening-says R fifteen =
+      by-row (λ _. OpensIn f) R (leb (f .h) (f .opening)) _ _ (λ t. fifteen (leb-true _ _ t)) (λ t. leb-false _ _ t)
 
   pub opening-passes : OpensIn f → openingFault place f ≡ answered tt
   unfolding openingFault
@@ -69,11 +71,11 @@ pub record Sound (f : Frame) (e : Entry) : Type 0 where
 
 module _ (f : Frame) (at : ℕ) (e : Entry) where
   -- what rows 16, 6 and 7 say: of a refusal, whatever holds of each
-  pub fault-says : (R : Code → Type 0) → R (code 16 (at ∷ [])) → R (code 6 (at ∷ [])) → R (code 7 (at ∷ []))
+  pub fault-says : (R : Code → Type 0) → (e .r < f .opening → R (code 16 (at ∷ []))) → R (code 6 (at ∷ [])) → R (code 7 (at ∷ []))
       → Says (λ _. Sound f e) R (entryFault f at e)
   unfolding entryFault
   fault-says R sixteen six seven =
-      by-row (λ _. Sound f e) R (ltb (e .r) (f .opening)) _ _ (λ t. sixteen)
+      by-row (λ _. Sound f e) R (ltb (e .r) (f .opening)) _ _ (λ t. sixteen (ltb-true _ _ t))
       (λ o. by-row (λ _. Sound f e) R (eqb (e .p) 0) _ _ (λ t. six)
       (λ p. by-row (λ _. Sound f e) R (ltb (f .h) (e .d) || ltb (e .d) (e .r + e .p)) _ _ (λ t. seven)
       (λ w.
@@ -115,16 +117,21 @@ Low R = (k at : ℕ) → k ≤ 7 → R (code k (at ∷ []))
 abbrev pub High : (Code → Type 0) → Type 0
 High R = (k at : ℕ) → 15 ≤ k → R (code k (at ∷ []))
 
+-- a fact of row 16 for those of the entries that come before the opening minute, the first at place i
+abbrev Early : (Code → Type 0) → Frame → ℕ → List Entry → Type 0
+Early R f i es = (j : ℕ) → j < length es → getD es j blank .r < f .opening → R (code 16 ((i + j) ∷ []))
+
 module _ (f : Frame) where
-  -- what follows from sound entries, an answer of their check says; a refusal says whatever holds of rows 16, 6 and 7 at every place
-  checked-say : (R : Code → Type 0) → Low R → High R
-      → (Q : Type 0) (i : ℕ) (es : List Entry) → (Every (Sound f) es → Q) → Says (λ _. Q) R (entriesFault f i es)
+  -- what follows from sound entries, an answer of their check says; a refusal says whatever holds of rows 16, 6 and 7
+  checked-say : (R : Code → Type 0) → Low R
+      → (Q : Type 0) (i : ℕ) (es : List Entry) → Early R f i es → (Every (Sound f) es → Q) → Says (λ _. Q) R (entriesFault f i es)
   unfolding entriesFault
-  checked-say R low high Q i [] q = q tt
-  checked-say R low high Q i (e ∷ es) q =
+  checked-say R low Q i [] early q = q tt
+  checked-say R low Q i (e ∷ es) early q =
       by-step (λ _. Sound f e) R (λ _. Q) (entryFault f i e) _
-      (fault-says f i e R (high 16 i (omega arith)) (low 6 i (omega arith)) (low 7 i (omega arith)))
-      (λ _ s. checked-say R low high Q (i + 1) es (λ more. q (s, more)))
+      (fault-says f i e R (λ r. rw (add-zero i) at (early 0 (omega arith) r)) (low 6 i (omega arith)) (low 7 i (omega arith)))
+      (λ _ s. checked-say R low Q (i + 1) es
+      (λ j h r. let z : i + suc j ≡ i + 1 + j = omega arith in rw z at (early (suc j) (omega arith) r)) (λ more. q (s, more)))
 
   checked-passes : (i : ℕ) (es : List Entry) → Every (Sound f) es → entriesFault f i es ≡ answered tt
   unfolding entriesFault
@@ -138,16 +145,27 @@ pub record SoundList (l : DayList) : Type 0 where
   pub entries : Every (Sound (l .frame)) (entriesOf l)
 
 module _ (l : DayList) where
+  abbrev es : List Entry
+  es = entriesOf l
+
+  -- facts of rows 15 and 16 that hold if these are given
+  abbrev pub OfLate : (Code → Type 0) → Type 0
+  OfLate R = l .frame .h ≤ l .frame .opening → R (code 15 (0 ∷ []))
+
+  abbrev pub OfEarly : (Code → Type 0) → Type 0
+  OfEarly R = (i : ℕ) → i < length es → getD es i blank .r < l .frame .opening → R (code 16 (i ∷ []))
+
   -- what rows 2, 3, 15, 16, 6 and 7 say: of a refusal, whatever holds of each
-  values-say : (R : Code → Type 0) → Low R → High R → Says (λ _. SoundList l) R (valuesFault l)
+  values-say : (R : Code → Type 0) → Low R → OfLate R → OfEarly R → Says (λ _. SoundList l) R (valuesFault l)
   unfolding valuesFault
-  values-say R low high =
+  values-say R low late early =
       let f = l .frame in
       let S : Unit {0} → Type 0 = λ _. SoundList l in
       by-step (λ _. Header (f .h) (l .n)) R S (headerFault 0 (f .h) (l .n)) _
       (header-says 0 (f .h) (l .n) R (low 2 0 (omega arith)) (low 3 0 (omega arith)))
-      (λ _ h. by-step (λ _. OpensIn f) R S (openingFault 0 f) _ (opening-says 0 f R (high 15 0 (omega arith)))
-      (λ _ o. checked-say f R low high (SoundList l) 0 (entriesOf l) (λ s. record { header = h; opening = o; entries = s })))
+      (λ _ h. by-step (λ _. OpensIn f) R S (openingFault 0 f) _ (opening-says 0 f R late)
+      (λ _ o. checked-say f R low (SoundList l) 0 es (λ j h r. simp zero-add (early j h r))
+      (λ s. record { header = h; opening = o; entries = s })))
 
   pub sound-values : SoundList l → valuesFault l ≡ answered tt
   unfolding valuesFault
@@ -155,31 +173,33 @@ module _ (l : DayList) where
       rw (header-passes 0 (l .frame .h) (l .n) (s .header), opening-passes 0 (l .frame) (s .opening))
       (checked-passes (l .frame) 0 (entriesOf l) (s .entries))
 
-  abbrev es : List Entry
-  es = entriesOf l
-
   -- what the value check says: of a refusal, whatever holds of those rows and of 14
-  module _ (R : Code → Type 0) (low : Low R) (high : High R)
+  module _ (R : Code → Type 0) (low : Low R) (late : OfLate R) (early : OfEarly R)
       (fourteen : valuesFault l ≡ answered tt → FirstClash es (firstClash es) → R (code 14 (firstClash es ∷ [])))
     where
       passes-say : Says (λ _. SoundList l × Apart es) R (checkOf l)
       unfolding checkOf
       passes-say =
-          by-step (λ _. SoundList l) R (λ _. SoundList l × Apart es) (valuesFault l) _ (values-say R low high)
+          by-step (λ _. SoundList l) R (λ _. SoundList l × Apart es) (valuesFault l) _ (values-say R low late early)
           (λ _ s. by-row (λ _. SoundList l × Apart es) R (ltb (firstClash es) (length es)) _ _
           (λ t. fourteen (sound-values s) (first-clash es (ltb-true _ _ t)))
           (λ t. (s, apart es (ltb-false _ _ t))))
 
-      pub check-says : Says (λ _. WellFormed l) R (checkOf l)
-      check-says = go (checkOf l) refl passes-say
+      pub check-tells : Says (λ _. WellFormed l) R (checkOf l)
+      check-tells = go (checkOf l) refl passes-say
         where
           go : (o : Outcome (Unit {0})) → checkOf l ≡ o → Says (λ _. SoundList l × Apart es) R o → Says (λ _. WellFormed l) R o
           go (answered t) e p = e
           go (refused k) e p = p
 
+  pub check-says : (R : Code → Type 0) → Low R → High R
+      → (valuesFault l ≡ answered tt → FirstClash es (firstClash es) → R (code 14 (firstClash es ∷ [])))
+      → Says (λ _. WellFormed l) R (checkOf l)
+  check-says R low high = check-tells R low (λ _. high 15 0 (omega arith)) (λ i _ _. high 16 i (omega arith))
+
   -- a list is well-formed exactly if its header and its entries are sound and no two entries clash
   passed : WellFormed l → SoundList l × Apart es
-  passed w = rw w at (passes-say Anything (λ _ _ _. tt) (λ _ _ _. tt) (λ _ _. tt))
+  passed w = rw w at (passes-say Anything (λ _ _ _. tt) (λ _. tt) (λ _ _ _. tt) (λ _ _. tt))
 
   pub sound-list : WellFormed l → SoundList l
   sound-list w = passed w .0

@@ -4,7 +4,10 @@ use crate::types::ENTRIES;
 use crate::types::Entry;
 use crate::types::Frame;
 use crate::types::Kind;
+use crate::types::ReadAnswer;
+use crate::types::Refusal;
 use crate::types::Seal;
+use crate::types::Verdict;
 ghost use mathlib.Core.Path.{_≡_};
 ghost use Rattle.list.specs.DayLists.{emptyList};
 
@@ -24,5 +27,15 @@ pub fn empty_list() -> DayList
         frame: Frame { h: 0, opening: 0 },
         n: 0,
         entries: [blank; ENTRIES],
+    }
+}
+
+// A refusal, with the empty list beside it.
+pub fn read_refused(x: Refusal) -> ReadAnswer
+    ensures { λ a. ⌜ a ≡ record { verdict = Verdict.Refused x; list = emptyList } ⌝ }
+{
+    ReadAnswer {
+        verdict: Verdict::Refused(x),
+        list: empty_list(),
     }
 }

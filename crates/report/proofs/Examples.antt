@@ -33,6 +33,6 @@ report-examples =
       no-place = record { report = refl; prints = refl };
       clash = record { report = refl; prints = refl };
       opening = record { report = refl; prints = refl };
-      opens-late = record { report = refl; prints = refl };
+      opens-past-day = record { report = refl; prints = refl };
       before-opening = record { report = refl; prints = refl };
     }

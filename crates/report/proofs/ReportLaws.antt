@@ -184,7 +184,7 @@ prints-refusal k says = record { line = refl; says = says }
 
 -- no row of reading is 9, which carries more than a place
 not-nine : (n : ℕ) → ReadingRow n → n ≡ 9 → ⊥
-not-nine n (inl h) z = omega arith
+not-nine n (inl (_, h)) z = omega arith
 not-nine n (inr (inl h)) z = omega arith
 not-nine n (inr (inr h)) z = omega arith
 

@@ -64,5 +64,5 @@ pub record ReportExamples : Type 0 where
   pub no-place : Example noPlaceBytes (refused (code 10 (0 ∷ []))) (ascii "refused 10 entry 0\n")
   pub clash : Example clashBytes (refused (code 14 (10 ∷ []))) (ascii "refused 14 at 10\n")
   pub opening : Example openingBytes (answered openingLines) openingLines
-  pub opens-late : Example (opensAt 10 0) (refused (code 15 (3 ∷ []))) (ascii "refused 15 at 3\n")
+  pub opens-past-day : Example (opensAt 10 0) (refused (code 15 (3 ∷ []))) (ascii "refused 15 at 3\n")
   pub before-opening : Example (opensAt 7 1 ++ releasedAt 2) (refused (code 16 (5 ∷ []))) (ascii "refused 16 at 5\n")

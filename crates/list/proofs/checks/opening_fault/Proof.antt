@@ -2,7 +2,7 @@
 -- Assumes nothing.
 use mathlib.Core.Path.{sym}
 use Rattle.list.proofs.Sound.{opening-passes}
-use Rattle.list.proofs.CheckCases.{opens-late}
+use Rattle.list.proofs.CheckCases.{opens-past-day}
 use Rattle.list.proofs.checks.opening_fault.Statement.{statement}
 use Rattle.list.proofs.checks.opening_fault.Tie as tie
 
@@ -14,7 +14,7 @@ returns c =
 returns-2 : tie.Need-returns-2
 returns-2 c =
     let args = c .before .before .args in
-    opens-late (args .place) (args .frame) (c .if1 .left)
+    opens-past-day (args .place) (args .frame) (c .if1 .left)
 
 pub opening-fault-spec : {M : Type 1} → statement M
 opening-fault-spec = tie.close (tie.spec returns returns-2)

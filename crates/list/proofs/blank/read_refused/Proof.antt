@@ -1,8 +1,8 @@
--- `reader::read_refused` meets its contract.
+-- `blank::read_refused` meets its contract.
 -- Assumes nothing.
 use borrow.Author.Needs.{needs}
-use Rattle.format.proofs.reader.read_refused.Statement.{statement}
-use Rattle.format.proofs.reader.read_refused.Tie as tie
+use Rattle.list.proofs.blank.read_refused.Statement.{statement}
+use Rattle.list.proofs.blank.read_refused.Tie as tie
 
 empty-list-requires : tie.Need-empty-list-requires
 empty-list-requires c κs = search needs
