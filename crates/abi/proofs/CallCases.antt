@@ -6,7 +6,8 @@ use Prim.Native.Nat.{ℕ}
 use borrow.Author.Tests.{eq-eqb}
 use lib.ListN.{length}
 use Rattle.base.specs.Outcomes.{Outcome, answered, refused, andThen}
-use Rattle.base.proofs.Inversion.{Says, Anything, by-step}
+use Rattle.base.proofs.Inversion.{answered-same, answered-refused, Says, Anything, by-step}
+use Rattle.list.specs.DayLists.{emptyList}
 use Rattle.list.specs.Refusals.{codeOf, verdictOf, outcomeOf, readAnswerOf, writeAnswerOf}
 use Rattle.list.proofs.Verdicts.{by-accepted, by-refused}
 use Rattle.format.specs.Calls.{Reads, Writes}
@@ -25,10 +26,10 @@ use Rattle.planner.specs.declared.types.PlanAnswer.{PlanAnswer}
 use Rattle.planner.specs.declared.types.ShownAnswer.{ShownAnswer}
 use Rattle.report.specs.Calls.{StoresText}
 use Rattle.codes.specs.Codes.{three}
-use Rattle.flat.specs.Flat.{flatNumbers, valueOf, rowFault, rowOf, ReadsRow, rowAfter}
-use Rattle.flat.proofs.RowCases.{fault-says, row-long, row-says}
-use Rattle.abi.specs.Calls.{answerWith, rowBeside, ReadCall, WriteCall, OverloadCall, ScheduleCall, NarrowCall, SettleCall, PlanCall}
-use Rattle.abi.specs.Calls.{ShowCall, TextCall}
+use Rattle.flat.specs.Flat.{flatNumbers, flatOf, valueOf, flatFault, listIn, ReadsFlat, StoresFlat}
+use Rattle.flat.proofs.LengthCases.{length-says, length-right, list-says}
+use Rattle.abi.specs.Calls.{answerWith, flatBeside, ReadCall, WriteCall, OverloadCall, ScheduleCall, NarrowCall, SettleCall, PlanCall}
+use Rattle.abi.specs.Calls.{TakenCall, ShowCall, TextCall}
 use Rattle.abi.specs.declared.Answer.{Answer}
 
 -- an answer made of a refusal
@@ -47,35 +48,41 @@ module _ {o : Outcome DayList} (a : ReadAnswer) (w : readAnswerOf a ≡ o) where
   turned-back : (x : Refusal) → a .verdict ≡ Refused x → o ≡ refused (codeOf x)
   turned-back x v = sym w ∙ ap (λ (t : Verdict). outcomeOf t (a .list)) v
 
+-- a refusal leaves the row as it was
+taken-refused : (x : Refusal) (old : List ℕ) (b : Answer) → RefusedAs x b → TakenCall (refused (codeOf x)) old b old
+taken-refused x old b q = record { answer = q; buffer = refl; back = λ l e. absurd (answered-refused e refl) }
+
+narrow-refused : (x : Refusal) (second : ℕ) (old : List ℕ) (b : Answer) → RefusedAs x b → NarrowCall (refused (codeOf x)) second old b old
+narrow-refused x second old b q = record { answer = q; buffer = refl; back = λ y e. absurd (answered-refused e refl) }
+
 -- reading, after the test of the lent row
-module _ (bs old : List ℕ) (u : Verdict) (row : verdictOf u ≡ rowFault (length old)) where
-  pub read-no-row : (x : Refusal) (b : Answer) → u ≡ Refused x → VerdictAs u b → ReadCall bs old b old
-  read-no-row x b v q = let z = by-refused row v in record { answer = rw z (rw v at q); buffer = rw z }
+module _ (bs old : List ℕ) (u : Verdict) (row : verdictOf u ≡ flatFault (length old)) where
+  pub read-bad-length : (x : Refusal) (b : Answer) → u ≡ Refused x → VerdictAs u b → ReadCall bs old b old
+  read-bad-length x b v q = rw (by-refused row v) (taken-refused x old b (rw v at q))
 
   module _ (passed : u ≡ Accepted) (a : ReadAnswer) (w : Reads bs a) (b : Answer) (q : VerdictAs (a .verdict) b) where
     pub read-refused : (x : Refusal) → a .verdict ≡ Refused x → ReadCall bs old b old
-    read-refused x v =
-        let z = by-accepted row passed in
-        let o = turned-back a (w .outcome) x v in
-        record { answer = rw (z, o) (rw v at q); buffer = rw (z, o) }
+    read-refused x v = rw (by-accepted row passed, turned-back a (w .outcome) x v) (taken-refused x old b (rw v at q))
 
-    pub read-accepted : (fields : List ℕ) → a .verdict ≡ Accepted → fields ≡ rowAfter (a .list) old → ReadCall bs old b fields
+    pub read-accepted : (fields : List ℕ) → a .verdict ≡ Accepted → StoresFlat (a .list) old fields → ReadCall bs old b fields
     read-accepted fields v put =
         let z = by-accepted row passed in
         let o = taken a (w .outcome) v in
-        let long = eq-eqb _ _ (row-long (length old) z) in
-        record { answer = rw (z, o) (rw v at q); buffer = rw (z, o) (rw long at put) }
+        let long = length-right (length old) z in
+        let stored : fields ≡ flatOf (a .list) = rw (eq-eqb _ _ long) at (put .numbers) in
+        rw (z, o) (record { answer = rw v at q; buffer = stored; back = λ l e. put .back long ∙ e })
 
 -- a row's list, where a row is lent beside it
-module _ (xs : List ℕ) (lent : ℕ) (a : ReadAnswer) (w : ReadsRow xs a) where
-  pub beside-no-row : (x : Refusal) → a .verdict ≡ Refused x → readAnswerOf a ≡ rowBeside xs lent
-  beside-no-row x v = let o = turned-back a (w .outcome) x v in w .outcome ∙ rw o
+module _ (xs : List ℕ) (lent : ℕ) (a : ReadAnswer) (w : ReadsFlat xs a) where
+  pub beside-bad-length : (x : Refusal) → a .verdict ≡ Refused x → readAnswerOf a ≡ flatBeside xs lent
+  beside-bad-length x v = let o = turned-back a (w .outcome) x v in w .outcome ∙ rw o
 
-  module _ (v : a .verdict ≡ Accepted) (u : Verdict) (row : verdictOf u ≡ rowFault lent) where
-    pub beside-refused : (x : Refusal) (l : DayList) → u ≡ Refused x → readAnswerOf (record { verdict = u; list = l }) ≡ rowBeside xs lent
-    beside-refused x l e = rw (taken a (w .outcome) v, by-refused row e, e)
+  module _ (v : a .verdict ≡ Accepted) (u : Verdict) (row : verdictOf u ≡ flatFault lent) where
+    pub beside-refused : (x : Refusal) → u ≡ Refused x → (b : ReadAnswer) → b ≡ record { verdict = Refused x; list = emptyList }
+        → readAnswerOf b ≡ flatBeside xs lent
+    beside-refused x e b q = rw (taken a (w .outcome) v, by-refused row e, q)
 
-    pub beside-read : u ≡ Accepted → readAnswerOf a ≡ rowBeside xs lent
+    pub beside-read : u ≡ Accepted → readAnswerOf a ≡ flatBeside xs lent
     beside-read e = rw (taken a (w .outcome) v, by-accepted row e, v)
 
 -- rows that passed: the list value that was given
@@ -83,10 +90,10 @@ pub record Given (xs : List ℕ) (o : Outcome DayList) (l : DayList) : Type 0 wh
   pub passed : o ≡ answered (valueOf xs)
   pub value : l ≡ valueOf xs
 
-pub row-given : (xs : List ℕ) (a : ReadAnswer) → ReadsRow xs a → a .verdict ≡ Accepted → Given xs (rowOf xs) (a .list)
-row-given xs a w v =
+pub list-given : (xs : List ℕ) (a : ReadAnswer) → ReadsFlat xs a → a .verdict ≡ Accepted → Given xs (listIn xs) (a .list)
+list-given xs a w v =
     let o = taken a (w .outcome) v in
-    let is : a .list ≡ valueOf xs = rw o at (row-says xs) in
+    let is : a .list ≡ valueOf xs = rw o at (list-says xs) in
     record { passed = o ∙ ap answered is; value = is }
 
 -- likewise where a row is lent beside the one given, and its length
@@ -94,21 +101,21 @@ module _ (xs fields : List ℕ) where
   abbrev Passed : DayList → Type 0
   Passed l = (l ≡ valueOf xs) × (length fields ≡ flatNumbers)
 
-  lent-says : (l : DayList) → l ≡ valueOf xs → Says Passed Anything (andThen (rowFault (length fields)) (λ _. answered l))
+  lent-says : (l : DayList) → l ≡ valueOf xs → Says Passed Anything (andThen (flatFault (length fields)) (λ _. answered l))
   lent-says l e =
-      by-step (λ _. length fields ≡ flatNumbers) Anything Passed (rowFault (length fields)) (λ _. answered l) (fault-says (length fields))
+      by-step (λ _. length fields ≡ flatNumbers) Anything Passed (flatFault (length fields)) (λ _. answered l) (length-says (length fields))
       (λ _ long. (e, long))
 
-  beside-says : Says Passed Anything (rowBeside xs (length fields))
+  beside-says : Says Passed Anything (flatBeside xs (length fields))
   beside-says =
-      by-step (λ l. l ≡ valueOf xs) Anything Passed (rowOf xs) (λ l. andThen (rowFault (length fields)) (λ _. answered l)) (row-says xs)
+      by-step (λ l. l ≡ valueOf xs) Anything Passed (listIn xs) (λ l. andThen (flatFault (length fields)) (λ _. answered l)) (list-says xs)
       lent-says
 
-  module _ (a : ReadAnswer) (w : readAnswerOf a ≡ rowBeside xs (length fields)) (v : a .verdict ≡ Accepted) where
+  module _ (a : ReadAnswer) (w : readAnswerOf a ≡ flatBeside xs (length fields)) (v : a .verdict ≡ Accepted) where
     passed-both : Passed (a .list)
     passed-both = rw (taken a w v) at beside-says
 
-    pub beside-given : Given xs (rowBeside xs (length fields)) (a .list)
+    pub beside-given : Given xs (flatBeside xs (length fields)) (a .list)
     beside-given = let is = passed-both .0 in record { passed = taken a w v ∙ ap answered is; value = is }
 
     pub beside-long : length fields ≡ flatNumbers
@@ -119,30 +126,30 @@ module _ (xs : List ℕ) (a : ReadAnswer) (x : Refusal) (v : a .verdict ≡ Refu
   told : RefusedAs x b
   told = rw v at q
 
-  module _ (w : ReadsRow xs a) where
-    pub write-no-row : (old : List ℕ) → WriteCall xs old b old
-    write-no-row old = rw (turned-back a (w .outcome) x v) (record { answer = told; buffer = refl })
+  module _ (w : ReadsFlat xs a) where
+    pub write-bad-length : (old : List ℕ) → WriteCall xs old b old
+    write-bad-length old = rw (turned-back a (w .outcome) x v) (record { answer = told; buffer = refl })
 
-    pub overload-no-row : OverloadCall xs b
-    overload-no-row = rw (turned-back a (w .outcome) x v) told
+    pub overload-bad-length : OverloadCall xs b
+    overload-bad-length = rw (turned-back a (w .outcome) x v) told
 
-    pub schedule-no-row : (old : List ℕ) → ScheduleCall xs old b old
-    schedule-no-row old = rw (turned-back a (w .outcome) x v) (record { answer = told; buffer = refl })
+    pub schedule-bad-length : (old : List ℕ) → ScheduleCall xs old b old
+    schedule-bad-length old = rw (turned-back a (w .outcome) x v) (record { answer = told; buffer = refl })
 
-  module _ (fields : List ℕ) (w : readAnswerOf a ≡ rowBeside xs (length fields)) where
-    pub settle-no-row : SettleCall xs fields b fields
-    settle-no-row = rw (turned-back a w x v) (record { answer = told; buffer = refl })
+  module _ (fields : List ℕ) (w : readAnswerOf a ≡ flatBeside xs (length fields)) where
+    pub settle-bad-length : SettleCall xs fields b fields
+    settle-bad-length = rw (turned-back a w x v) (narrow-refused x 0 fields b told)
 
-    pub plan-no-row : (plan bounds : List ℕ) → PlanCall xs plan fields bounds b plan fields bounds
-    plan-no-row plan bounds =
-        rw (turned-back a w x v) (record { narrowed = record { answer = told; buffer = refl }; plan = refl; bounds = refl })
+    pub plan-bad-length : (plan bounds : List ℕ) → PlanCall xs plan fields bounds b plan fields bounds
+    plan-bad-length plan bounds =
+        rw (turned-back a w x v) (record { narrowed = narrow-refused x _ fields b told; plan = refl; bounds = refl })
 
-    pub show-no-row : (y : Shown) (k : ℕ) (plan : List ℕ) → ShowCall y xs k plan fields b plan fields
-    show-no-row y k plan = rw (turned-back a w x v) (record { narrowed = record { answer = told; buffer = refl }; plan = refl })
+    pub show-bad-length : (y : Shown) (k : ℕ) (plan : List ℕ) → ShowCall y xs k plan fields b plan fields
+    show-bad-length y k plan = rw (turned-back a w x v) (record { narrowed = narrow-refused x _ fields b told; plan = refl })
 
 -- what a writer answered, as numbers
 module _ (a : WriteAnswer) (b : Answer) (q : b ≡ answerWith (λ n. n ∷ []) (writeAnswerOf a)) (old new : List ℕ) where
-  pub write-said : (xs : List ℕ) (l : DayList) → Given xs (rowOf xs) l → Writes l old a new → WriteCall xs old b new
+  pub write-said : (xs : List ℕ) (l : DayList) → Given xs (listIn xs) l → Writes l old a new → WriteCall xs old b new
   write-said xs l g w =
       let of-value = subst (λ (k : DayList). Writes k old a new) (g .value) w in
       rw (g .passed) (record { answer = q ∙ ap (answerWith (λ n. n ∷ [])) (of-value .outcome); buffer = of-value .buffer })
@@ -150,7 +157,7 @@ module _ (a : WriteAnswer) (b : Answer) (q : b ≡ answerWith (λ n. n ∷ []) (
   pub text-call-said : (o : Outcome (List ℕ)) → StoresText o old a new → TextCall o old b new
   text-call-said o w = record { answer = q ∙ ap (answerWith (λ n. n ∷ [])) (w .outcome); buffer = w .buffer }
 
-module _ (xs : List ℕ) (l : DayList) (g : Given xs (rowOf xs) l) (v : Verdict) (b : Answer) (q : VerdictAs v b) where
+module _ (xs : List ℕ) (l : DayList) (g : Given xs (listIn xs) l) (v : Verdict) (b : Answer) (q : VerdictAs v b) where
   pub overload-said : Tests l v → OverloadCall xs b
   overload-said w = rw (g .passed, ← (g .value)) (q ∙ ap (answerWith (λ _. [])) (w .outcome))
 
@@ -161,13 +168,20 @@ module _ (xs : List ℕ) (l : DayList) (g : Given xs (rowOf xs) l) (v : Verdict)
 
 -- what narrowing answered, in numbers
 module _ (old : List ℕ) (a : NarrowAnswer) (second : ℕ) where
-  pub narrowed-given : (fields : List ℕ) → length old ≡ flatNumbers → a .verdict ≡ Accepted → fields ≡ rowAfter (a .list) old
+  pub narrowed-given : (fields : List ℕ) → length old ≡ flatNumbers → a .verdict ≡ Accepted → StoresFlat (a .list) old fields
       → NarrowCall (narrowAnswerOf a) second old (record { number = 0; values = a .moves ∷ second ∷ 0 ∷ [] }) fields
-  narrowed-given fields long v q = rw v (record { answer = refl; buffer = rw (eq-eqb _ _ long) at q })
+  narrowed-given fields long v put =
+      let stored : fields ≡ flatOf (a .list) = rw (eq-eqb _ _ long) at (put .numbers) in
+      rw v
+      (record {
+        answer = refl;
+        buffer = stored;
+        back = λ y e. put .back long ∙ ap (λ (z : DayList × ℕ). answered (z .0)) (answered-same refl e);
+      })
 
   pub narrowed-refused : (x : Refusal) (b : Answer) → a .verdict ≡ Refused x → RefusedAs x b
       → NarrowCall (narrowAnswerOf a) second old b old
-  narrowed-refused x b v q = rw v (record { answer = q; buffer = refl })
+  narrowed-refused x b v q = rw v (narrow-refused x second old b q)
 
 -- the bounds that planning answered
 pub bounds-given : (a : PlanAnswer) (old new : List ℕ) → a .narrowed .verdict ≡ Accepted → new ≡ a .ends ++ a .starts
@@ -175,7 +189,7 @@ pub bounds-given : (a : PlanAnswer) (old new : List ℕ) → a .narrowed .verdic
 bounds-given a old new v q = rw v q
 
 -- narrowing, planning and showing a plan of the list value that was given
-module _ (xs oldFields newFields : List ℕ) (l : DayList) (g : Given xs (rowBeside xs (length oldFields)) l) (b : Answer) where
+module _ (xs oldFields newFields : List ℕ) (l : DayList) (g : Given xs (flatBeside xs (length oldFields)) l) (b : Answer) where
   pub settle-said : (a : NarrowAnswer) → NarrowCall (narrowAnswerOf a) 0 oldFields b newFields → Settles l a
       → SettleCall xs oldFields b newFields
   settle-said a given w =

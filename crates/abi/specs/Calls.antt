@@ -20,7 +20,7 @@ use Rattle.bounds.specs.declared.types.Shown.the-variants.{Early, Late}
 use Rattle.report.specs.Reports.{refusalLine, reportOf}
 use Rattle.report.specs.Calls.{storeOf, textAfter}
 use Rattle.codes.specs.Codes.{three}
-use Rattle.flat.specs.Flat.{flatOf, valueOf, rowFault, rowOf}
+use Rattle.flat.specs.Flat.{flatOf, valueOf, flatFault, listIn}
 use Rattle.abi.specs.declared.Answer.{Answer}
 
 -- 0 with the values given, or a refusal's number with the values that it carries
@@ -29,22 +29,23 @@ answerWith f (answered a) = record { number = 0; values = three (f a) }
 answerWith f (refused k) = record { number = k .number; values = three (k .carries) }
 
 -- the list value that the row xs says, where a row of the length given is lent beside it: row 100 for xs, then for the lent one
-abbrev pub rowBeside : List ℕ → ℕ → Outcome DayList
-rowBeside xs lent = andThen (rowOf xs) (λ l. andThen (rowFault lent) (λ _. answered l))
+abbrev pub flatBeside : List ℕ → ℕ → Outcome DayList
+flatBeside xs lent = andThen (listIn xs) (λ l. andThen (flatFault lent) (λ _. answered l))
 
 -- a lent row after reading: the list read, or what was there
 abbrev pub fieldsAfter : Outcome DayList → List ℕ → List ℕ
 fieldsAfter (answered l) old = flatOf l
 fieldsAfter (refused k) old = old
 
--- an answer where reading has the outcome o, and what it leaves in a row that held old
+-- an answer where reading has the outcome o, and what it leaves in a row that held old: a row that says the list read
 pub record TakenCall (o : Outcome DayList) (old : List ℕ) (a : Answer) (fields : List ℕ) : Type 0 where
   pub answer : a ≡ answerWith (λ _. []) o
   pub buffer : fields ≡ fieldsAfter o old
+  pub back : (l : DayList) → o ≡ answered l → listIn fields ≡ answered l
 
 -- what `dock_read` answers of the bytes bs, and leaves in a row that held old
 abbrev pub ReadCall : List ℕ → List ℕ → Answer → List ℕ → Type 0
-ReadCall bs old = TakenCall (andThen (rowFault (length old)) (λ _. readOf bs)) old
+ReadCall bs old = TakenCall (andThen (flatFault (length old)) (λ _. readOf bs)) old
 
 -- an answer where writing the list l has the outcome o, and what it leaves in a buffer that held old
 pub record WrittenCall (l : DayList) (o : Outcome ℕ) (old : List ℕ) (a : Answer) (out : List ℕ) : Type 0 where
@@ -53,11 +54,11 @@ pub record WrittenCall (l : DayList) (o : Outcome ℕ) (old : List ℕ) (a : Ans
 
 -- what `dock_write` answers of the row xs, and leaves in a buffer that held old
 abbrev pub WriteCall : List ℕ → List ℕ → Answer → List ℕ → Type 0
-WriteCall xs old = WrittenCall (valueOf xs) (andThen (rowOf xs) (λ l. writeOf l (length old))) old
+WriteCall xs old = WrittenCall (valueOf xs) (andThen (listIn xs) (λ l. writeOf l (length old))) old
 
 -- what `dock_overload` answers of the row xs
 abbrev pub OverloadCall : List ℕ → Answer → Type 0
-OverloadCall xs a = a ≡ answerWith (λ _. []) (andThen (rowOf xs) testOf)
+OverloadCall xs a = a ≡ answerWith (λ _. []) (andThen (listIn xs) testOf)
 
 -- an answer where filling a plan buffer that held old with the schedule of the list l has the outcome o, and what it leaves there
 pub record FilledCall (l : DayList) (o : Outcome (Unit {0})) (old : List ℕ) (a : Answer) (plan : List ℕ) : Type 0 where
@@ -66,21 +67,23 @@ pub record FilledCall (l : DayList) (o : Outcome (Unit {0})) (old : List ℕ) (a
 
 -- what `dock_schedule` answers of the row xs, and leaves in a plan buffer that held old
 abbrev pub ScheduleCall : List ℕ → List ℕ → Answer → List ℕ → Type 0
-ScheduleCall xs old = FilledCall (valueOf xs) (andThen (rowOf xs) (λ l. fillOf l (length old))) old
+ScheduleCall xs old = FilledCall (valueOf xs) (andThen (listIn xs) (λ l. fillOf l (length old))) old
 
 -- a lent row after narrowing: the list answered, or what was there
 abbrev pub narrowedAfter : Outcome (DayList × ℕ) → List ℕ → List ℕ
 narrowedAfter (answered x) old = flatOf (x .0)
 narrowedAfter (refused k) old = old
 
--- an answer where narrowing has the outcome o, with the moves first and then this number, and what it leaves in a row that held old
+-- an answer where narrowing has the outcome o, with the moves first and then this number, and what it leaves in a row that held old: a row
+-- that says the list answered
 pub record NarrowCall (o : Outcome (DayList × ℕ)) (second : ℕ) (old : List ℕ) (a : Answer) (fields : List ℕ) : Type 0 where
   pub answer : a ≡ answerWith (λ x. x .1 ∷ second ∷ []) o
   pub buffer : fields ≡ narrowedAfter o old
+  pub back : (x : DayList × ℕ) → o ≡ answered x → listIn fields ≡ answered (x .0)
 
 -- what `dock_settle` answers of the row xs, and leaves in a row that held old: the moves alone
 abbrev pub SettleCall : List ℕ → List ℕ → Answer → List ℕ → Type 0
-SettleCall xs old = NarrowCall (listed (valueOf xs) (andThen (rowBeside xs (length old)) settleOf)) 0 old
+SettleCall xs old = NarrowCall (listed (valueOf xs) (andThen (flatBeside xs (length old)) settleOf)) 0 old
 
 -- an answer where planning the list l has the outcome o, with the moves and the number of broken entries, and what it leaves in a plan
 -- buffer, a row and bounds that held the old ones: the bounds are the least ends, then the greatest starts
@@ -93,7 +96,7 @@ pub record PlannedCall (l : DayList) (o : Outcome Narrowed) (oldPlan oldFields o
 -- what `dock_plan` answers of the row xs, and leaves in what is lent
 abbrev pub PlanCall : List ℕ → List ℕ → List ℕ → List ℕ → Answer → List ℕ → List ℕ → List ℕ → Type 0
 PlanCall xs oldPlan oldFields =
-    PlannedCall (valueOf xs) (andThen (rowBeside xs (length oldFields)) (λ l. planOf l (length oldPlan))) oldPlan oldFields
+    PlannedCall (valueOf xs) (andThen (flatBeside xs (length oldFields)) (λ l. planOf l (length oldPlan))) oldPlan oldFields
 
 -- an answer where showing the plan x of place k of the list l has the outcome o, with the moves and the place's bound in the settled
 -- windows, and what it leaves in a plan buffer and a row that held the old ones
@@ -105,7 +108,7 @@ pub record ShownCall (x : Shown) (l : DayList) (k : ℕ) (o : Outcome Narrowed) 
 -- what `dock_early` and `dock_late` answer of the row xs and a place k, and leave in what is lent
 abbrev pub ShowCall : Shown → List ℕ → ℕ → List ℕ → List ℕ → Answer → List ℕ → List ℕ → Type 0
 ShowCall x xs k oldPlan oldFields =
-    ShownCall x (valueOf xs) k (andThen (rowBeside xs (length oldFields)) (λ l. shownOf l k (length oldPlan))) oldPlan oldFields
+    ShownCall x (valueOf xs) k (andThen (flatBeside xs (length oldFields)) (λ l. shownOf l k (length oldPlan))) oldPlan oldFields
 
 abbrev pub EarlyCall : List ℕ → ℕ → List ℕ → List ℕ → Answer → List ℕ → List ℕ → Type 0
 EarlyCall = ShowCall Early

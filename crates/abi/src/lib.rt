@@ -6,10 +6,10 @@
 // what is lent overlap. Uses all crates but dock.
 use codes::RefusalCode;
 use flat::BOUNDS;
+use flat::flat_fault;
 use flat::joined;
 use flat::list_in;
-use flat::put_row;
-use flat::row_fault;
+use flat::put_flat;
 use list::read_refused;
 use list::types::ReadAnswer;
 use list::types::Refusal;
@@ -29,7 +29,7 @@ ghost use Rattle.planner.specs.Calls.{settledOr};
 ghost use Rattle.codes.specs.Codes.{three};
 ghost use Rattle.flat.specs.Flat.{flatNumbers};
 ghost use Rattle.abi.specs.Calls.{answerWith, ReadCall, WriteCall, OverloadCall, ScheduleCall, NarrowCall, SettleCall, PlanCall};
-ghost use Rattle.abi.specs.Calls.{EarlyCall, LateCall, ReportCall, LineCall, rowBeside};
+ghost use Rattle.abi.specs.Calls.{EarlyCall, LateCall, ReportCall, LineCall, flatBeside};
 
 // What a call answers: 0 or a refusal's number, and three values, 0 where there are fewer.
 #[repr(C)]
@@ -76,14 +76,14 @@ fn count_as(answer: WriteAnswer) -> Answer
 
 // The list value that `fields` says, where a row of the length `lent` is lent beside it; row 100 for either.
 fn list_beside(fields: &[u32], lent: usize) -> ReadAnswer
-    ensures { λ a. ⌜ readAnswerOf a ≡ rowBeside (now (fields .entry)) lent ⌝ }
+    ensures { λ a. ⌜ readAnswerOf a ≡ flatBeside (now (fields .entry)) lent ⌝ }
 {
     let given = list_in(fields);
     let verdict = given.verdict;
     let Verdict::Accepted = verdict else {
         return given;
     };
-    let fault = row_fault(lent);
+    let fault = flat_fault(lent);
     match fault {
         Verdict::Accepted => given,
         Verdict::Refused(x) => read_refused(x),
@@ -95,7 +95,7 @@ fn list_beside(fields: &[u32], lent: usize) -> ReadAnswer
 pub extern "C" fn dock_read(bytes: &[u8], fields: &mut [u32]) -> Answer
     ensures { λ a. ⌜ ReadCall (now (bytes .entry)) (now (fields .entry)) a (now (fields .exit)) ⌝ }
 {
-    let fault = row_fault(fields.len());
+    let fault = flat_fault(fields.len());
     let Verdict::Accepted = fault else {
         return verdict_as(fault);
     };
@@ -104,7 +104,7 @@ pub extern "C" fn dock_read(bytes: &[u8], fields: &mut [u32]) -> Answer
     let Verdict::Accepted = read else {
         return verdict_as(read);
     };
-    put_row(answer.list, fields);
+    put_flat(answer.list, fields);
     verdict_as(read)
 }
 
@@ -157,7 +157,7 @@ fn give_narrowed(answer: NarrowAnswer, second: u64, narrowed: &mut [u32]) -> Ans
     let verdict = answer.verdict;
     match verdict {
         Verdict::Accepted => {
-            put_row(answer.list, narrowed);
+            put_flat(answer.list, narrowed);
             Answer {
                 number: 0,
                 values: [answer.moves as u64, second, 0],

@@ -55,6 +55,6 @@ pub fn numbers_of(x: Refusal) -> RefusalCode
         Refusal::SerialClash(at) => with_one(14, at),
         Refusal::BadOpening(at) => with_one(15, at),
         Refusal::BeforeOpening(at) => with_one(16, at),
-        Refusal::BadRow(numbers) => with_one(100, numbers),
+        Refusal::BadFlatLength(numbers) => with_one(100, numbers),
     }
 }

@@ -67,7 +67,7 @@ pub record NumbersPut (l : DayList) (fields : List ℕ) (i : ℕ) : Type 0 where
   pub long : length fields ≡ 451
   pub rest : sets fields (3 + 7 * i) (flatEntries (drop i (l .entries))) ≡ flatOf l
 
-flat-length : (es : List Entry) → length (flatEntries es) ≡ 7 * length es
+pub flat-length : (es : List Entry) → length (flatEntries es) ≡ 7 * length es
 unfolding flatEntries
 flat-length [] = refl
 flat-length (e ∷ es) = omega (arith, flat-length es)

@@ -1,4 +1,7 @@
--- What the code's proofs cite, case by case; `RowCases` also for the crate above.
+-- Theory: a list value's numbers say it again, and examples of their layout.
+mod FlatTrip
+pub mod Examples
+-- What the code's proofs cite, case by case; `LengthCases` also for the crate above.
 mod FlatCases
 mod PlacesCases
-pub mod RowCases
+pub mod LengthCases

@@ -81,18 +81,23 @@ valueOf xs =
     }
 
 -- row 100: a row of another length is no list value; it carries the right length
-abbrev pub rowFault : ℕ → Outcome (Unit {0})
-rowFault numbers = firstOf (row 100 (not (eqb numbers flatNumbers)) flatNumbers ∷ []) (answered tt)
+abbrev pub flatFault : ℕ → Outcome (Unit {0})
+flatFault numbers = firstOf (row 100 (not (eqb numbers flatNumbers)) flatNumbers ∷ []) (answered tt)
 
 -- the list value that a row says
-abbrev pub rowOf : List ℕ → Outcome DayList
-rowOf xs = andThen (rowFault (length xs)) (λ _. answered (valueOf xs))
+abbrev pub listIn : List ℕ → Outcome DayList
+listIn xs = andThen (flatFault (length xs)) (λ _. answered (valueOf xs))
 
 -- what `list_in` answers of a row
-pub record ReadsRow (xs : List ℕ) (a : ReadAnswer) : Type 0 where
-  pub outcome : readAnswerOf a ≡ rowOf xs
-  pub beside : a .list ≡ listOr (rowOf xs)
+pub record ReadsFlat (xs : List ℕ) (a : ReadAnswer) : Type 0 where
+  pub outcome : readAnswerOf a ≡ listIn xs
+  pub beside : a .list ≡ listOr (listIn xs)
 
 -- what a row that held old holds after a list value was stored in it; one of another length keeps its numbers
-abbrev pub rowAfter : DayList → List ℕ → List ℕ
-rowAfter l old = cond (eqb (length old) flatNumbers) (flatOf l) old
+abbrev pub flatAfter : DayList → List ℕ → List ℕ
+flatAfter l old = cond (eqb (length old) flatNumbers) (flatOf l) old
+
+-- what `put_flat` leaves in a row that held old; the numbers stored say the list value again
+pub record StoresFlat (l : DayList) (old new : List ℕ) : Type 0 where
+  pub numbers : new ≡ flatAfter l old
+  pub back : length old ≡ flatNumbers → listIn new ≡ answered l

@@ -1,15 +1,15 @@
 // A list value as a row of numbers, and numbers by place, as they cross to other languages.
-// Promises: `list_in` is the list value that a row says, whatever its numbers are, or 100 for a row of another length, which `row_fault`
-// tests alone; `put_row` stores the numbers that say a list value, and nothing in a row of another length; `joined` is least ends and
+// Promises: `list_in` is the list value that a row says, whatever its numbers are, or 100 for a row of another length, which `flat_fault`
+// tests alone; `put_flat` stores the numbers that say a list value, and nothing in a row of another length; `joined` is least ends and
 // greatest starts one after the other. Each is total: its contract states the answer by equality with definitions of specs/. Uses the
 // types and the empty list of the crate list, three definitions of format, and laws of stores of base.
 mod places;
 mod value;
 
 pub use places::joined;
+pub use value::flat_fault;
 pub use value::list_in;
-pub use value::put_row;
-pub use value::row_fault;
+pub use value::put_flat;
 
 // The numbers of a list value: H, n, the opening minute, and seven for each place.
 pub const NUMBERS: usize = 451;

@@ -21,7 +21,7 @@ ghost use Rattle.format.specs.Maps.{kindOf};
 ghost use Rattle.format.specs.EntryFields.{sealOf};
 ghost use Rattle.list.specs.Refusals.{verdictOf};
 ghost use Rattle.flat.specs.Flat.{present, numberOf, wholeOf, flatEntry, flatOf, entryIn, valueOf, flatNumbers};
-ghost use Rattle.flat.specs.Flat.{rowFault, ReadsRow, rowAfter};
+ghost use Rattle.flat.specs.Flat.{flatFault, ReadsFlat, StoresFlat};
 
 // The largest u16 for a number that is too large, and likewise below.
 fn u16_of(x: u32) -> u16
@@ -92,21 +92,21 @@ fn value_in(fields: &[u32]) -> DayList
 }
 
 // Row 100 for a row of this length.
-pub fn row_fault(numbers: usize) -> Verdict
-    ensures { λ v. ⌜ verdictOf v ≡ rowFault numbers ⌝ }
+pub fn flat_fault(numbers: usize) -> Verdict
+    ensures { λ v. ⌜ verdictOf v ≡ flatFault numbers ⌝ }
 {
     if numbers == NUMBERS {
         Verdict::Accepted
     } else {
-        Verdict::Refused(Refusal::BadRow(NUMBERS))
+        Verdict::Refused(Refusal::BadFlatLength(NUMBERS))
     }
 }
 
 // The list value that a row says, or row 100.
 pub fn list_in(fields: &[u32]) -> ReadAnswer
-    ensures { λ a. ⌜ ReadsRow (now (fields .entry)) a ⌝ }
+    ensures { λ a. ⌜ ReadsFlat (now (fields .entry)) a ⌝ }
 {
-    let fault = row_fault(fields.len());
+    let fault = flat_fault(fields.len());
     match fault {
         Verdict::Accepted => ReadAnswer {
             verdict: Verdict::Accepted,
@@ -176,8 +176,8 @@ fn put_numbers(list: DayList, fields: &mut [u32])
 }
 
 // The same for a row of any length; one of another length than 451 keeps its numbers.
-pub fn put_row(list: DayList, fields: &mut [u32])
-    ensures { λ _. ⌜ now (fields .exit) ≡ rowAfter list (now (fields .entry)) ⌝ }
+pub fn put_flat(list: DayList, fields: &mut [u32])
+    ensures { λ _. ⌜ StoresFlat list (now (fields .entry)) (now (fields .exit)) ⌝ }
 {
     if fields.len() == NUMBERS {
         put_numbers(list, fields);

@@ -2,6 +2,8 @@
 pub mod Room
 pub mod Puts
 pub mod MirrorWindows
+-- The windows of a list, entry by entry, and the mirrored list.
+pub mod EntryWindows
 pub mod MirrorLists
 -- Facts about plans alone: the mirror, other windows, room, starts and ends; and what a buffer holds in which a plan was stored.
 pub mod PlanFacts

@@ -8,17 +8,18 @@ use borrow.Author.Tests.{lt-ltb, le-ltb}
 use lib.ListN.{length, getD, length-map, length-take, List·getD-eq-default}
 use lib.Seq.{take-append-seam}
 use Rattle.base.proofs.Sums.{le-or-lt}
-use Rattle.list.specs.DayLists.{entriesOf, blank}
+use Rattle.list.specs.DayLists.{entriesOf, blank, wholeIn}
 use Rattle.list.specs.Clashes.{InWindow}
 use Rattle.list.specs.Checks.{WellFormed}
 use Rattle.list.specs.declared.types.Entry.{Entry}
 use Rattle.list.specs.declared.types.Frame.{Frame}
 use Rattle.list.specs.declared.types.DayList.{DayList}
 use Rattle.list.proofs.ClashFacts.{clash-carried}
-use Rattle.list.proofs.Sound.{Sound, every-at-places, sound-list, sound-at, list-apart, well-formed}
+use Rattle.list.proofs.Sound.{Sound, Every, every-at-places, sound-list, sound-at, list-apart, well-formed}
 use Rattle.jackson.specs.Windows.{windowsOf}
 use Rattle.jackson.specs.Mirrors.{mirror, mirrorEntry, mirrorList}
 use Rattle.jackson.specs.Laws.{MirrorLaw}
+use Rattle.jackson.proofs.EntryWindows.{WindowAt, windows-at}
 
 -- the mirror of an entry is sound, in a room that is open all day
 mirror-sound : (f g : Frame) (e : Entry) → g .h ≡ f .h → g .opening ≡ 0 → Sound f e → Sound g (mirrorEntry (f .h) e)
@@ -29,6 +30,24 @@ mirror-sound f g e same always s =
       in-day = omega (arith, same);
       room = omega (arith, s .room, s .in-day);
     }
+
+-- mirrored twice, sound entries are as they were
+mirrored-twice : (f : Frame) (es : List Entry) → Every (Sound f) es → map (mirrorEntry (f .h)) (map (mirrorEntry (f .h)) es) ≡ es
+mirrored-twice f [] sound = refl
+mirrored-twice f (e ∷ es) (s, more) = λ j. record {
+  serial = e .serial;
+  seal = e .seal;
+  r = r j;
+  d = d j;
+  p = e .p;
+  kind = e .kind;
+} ∷ mirrored-twice f es more j
+  where
+    r : f .h - (f .h - e .r) ≡ e .r
+    r = omega (arith, s .room, s .in-day)
+
+    d : f .h - (f .h - e .d) ≡ e .d
+    d = omega (arith, s .in-day)
 
 mapped-at : (f : Entry → Entry) (es : List Entry) (i : ℕ) → i < length es → getD (map f es) i blank ≡ f (getD es i blank)
 mapped-at f [] i h = absurd (omega arith)
@@ -57,32 +76,20 @@ module _ (l : DayList) where
       List·getD-eq-default (entriesOf (mirrorList l)) blank (omega (arith, count-is)) ∙ sym (List·getD-eq-default es blank over)
 
   windows-are : windowsOf (mirrorList l) ≡ mirror (windowsOf l)
-  windows-are =
-      λ j. record {
-        h = h;
-        n = count-is j;
-        r = fun-ext {f = windowsOf (mirrorList l) .r} {g = mirror (windowsOf l) .r} each-r j;
-        d = fun-ext {f = windowsOf (mirrorList l) .d} {g = mirror (windowsOf l) .d} each-d j;
-        p = fun-ext {f = windowsOf (mirrorList l) .p} {g = windowsOf l .p} each-p j;
-      }
+  windows-are = windows-at (mirrorList l) (mirror (windowsOf l)) refl count-is each
     where
-      each-r : (i : ℕ) → windowsOf (mirrorList l) .r i ≡ mirror (windowsOf l) .r i
-      each-r i =
+      each : (i : ℕ) → WindowAt (getD (entriesOf (mirrorList l)) i blank) (mirror (windowsOf l)) i
+      each i =
           le-or-lt (length es) i
-          (λ over. rw (le-ltb i (length es) over) (ap (λ (e : Entry). e .r) (past i over)))
-          (λ place. rw (lt-ltb i (length es) place) (ap (λ (e : Entry). e .r) (entry-is i place)))
+          (λ over. let z = le-ltb i (length es) over in let q = past i over in record { r = rw (q, z); d = rw (q, z); p = rw q })
+          (λ place. let z = lt-ltb i (length es) place in let q = entry-is i place in record { r = rw (q, z); d = rw (q, z); p = rw q })
 
-      each-d : (i : ℕ) → windowsOf (mirrorList l) .d i ≡ mirror (windowsOf l) .d i
-      each-d i =
-          le-or-lt (length es) i
-          (λ over. rw (le-ltb i (length es) over) (ap (λ (e : Entry). e .d) (past i over)))
-          (λ place. rw (lt-ltb i (length es) place) (ap (λ (e : Entry). e .d) (entry-is i place)))
-
-      each-p : (i : ℕ) → windowsOf (mirrorList l) .p i ≡ windowsOf l .p i
-      each-p i =
-          le-or-lt (length es) i
-          (λ over. ap (λ (e : Entry). e .p) (past i over))
-          (λ place. ap (λ (e : Entry). e .p) (entry-is i place))
+  -- the same entries are whole
+  kinds-are : wholeIn (mirrorList l) ≡ wholeIn l
+  kinds-are = fun-ext each
+    where
+      each : (i : ℕ) → wholeIn (mirrorList l) i ≡ wholeIn l i
+      each i = le-or-lt (length es) i (λ over. rw (past i over)) (λ place. rw (entry-is i place))
 
   mirror-formed : WellFormed l → WellFormed (mirrorList l)
   mirror-formed formed =
@@ -116,6 +123,13 @@ module _ (l : DayList) where
           let z : InWindow (mirrorEntry h (getD es i blank)) t = rw (entry-is i place) at w in
           (omega (arith, z .0, z .1, s .in-day, s .room), omega (arith, z .0, z .1, s .in-day, s .room))
 
+  twice-are : WellFormed l → entriesOf (mirrorList (mirrorList l)) ≡ es
+  twice-are formed =
+      take-append-seam (map (mirrorEntry h) (entriesOf (mirrorList l))) _
+      ∙ ap (map (mirrorEntry h)) entries-are
+      ∙ mirrored-twice (l .frame) es (sound-list l formed .entries)
+
 -- the law holds of every list
 pub mirror-law : (l : DayList) → MirrorLaw l
-mirror-law l = record { opening = refl; windows = windows-are l; formed = mirror-formed l }
+mirror-law l =
+    record { opening = refl; windows = windows-are l; kinds = kinds-are l; formed = mirror-formed l; twice = twice-are l }

@@ -8,7 +8,7 @@ use mir.Val.{Val}
 use denote.Array.{each}
 use denote.Shadow.{shadow}
 use Rattle.list.specs.DayLists.{blank}
-use Rattle.list.specs.Machine.{SealFits}
+use Rattle.list.specs.Machine.{SealFits, MinutesFit}
 use Rattle.list.specs.declared.types.Seal.{Seal}
 use Rattle.list.specs.declared.types.Seal.the-variants.{Missing, Number}
 use Rattle.list.specs.declared.types.Entry.{Entry}
@@ -34,3 +34,10 @@ each-seal [] us s i = tt
 each-seal (e ∷ es) [] s i = absurd s
 each-seal (e ∷ es) (u ∷ us) s zero = seal-fits (e .seal) _ (s .0 .1 .1 .1 .0)
 each-seal (e ∷ es) (u ∷ us) s (suc i) = each-seal es us (s .1) i
+
+pub each-minutes : (es : List Entry) (us : List Val) → Owned es us → (i : ℕ) → MinutesFit (getD es i blank)
+each-minutes [] us s i = record { r = omega arith; d = omega arith; p = omega arith }
+each-minutes (e ∷ es) [] s i = absurd s
+each-minutes (e ∷ es) (u ∷ us) s zero =
+    record { r = s .0 .1 .1 .1 .1 .0 .1; d = s .0 .1 .1 .1 .1 .1 .0 .1; p = s .0 .1 .1 .1 .1 .1 .1 .0 .1 }
+each-minutes (e ∷ es) (u ∷ us) s (suc i) = each-minutes es us (s .1) i

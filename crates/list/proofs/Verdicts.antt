@@ -10,7 +10,7 @@ use Rattle.list.specs.declared.types.Refusal.{Refusal}
 use Rattle.list.specs.declared.types.Refusal.the-variants.{BytesMissing, BadDayLength, TooManyEntries, BadMapByte, DefaultWritten}
 use Rattle.list.specs.declared.types.Refusal.the-variants.{NoMinutes, BadWindow, BytesLeftOver, Overloaded, NoPlace, PlanBufferShort}
 use Rattle.list.specs.declared.types.Refusal.the-variants.{ListBufferShort, UnknownPlace, SerialClash, BadOpening}
-use Rattle.list.specs.declared.types.Refusal.the-variants.{BeforeOpening, BadRow}
+use Rattle.list.specs.declared.types.Refusal.the-variants.{BeforeOpening, BadFlatLength}
 use Rattle.list.specs.declared.types.Verdict.{Verdict}
 use Rattle.list.specs.declared.types.Verdict.the-variants.{Accepted, Refused}
 use Rattle.list.specs.declared.types.WriteAnswer.{WriteAnswer}
@@ -44,7 +44,7 @@ refusalOf k =
     (cond (eqb n 13) (UnknownPlace x)
     (cond (eqb n 14) (SerialClash x)
     (cond (eqb n 15) (BadOpening x)
-    (cond (eqb n 16) (BeforeOpening x) (BadRow x))))))))))))))))
+    (cond (eqb n 16) (BeforeOpening x) (BadFlatLength x))))))))))))))))
 
 refusal-is : (x : Refusal) → refusalOf (codeOf x) ≡ x
 refusal-is (BytesMissing x) = refl
@@ -63,7 +63,7 @@ refusal-is (UnknownPlace x) = refl
 refusal-is (SerialClash x) = refl
 refusal-is (BadOpening x) = refl
 refusal-is (BeforeOpening x) = refl
-refusal-is (BadRow x) = refl
+refusal-is (BadFlatLength x) = refl
 
 -- so no two refusals have the same number and values
 one-refusal : (j k : Refusal) → codeOf j ≡ codeOf k → j ≡ k

@@ -78,7 +78,7 @@ pub enum Refusal {
     BeforeOpening(usize),
     // 100, which no document has: lists cross to other languages as rows of numbers, and this row has too few or too many; as many as a row
     // has.
-    BadRow(usize),
+    BadFlatLength(usize),
 }
 
 // What a test of a list answers.

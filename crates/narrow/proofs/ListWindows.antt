@@ -1,6 +1,6 @@
 -- The list with other windows: its windows, its kinds, and that it passes the value check.
 -- Assumes nothing.
-use mathlib.Core.Path.{_≡_, sym, ap, _∙_, fun-ext}
+use mathlib.Core.Path.{_≡_, refl, sym, ap, _∙_, fun-ext}
 use Prim.Native.Nat.{ℕ, _<_, _≤_}
 use native.Mathlib.Omega.{arith}
 use lib.ListN.{length, getD, length-take, List·getD-eq-default}
@@ -12,10 +12,15 @@ use Rattle.list.specs.declared.types.DayList.{DayList}
 use Rattle.list.proofs.ClashFacts.{clash-carried}
 use Rattle.list.proofs.Sound.{Sound, every-at-places, sound-list, sound-at, list-apart, well-formed}
 use Rattle.jackson.specs.Windows.{Windows, windowsOf}
+use Rattle.jackson.proofs.EntryWindows.{WindowAt, windows-at}
 use Rattle.base.proofs.Sums.{le-or-lt}
 use Rattle.narrow.specs.Calls.{listWith}
 use Rattle.narrow.proofs.StepsKeep.{Keeps, keeps-h, keeps-n, keeps-p}
 use Rattle.narrow.proofs.Alike.{with-length, listed-entry, listed-count}
+
+pub listed-frame : (l : DayList) (w : Windows) → listWith l w .frame ≡ l .frame
+unfolding listWith
+listed-frame l w = refl
 
 -- The windows of the list that is answered.
 module _ (l : DayList) (w : Windows) (keeps : Keeps (windowsOf l) w) where
@@ -27,33 +32,18 @@ module _ (l : DayList) (w : Windows) (keeps : Keeps (windowsOf l) w) where
 
   pub listed-windows : windowsOf (listWith l w) ≡ w
   unfolding listWith
-  listed-windows =
-      λ j.
-      record {
-        h = sym (keeps-h keeps) j;
-        n = (listed-count l w ∙ sym (keeps-n keeps)) j;
-        r = fun-ext {f = windowsOf (listWith l w) .r} {g = w .r} each-r j;
-        d = fun-ext {f = windowsOf (listWith l w) .d} {g = w .d} each-d j;
-        p = fun-ext {f = windowsOf (listWith l w) .p} {g = w .p} each-p j;
-      }
+  listed-windows = windows-at (listWith l w) w (sym (keeps-h keeps)) (listed-count l w ∙ sym (keeps-n keeps)) each
     where
-      each-r : (i : ℕ) → windowsOf (listWith l w) .r i ≡ w .r i
-      each-r i =
-          le-or-lt (windowsOf l .n) i
-          (λ h. ap (λ (e : Entry). e .r) (past-places i h .0 ∙ sym (past-places i h .1)) ∙ sym (keeps .past i h .0))
-          (λ h. ap (λ (e : Entry). e .r) (listed-entry l w i h))
+      at : (e e′ : Entry) → e ≡ e′ → (i : ℕ) → e′ .r ≡ w .r i → e′ .d ≡ w .d i → e′ .p ≡ w .p i → WindowAt e w i
+      at e e′ q i r d p =
+          record { r = ap (λ (x : Entry). x .r) q ∙ r; d = ap (λ (x : Entry). x .d) q ∙ d; p = ap (λ (x : Entry). x .p) q ∙ p }
 
-      each-d : (i : ℕ) → windowsOf (listWith l w) .d i ≡ w .d i
-      each-d i =
+      each : (i : ℕ) → WindowAt (getD (entriesOf (listWith l w)) i blank) w i
+      each i =
           le-or-lt (windowsOf l .n) i
-          (λ h. ap (λ (e : Entry). e .d) (past-places i h .0 ∙ sym (past-places i h .1)) ∙ sym (keeps .past i h .1))
-          (λ h. ap (λ (e : Entry). e .d) (listed-entry l w i h))
-
-      each-p : (i : ℕ) → windowsOf (listWith l w) .p i ≡ w .p i
-      each-p i =
-          le-or-lt (windowsOf l .n) i
-          (λ h. ap (λ (e : Entry). e .p) (past-places i h .0 ∙ sym (past-places i h .1)) ∙ sym (keeps-p keeps i))
-          (λ h. ap (λ (e : Entry). e .p) (listed-entry l w i h) ∙ sym (keeps-p keeps i))
+          (λ h. at _ (getD (entriesOf l) i blank) (past-places i h .0 ∙ sym (past-places i h .1)) i
+          (sym (keeps .past i h .0)) (sym (keeps .past i h .1)) (sym (keeps-p keeps i)))
+          (λ h. at _ _ (listed-entry l w i h) i refl refl (sym (keeps-p keeps i)))
 
   -- the same entries are whole
   pub listed-whole : wholeIn (listWith l w) ≡ wholeIn l

@@ -89,9 +89,10 @@ pub record AnswersAs (l : DayList) (o : Outcome Narrowed) (a : NarrowAnswer) : T
   pub outcome : narrowAnswerOf a ≡ listed l o
   pub beside : (a .list, a .moves) ≡ standing (listed l o)
 
--- beside that: the list answered has the windows of the outcome and the kinds of l, and passes the value check itself
+-- beside that: the list answered has the windows of the outcome, H, the opening minute and the kinds of l, and passes the value check itself
 pub record HoldsAnswer (l : DayList) (o : Outcome Narrowed) (a : NarrowAnswer) : Type 0 where
   pub narrowed : narrowedIn a ≡ o
+  pub frame : a .verdict ≡ Accepted → a .list .frame ≡ l .frame
   pub kinds : a .verdict ≡ Accepted → wholeIn (a .list) ≡ wholeIn l
   pub formed : a .verdict ≡ Accepted → WellFormed (a .list)
 

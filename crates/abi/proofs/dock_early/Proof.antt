@@ -2,7 +2,7 @@
 -- Assumes nothing.
 use borrow.Author.Needs.{needs}
 use Rattle.bounds.specs.declared.types.Shown.the-variants.{Early}
-use Rattle.abi.proofs.CallCases.{show-no-row, beside-given, beside-long, shown-said}
+use Rattle.abi.proofs.CallCases.{show-bad-length, beside-given, beside-long, shown-said}
 use Rattle.abi.proofs.dock_early.Statement.{statement}
 use Rattle.abi.proofs.dock_early.Tie as tie
 
@@ -22,7 +22,7 @@ returns : tie.Need-returns
 returns c =
     let args = c .before .before .before .before .before .before .before .args in
     let beside = c .before .before .before .list-beside in
-    show-no-row (args .fields .now) (beside .result) _ (c .before .enum-told2 .given .1) _ (c .verdict-as .ensures)
+    show-bad-length (args .fields .now) (beside .result) _ (c .before .enum-told2 .given .1) _ (c .verdict-as .ensures)
     (args .narrowed .now) (beside .ensures) Early (args .place) (args .plan .now)
 
 show-early-requires : tie.Need-show-early-requires

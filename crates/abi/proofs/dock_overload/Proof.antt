@@ -1,7 +1,7 @@
 -- What the overload test answered, as numbers.
 -- Assumes nothing.
 use borrow.Author.Needs.{needs}
-use Rattle.abi.proofs.CallCases.{overload-no-row, row-given, overload-said}
+use Rattle.abi.proofs.CallCases.{overload-bad-length, list-given, overload-said}
 use Rattle.abi.proofs.dock_overload.Statement.{statement}
 use Rattle.abi.proofs.dock_overload.Tie as tie
 
@@ -21,7 +21,7 @@ returns : tie.Need-returns
 returns c =
     let args = c .before .before .before .before .before .args in
     let list-in = c .before .before .before .list-in in
-    overload-no-row (args .fields .now) (list-in .result) _ (c .before .enum-told2 .given .1) _ (c .verdict-as .ensures) (list-in .ensures)
+    overload-bad-length (args .fields .now) (list-in .result) _ (c .before .enum-told2 .given .1) _ (c .verdict-as .ensures) (list-in .ensures)
 
 overload-requires : tie.Need-overload-requires
 overload-requires c κs = search needs
@@ -34,7 +34,7 @@ returns-2 c =
     let passed = c .before .before in
     let list-in = passed .before .before .list-in in
     let args = passed .before .before .before .before .args in
-    let given = row-given (args .fields .now) (list-in .result) (list-in .ensures) (passed .enum-told .given .1) in
+    let given = list-given (args .fields .now) (list-in .result) (list-in .ensures) (passed .enum-told .given .1) in
     overload-said (args .fields .now) _ given (c .before .overload .result) _ (c .verdict-as2 .ensures) (c .before .overload .ensures)
 
 pub dock-overload-spec : {M : Type 1} → statement M

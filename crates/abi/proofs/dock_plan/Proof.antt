@@ -1,7 +1,7 @@
 -- What planning answered, as numbers: the bounds, then the narrowed list, the moves and the broken entries.
 -- Assumes nothing.
 use borrow.Author.Needs.{needs}
-use Rattle.abi.proofs.CallCases.{plan-no-row, beside-given, beside-long, plan-said}
+use Rattle.abi.proofs.CallCases.{plan-bad-length, beside-given, beside-long, plan-said}
 use Rattle.abi.proofs.dock_plan.Statement.{statement}
 use Rattle.abi.proofs.dock_plan.Tie as tie
 
@@ -21,7 +21,7 @@ returns : tie.Need-returns
 returns c =
     let args = c .before .before .before .before .before .before .before .args in
     let beside = c .before .before .before .list-beside in
-    plan-no-row (args .fields .now) (beside .result) _ (c .before .enum-told2 .given .1) _ (c .verdict-as .ensures)
+    plan-bad-length (args .fields .now) (beside .result) _ (c .before .enum-told2 .given .1) _ (c .verdict-as .ensures)
     (args .narrowed .now) (beside .ensures) (args .plan .now) (args .bounds .now)
 
 plan-day-requires : tie.Need-plan-day-requires

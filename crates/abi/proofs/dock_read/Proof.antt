@@ -1,12 +1,12 @@
 -- The lent row's length, then the list read as numbers, or a refusal.
 -- Assumes nothing.
 use borrow.Author.Needs.{needs}
-use Rattle.abi.proofs.CallCases.{read-no-row, read-refused, read-accepted}
+use Rattle.abi.proofs.CallCases.{read-bad-length, read-refused, read-accepted}
 use Rattle.abi.proofs.dock_read.Statement.{statement}
 use Rattle.abi.proofs.dock_read.Tie as tie
 
-row-fault-requires : tie.Need-row-fault-requires
-row-fault-requires c κs = search needs
+flat-fault-requires : tie.Need-flat-fault-requires
+flat-fault-requires c κs = search needs
 
 enum-told : tie.Need-enum-told
 enum-told c = search needs
@@ -20,8 +20,8 @@ verdict-as-requires c κs = search needs
 returns : tie.Need-returns
 returns c =
     let args = c .before .before .before .before .before .before .args in
-    let row-fault = c .before .before .before .row-fault in
-    read-no-row (args .bytes .now) (args .fields .now) (row-fault .result) (row-fault .ensures) _ _ (c .before .enum-told2 .given .1)
+    let flat-fault = c .before .before .before .flat-fault in
+    read-bad-length (args .bytes .now) (args .fields .now) (flat-fault .result) (flat-fault .ensures) _ _ (c .before .enum-told2 .given .1)
     (c .verdict-as .ensures)
 
 read-requires : tie.Need-read-requires
@@ -39,14 +39,14 @@ verdict-as-requires-2 c κs = search needs
 returns-2 : tie.Need-returns-2
 returns-2 c =
     let passed = c .before .before .before .before in
-    let row-fault = passed .before .before .row-fault in
+    let flat-fault = passed .before .before .flat-fault in
     let args = passed .before .before .before .before .before .args in
     let read = c .before .before .before .read in
-    read-refused (args .bytes .now) (args .fields .now) (row-fault .result) (row-fault .ensures) (passed .enum-told .given .1)
+    read-refused (args .bytes .now) (args .fields .now) (flat-fault .result) (flat-fault .ensures) (passed .enum-told .given .1)
     (read .result) (read .ensures) _ (c .verdict-as2 .ensures) _ (c .before .enum-told4 .given .1)
 
-put-row-requires : tie.Need-put-row-requires
-put-row-requires c κs = search needs
+put-flat-requires : tie.Need-put-flat-requires
+put-flat-requires c κs = search needs
 
 verdict-as-requires-3 : tie.Need-verdict-as-requires-3
 verdict-as-requires-3 c κs = search needs
@@ -59,17 +59,17 @@ returns-3 c =
     let accepted = c .before .before .before .before .before in
     let read = accepted .before .before .read in
     let passed = accepted .before .before .before in
-    let row-fault = passed .before .before .row-fault in
+    let flat-fault = passed .before .before .flat-fault in
     let args = passed .before .before .before .before .before .args in
-    let put-row = c .before .before .before .put-row in
-    read-accepted (args .bytes .now) (args .fields .now) (row-fault .result) (row-fault .ensures) (passed .enum-told .given .1)
-    (read .result) (read .ensures) _ (c .verdict-as3 .ensures) _ (accepted .enum-told3 .given .1) (put-row .ensures)
+    let put-flat = c .before .before .before .put-flat in
+    read-accepted (args .bytes .now) (args .fields .now) (flat-fault .result) (flat-fault .ensures) (passed .enum-told .given .1)
+    (read .result) (read .ensures) _ (c .verdict-as3 .ensures) _ (accepted .enum-told3 .given .1) (put-flat .ensures)
 
 pub dock-read-spec : {M : Type 1} → statement M
 dock-read-spec =
     tie.close
     (tie.spec
-    row-fault-requires
+    flat-fault-requires
     enum-told
     enum-told-2
     verdict-as-requires
@@ -79,7 +79,7 @@ dock-read-spec =
     enum-told-4
     verdict-as-requires-2
     returns-2
-    put-row-requires
+    put-flat-requires
     verdict-as-requires-3
     same-length
     returns-3)

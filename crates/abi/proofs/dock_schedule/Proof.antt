@@ -1,7 +1,7 @@
 -- What filling the plan buffer answered, as numbers.
 -- Assumes nothing.
 use borrow.Author.Needs.{needs}
-use Rattle.abi.proofs.CallCases.{schedule-no-row, row-given, schedule-said}
+use Rattle.abi.proofs.CallCases.{schedule-bad-length, list-given, schedule-said}
 use Rattle.abi.proofs.dock_schedule.Statement.{statement}
 use Rattle.abi.proofs.dock_schedule.Tie as tie
 
@@ -21,7 +21,7 @@ returns : tie.Need-returns
 returns c =
     let args = c .before .before .before .before .before .before .args in
     let list-in = c .before .before .before .list-in in
-    schedule-no-row (args .fields .now) (list-in .result) _ (c .before .enum-told2 .given .1) _ (c .verdict-as .ensures)
+    schedule-bad-length (args .fields .now) (list-in .result) _ (c .before .enum-told2 .given .1) _ (c .verdict-as .ensures)
     (list-in .ensures) (args .plan .now)
 
 schedule-requires : tie.Need-schedule-requires
@@ -38,7 +38,7 @@ returns-2 c =
     let passed = c .before .before .before .before .before in
     let list-in = passed .before .before .list-in in
     let args = passed .before .before .before .before .before .args in
-    let given = row-given (args .fields .now) (list-in .result) (list-in .ensures) (passed .enum-told .given .1) in
+    let given = list-given (args .fields .now) (list-in .result) (list-in .ensures) (passed .enum-told .given .1) in
     let schedule = c .before .before .before .schedule in
     schedule-said (args .fields .now) _ given (schedule .result) _ (c .verdict-as2 .ensures) (args .plan .now) _ (schedule .ensures)
 

@@ -1,7 +1,7 @@
 -- What narrowing answered, as numbers.
 -- Assumes nothing.
 use borrow.Author.Needs.{needs}
-use Rattle.abi.proofs.CallCases.{settle-no-row, beside-given, beside-long, settle-said}
+use Rattle.abi.proofs.CallCases.{settle-bad-length, beside-given, beside-long, settle-said}
 use Rattle.abi.proofs.dock_settle.Statement.{statement}
 use Rattle.abi.proofs.dock_settle.Tie as tie
 
@@ -21,7 +21,7 @@ returns : tie.Need-returns
 returns c =
     let args = c .before .before .before .before .before .before .args in
     let beside = c .before .before .before .list-beside in
-    settle-no-row (args .fields .now) (beside .result) _ (c .before .enum-told2 .given .1) _ (c .verdict-as .ensures)
+    settle-bad-length (args .fields .now) (beside .result) _ (c .before .enum-told2 .given .1) _ (c .verdict-as .ensures)
     (args .narrowed .now) (beside .ensures)
 
 settle-requires : tie.Need-settle-requires

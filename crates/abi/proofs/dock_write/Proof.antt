@@ -1,7 +1,7 @@
 -- What the writer answered, as numbers.
 -- Assumes nothing.
 use borrow.Author.Needs.{needs}
-use Rattle.abi.proofs.CallCases.{write-no-row, row-given, write-said}
+use Rattle.abi.proofs.CallCases.{write-bad-length, list-given, write-said}
 use Rattle.abi.proofs.dock_write.Statement.{statement}
 use Rattle.abi.proofs.dock_write.Tie as tie
 
@@ -21,7 +21,7 @@ returns : tie.Need-returns
 returns c =
     let args = c .before .before .before .before .before .before .args in
     let list-in = c .before .before .before .list-in in
-    write-no-row (args .fields .now) (list-in .result) _ (c .before .enum-told2 .given .1) _ (c .verdict-as .ensures)
+    write-bad-length (args .fields .now) (list-in .result) _ (c .before .enum-told2 .given .1) _ (c .verdict-as .ensures)
     (list-in .ensures) (args .out .now)
 
 write-requires : tie.Need-write-requires
@@ -38,7 +38,7 @@ returns-2 c =
     let passed = c .before .before .before .before .before in
     let list-in = passed .before .before .list-in in
     let args = passed .before .before .before .before .before .args in
-    let given = row-given (args .fields .now) (list-in .result) (list-in .ensures) (passed .enum-told .given .1) in
+    let given = list-given (args .fields .now) (list-in .result) (list-in .ensures) (passed .enum-told .given .1) in
     let write = c .before .before .before .write in
     write-said (write .result) _ (c .count-as .ensures) (args .out .now) _ (args .fields .now) _ given (write .ensures)
 

@@ -8,8 +8,8 @@ use Rattle.abi.proofs.give_narrowed.Tie as tie
 enum-told : tie.Need-enum-told
 enum-told c = search needs
 
-put-row-requires : tie.Need-put-row-requires
-put-row-requires c κs = search needs
+put-flat-requires : tie.Need-put-flat-requires
+put-flat-requires c κs = search needs
 
 cast-t10 : tie.Need-cast-t10
 cast-t10 c = search needs
@@ -28,8 +28,8 @@ returns c =
     let start = c .before .before .before .before .before .before .before .before in
     let args = start .args in
     let accepted = c .before .before .before .before .before .enum-told in
-    let put-row = c .before .before .before .put-row in
-    narrowed-given (args .narrowed .now) (args .answer) (args .second) _ (start .pre) (accepted .given .1) (put-row .ensures)
+    let put-flat = c .before .before .before .put-flat in
+    narrowed-given (args .narrowed .now) (args .answer) (args .second) _ (start .pre) (accepted .given .1) (put-flat .ensures)
 
 returns-2 : tie.Need-returns-2
 returns-2 c =
@@ -42,7 +42,7 @@ give-narrowed-spec =
     tie.close
     (tie.spec
     enum-told
-    put-row-requires
+    put-flat-requires
     cast-t10
     enum-known-verdict
     refused-as-requires

@@ -1,7 +1,7 @@
 -- The row given, then the length of the one lent.
 -- Assumes nothing.
 use borrow.Author.Needs.{needs}
-use Rattle.abi.proofs.CallCases.{beside-no-row, beside-refused, beside-read}
+use Rattle.abi.proofs.CallCases.{beside-bad-length, beside-refused, beside-read}
 use Rattle.abi.proofs.list_beside.Statement.{statement}
 use Rattle.abi.proofs.list_beside.Tie as tie
 
@@ -18,37 +18,37 @@ returns : tie.Need-returns
 returns c =
     let args = c .before .before .before .before .args in
     let list-in = c .before .before .list-in in
-    beside-no-row (args .fields .now) (args .lent) (list-in .result) (list-in .ensures) _ (c .enum-told2 .given .1)
+    beside-bad-length (args .fields .now) (args .lent) (list-in .result) (list-in .ensures) _ (c .enum-told2 .given .1)
 
-row-fault-requires : tie.Need-row-fault-requires
-row-fault-requires c κs = search needs
+flat-fault-requires : tie.Need-flat-fault-requires
+flat-fault-requires c κs = search needs
 
 enum-told-3 : tie.Need-enum-told-3
 enum-told-3 c = search needs
 
-enum-told-4 : tie.Need-enum-told-4
-enum-told-4 c = search needs
+enum-known-fault : tie.Need-enum-known-fault
+enum-known-fault c = search needs
 
-empty-list-requires : tie.Need-empty-list-requires
-empty-list-requires c κs = search needs
+read-refused-requires : tie.Need-read-refused-requires
+read-refused-requires c κs = search needs
 
 returns-2 : tie.Need-returns-2
 returns-2 c =
-    let passed = c .before .before .before .before in
-    let list-in = passed .before .before .list-in in
-    let args = passed .before .before .before .before .args in
-    let row-fault = c .before .before .before .row-fault in
-    beside-refused (args .fields .now) (args .lent) (list-in .result) (list-in .ensures) (passed .enum-told .given .1)
-    (row-fault .result) (row-fault .ensures) _ _ (c .before .enum-told4 .given .1)
-
-returns-3 : tie.Need-returns-3
-returns-3 c =
     let passed = c .before .before .before in
     let list-in = passed .before .before .list-in in
     let args = passed .before .before .before .before .args in
-    let row-fault = c .before .before .row-fault in
+    let flat-fault = c .before .before .flat-fault in
     beside-read (args .fields .now) (args .lent) (list-in .result) (list-in .ensures) (passed .enum-told .given .1)
-    (row-fault .result) (row-fault .ensures) (c .enum-told3 .given .1)
+    (flat-fault .result) (flat-fault .ensures) (c .enum-told3 .given .1)
+
+returns-3 : tie.Need-returns-3
+returns-3 c =
+    let passed = c .before .before .before .before .before in
+    let list-in = passed .before .before .list-in in
+    let args = passed .before .before .before .before .args in
+    let flat-fault = c .before .before .before .before .flat-fault in
+    beside-refused (args .fields .now) (args .lent) (list-in .result) (list-in .ensures) (passed .enum-told .given .1)
+    (flat-fault .result) (flat-fault .ensures) _ (c .before .before .fault .given .1) _ (c .read-refused .ensures)
 
 pub list-beside-spec : {M : Type 1} → statement M
 list-beside-spec =
@@ -58,9 +58,9 @@ list-beside-spec =
     enum-told
     enum-told-2
     returns
-    row-fault-requires
+    flat-fault-requires
     enum-told-3
-    enum-told-4
-    empty-list-requires
+    enum-known-fault
+    read-refused-requires
     returns-2
     returns-3)

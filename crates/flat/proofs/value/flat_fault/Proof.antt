@@ -1,8 +1,8 @@
 -- Row 100, by the length.
 -- Assumes nothing.
 use borrow.Author.Tests.{eq-eqb, ne-eqb}
-use Rattle.flat.proofs.value.row_fault.Statement.{statement}
-use Rattle.flat.proofs.value.row_fault.Tie as tie
+use Rattle.flat.proofs.value.flat_fault.Statement.{statement}
+use Rattle.flat.proofs.value.flat_fault.Tie as tie
 
 returns : tie.Need-returns
 returns c = simp (eq-eqb _ _ (c .if1 .taken))
@@ -10,5 +10,5 @@ returns c = simp (eq-eqb _ _ (c .if1 .taken))
 returns-2 : tie.Need-returns-2
 returns-2 c = simp (ne-eqb _ _ (c .if1 .left))
 
-pub row-fault-spec : {M : Type 1} → statement M
-row-fault-spec = tie.close (tie.spec returns returns-2)
+pub flat-fault-spec : {M : Type 1} → statement M
+flat-fault-spec = tie.close (tie.spec returns returns-2)

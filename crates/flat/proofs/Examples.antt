@@ -1,0 +1,9 @@
+-- The examples hold: the definitions compute.
+-- Assumes nothing.
+use mathlib.Core.Path.{refl}
+use Rattle.flat.specs.Flat.{flatEntries}
+use Rattle.flat.specs.Examples.{FlatExamples}
+
+pub flat-examples : FlatExamples
+unfolding flatEntries
+flat-examples = record { layout = refl; former-length = refl }

@@ -1,0 +1,56 @@
+-- Rows and their length.
+-- Assumes nothing.
+use mathlib.Core.Path.{_≡_, refl, ap, _∙_}
+use mathlib.Core.Bool.{not}
+use mathlib.Core.List.{List}
+use Prim.Native.Nat.{ℕ}
+use borrow.Author.Tests.{eqb-true, eq-eqb, ne-eqb, not-false}
+use lib.ListN.{length}
+use lib.Dec.{eqb}
+use Rattle.base.specs.Outcomes.{answered}
+use Rattle.base.proofs.Inversion.{Says, Anything, by-row, by-step}
+use Rattle.list.specs.DayLists.{emptyList}
+use Rattle.list.specs.Refusals.{verdictOf}
+use Rattle.list.specs.declared.types.DayList.{DayList}
+use Rattle.list.specs.declared.types.Refusal.{Refusal}
+use Rattle.list.specs.declared.types.Verdict.{Verdict}
+use Rattle.list.specs.declared.types.ReadAnswer.{ReadAnswer}
+use Rattle.list.specs.declared.types.Verdict.the-variants.{Accepted, Refused}
+use Rattle.list.proofs.Verdicts.{by-accepted, by-refused}
+use Rattle.list.specs.Machine.{NumbersFit}
+use Rattle.flat.specs.Flat.{flatNumbers, flatOf, valueOf, flatFault, listIn, ReadsFlat, StoresFlat}
+use Rattle.flat.proofs.FlatTrip.{stored-back}
+
+-- the one length that row 100 lets pass
+pub length-says : (n : ℕ) → Says (λ _. n ≡ flatNumbers) Anything (flatFault n)
+length-says n =
+    by-row (λ _. n ≡ flatNumbers) Anything (not (eqb n flatNumbers)) _ (answered tt) (λ t. tt) (λ t. eqb-true _ _ (not-false _ t))
+
+pub length-right : (n : ℕ) → flatFault n ≡ answered tt → n ≡ flatNumbers
+length-right n e = rw e at (length-says n)
+
+-- a row of that length says the list value of its numbers
+module _ (xs : List ℕ) where
+  abbrev Value : DayList → Type 0
+  Value l = l ≡ valueOf xs
+
+  pub list-says : Says Value Anything (listIn xs)
+  list-says =
+      by-step (λ _. length xs ≡ flatNumbers) Anything Value (flatFault (length xs)) (λ _. answered (valueOf xs)) (length-says (length xs))
+      (λ _ _. refl)
+
+-- what the test of a row's length leads to
+module _ (xs : List ℕ) (v : Verdict) (w : verdictOf v ≡ flatFault (length xs)) where
+  pub list-read : (l : DayList) → v ≡ Accepted → l ≡ valueOf xs → ReadsFlat xs (record { verdict = Accepted; list = l })
+  list-read l a q = let z = by-accepted w a in record { outcome = rw (z, q); beside = rw (z, q) }
+
+  pub list-refused : (x : Refusal) → v ≡ Refused x → (a : ReadAnswer) → a ≡ record { verdict = Refused x; list = emptyList } → ReadsFlat xs a
+  list-refused x e a q = let z = by-refused w e in record { outcome = rw (z, q); beside = rw (z, q) }
+
+-- a list value was stored, or nothing
+module _ (l : DayList) (old : List ℕ) where
+  pub flat-put : NumbersFit l → (new : List ℕ) → length old ≡ flatNumbers → new ≡ flatOf l → StoresFlat l old new
+  flat-put fits new h q = record { numbers = rw (eq-eqb _ _ h, q); back = λ _. ap listIn q ∙ stored-back l fits }
+
+  pub flat-kept : (length old ≡ flatNumbers → ⊥) → StoresFlat l old old
+  flat-kept h = record { numbers = rw (ne-eqb _ _ h); back = λ long. absurd (h long) }

@@ -1,0 +1,20 @@
+-- The layout of a row, number by number, and the length of the layout before lists had an opening minute; `flat-examples` of
+-- proofs/Examples.antt proves it.
+use mathlib.Core.Path.{_≡_}
+use mathlib.Core.List.{[], _∷_}
+use lib.ListN.{take}
+use Rattle.base.specs.Outcomes.{code, refused}
+use Rattle.list.specs.DayLists.{dayList}
+use Rattle.list.specs.declared.types.Seal.the-variants.{Number}
+use Rattle.list.specs.declared.types.Kind.the-variants.{Whole}
+use Rattle.list.specs.declared.types.DayList.{DayList}
+use Rattle.flat.specs.Flat.{flatOf, flatFault}
+
+-- H 10, a room that opens at 7, and one entry
+abbrev pub openedDay : DayList
+openedDay = dayList (record { h = 10; opening = 7 }) (record { serial = 501; seal = Number 77; r = 8; d = 9; p = 1; kind = Whole } ∷ [])
+
+pub record FlatExamples : Type 0 where
+  -- H, n, the opening minute; serial, 1 for a seal, its number, r, d, p, 1 for whole; and the next place's serial
+  pub layout : take 11 (flatOf openedDay) ≡ 10 ∷ 1 ∷ 7 ∷ 501 ∷ 1 ∷ 77 ∷ 8 ∷ 9 ∷ 1 ∷ 1 ∷ 0 ∷ []
+  pub former-length : flatFault 450 ≡ refused (code 100 (451 ∷ []))
