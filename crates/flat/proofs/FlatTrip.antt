@@ -21,7 +21,8 @@ use Rattle.list.specs.declared.types.Entry.{Entry}
 use Rattle.list.specs.declared.types.DayList.{DayList}
 use Rattle.format.specs.Maps.{kindOf}
 use Rattle.format.specs.EntryFields.{sealOf}
-use Rattle.flat.specs.Flat.{present, numberOf, wholeOf, flatEntry, flatEntries, flatOf, entryIn, entriesIn, valueOf, listIn, flatNumbers}
+use Rattle.flat.specs.Flat.{present, numberOf, wholeOf, flatEntry, flatEntries, flatOf, entryIn, entriesIn, valueOf}
+use Rattle.flat.specs.Flat.{flatNumbers, listIn}
 use Rattle.flat.proofs.FlatCases.{flat-length}
 
 seal-back : (s : Seal) → sealOf (not (eqb (present s) 0)) (numberOf s) ≡ s

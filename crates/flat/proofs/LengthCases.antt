@@ -44,7 +44,8 @@ module _ (xs : List ℕ) (v : Verdict) (w : verdictOf v ≡ flatFault (length xs
   pub list-read : (l : DayList) → v ≡ Accepted → l ≡ valueOf xs → ReadsFlat xs (record { verdict = Accepted; list = l })
   list-read l a q = let z = by-accepted w a in record { outcome = rw (z, q); beside = rw (z, q) }
 
-  pub list-refused : (x : Refusal) → v ≡ Refused x → (a : ReadAnswer) → a ≡ record { verdict = Refused x; list = emptyList } → ReadsFlat xs a
+  pub list-refused : (x : Refusal) → v ≡ Refused x → (a : ReadAnswer) → a ≡ record { verdict = Refused x; list = emptyList }
+      → ReadsFlat xs a
   list-refused x e a q = let z = by-refused w e in record { outcome = rw (z, q); beside = rw (z, q) }
 
 -- a list value was stored, or nothing

@@ -97,6 +97,7 @@ module _ (l : DayList) where
         late = λ header h. rw (header, ← (opens-past-day 0 f h)) refl;
         sixteen = λ i e. (rw e at told) .1 i refl;
         early = λ header o i h none r.
-            let entry : entryFault f (0 + i) (getD es i blank) ≡ refused (code 16 (i ∷ [])) = simp zero-add (sym (before-opening f i _ r)) in
+            let entry : entryFault f (0 + i) (getD es i blank) ≡ refused (code 16 (i ∷ [])) =
+            simp zero-add (sym (before-opening f i _ r)) in
             rw (header, opening-passes 0 f o, first-fault f 0 es i h (λ j b. simp zero-add (none j b)) _ entry) refl;
       }

@@ -89,7 +89,8 @@ pub record AnswersAs (l : DayList) (o : Outcome Narrowed) (a : NarrowAnswer) : T
   pub outcome : narrowAnswerOf a ≡ listed l o
   pub beside : (a .list, a .moves) ≡ standing (listed l o)
 
--- beside that: the list answered has the windows of the outcome, H, the opening minute and the kinds of l, and passes the value check itself
+-- beside that: the list answered has the windows of the outcome, and H, the opening minute and the kinds of l; it passes the value check
+-- itself
 pub record HoldsAnswer (l : DayList) (o : Outcome Narrowed) (a : NarrowAnswer) : Type 0 where
   pub narrowed : narrowedIn a ≡ o
   pub frame : a .verdict ≡ Accepted → a .list .frame ≡ l .frame

@@ -21,7 +21,8 @@ returns : tie.Need-returns
 returns c =
     let args = c .before .before .before .before .before .args in
     let list-in = c .before .before .before .list-in in
-    overload-bad-length (args .fields .now) (list-in .result) _ (c .before .enum-told2 .given .1) _ (c .verdict-as .ensures) (list-in .ensures)
+    overload-bad-length (args .fields .now) (list-in .result) _ (c .before .enum-told2 .given .1) _ (c .verdict-as .ensures)
+    (list-in .ensures)
 
 overload-requires : tie.Need-overload-requires
 overload-requires c κs = search needs

@@ -28,9 +28,9 @@ same-length c = search needs
 
 returns : tie.Need-returns
 returns c =
-    let args = c .before .before .before .before .before .before .args in
+    let start = c .before .before .before .before .before .before in
     let if1 = c .before .before .before .before .if1 in
-    flat-put (args .list) (args .fields .now) (in-types (c .before .before .before .before .before .before)) _ (if1 .taken) (c .before .before .put-numbers .ensures)
+    flat-put (start .args .list) (start .args .fields .now) (in-types start) _ (if1 .taken) (c .before .before .put-numbers .ensures)
 
 returns-2 : tie.Need-returns-2
 returns-2 c =
