@@ -1,15 +1,12 @@
 //! The opening minute of a value, and the writer: "The list value carries and compares that minute"; 15 is "0 for a
 //! value, where only H or more is wrong"; 16 stands "for a value, before 6". An opening minute of 0 is none.
 
+use crate::write_value::{written_and_read_back, ROOM};
 use dock_tests::check::{accepted, not_written, written};
 use dock_tests::day::{Day, Entry};
 use dock_tests::flat::{self, Fields, OPENING};
-use dock_tests::random::{self, Random};
 use dock_tests::samples::{self, entry, hex, numbered, value};
-use dock_tests::{abi, opening, writer};
-
-/// More room than any list needs.
-const ROOM: usize = 1000;
+use dock_tests::{abi, opening, random};
 
 /// A value that says a day of 100 minutes with this opening minute, right or wrong, and these entries.
 fn opened(minute: u32, entries: &[Entry]) -> Fields {
@@ -151,17 +148,11 @@ fn lists_that_differ_in_the_opening_minute_alone_have_other_bytes() {
 /// What is written reads back as the same list, opening minute and all.
 #[test]
 fn five_thousand_lists_are_written_and_read_back() {
-    let mut random = Random::new(9);
-    let mut with_one = 0;
-    for _ in 0..5_000 {
-        let day = random::any_drawn_day(&mut random);
-        let day = samples::told_apart(random::opened(&mut random, day));
-        let form = written(&flat::of_day(&day), ROOM);
-        assert_eq!(form, writer::form(&day));
-        assert_eq!(accepted(&form), day);
-        with_one += usize::from(day.opening > 0);
-    }
-    assert!(with_one > 3_000, "{with_one} with an opening minute");
+    let opened = written_and_read_back(9, |random| {
+        let day = random::any_drawn_day(random);
+        samples::told_apart(random::opened(random, day))
+    });
+    assert!(opened > 3_000, "{opened} with an opening minute");
 }
 
 /// What is read is written back, byte for byte.
