@@ -2,10 +2,11 @@
 //! value, where only H or more is wrong"; 16 stands "for a value, before 6". An opening minute of 0 is none.
 
 use crate::write_value::{written_and_read_back, ROOM};
-use dock_tests::check::{accepted, not_written, written};
+use dock_tests::check::{accepted, not_written, number, write, written};
 use dock_tests::day::{Day, Entry};
 use dock_tests::flat::{self, Fields, OPENING};
 use dock_tests::samples::{self, entry, hex, numbered, value};
+use dock_tests::told::Told;
 use dock_tests::{abi, opening, random};
 
 /// A value that says a day of 100 minutes with this opening minute, right or wrong, and these entries.
@@ -153,6 +154,40 @@ fn five_thousand_lists_are_written_and_read_back() {
         samples::told_apart(random::opened(random, day))
     });
     assert!(opened > 3_000, "{opened} with an opening minute");
+}
+
+/// Writes a value with each of its numbers changed, one after the other: to 0, to the largest, by one up and by one down.
+/// What is answered must be what the second value check says.
+fn every_change_of_one_number(right: &Fields) -> Told {
+    let mut told = Told::default();
+    for at in 0..flat::SIZE {
+        for other in [0, u32::MAX, right[at].wrapping_add(1), right[at].wrapping_sub(1)] {
+            let mut fields = *right;
+            fields[at] = other;
+            told.count(number(&write(&fields, ROOM)));
+        }
+    }
+    told
+}
+
+/// The first r is the opening minute, the second window has just its minutes, and neighbours have serials one apart.
+#[test]
+fn every_change_of_one_number_of_three_entries() {
+    let sealed = Entry { seal: Some(0), whole: true, ..entry(20, 30, 9) };
+    let fields = opened(7, &numbered(&[entry(7, 100, 1), entry(8, 100, 92), sealed]));
+    written(&fields, ROOM);
+    let told = every_change_of_one_number(&fields);
+    told.more_than(0, &[0, 2, 3, 6, 7, 14, 15, 16]);
+    told.never(&[12]);
+}
+
+/// Here all 64 places count, and no two windows share a minute.
+#[test]
+fn every_change_of_one_number_of_a_longest_list() {
+    let told = every_change_of_one_number(&flat::of_day(&samples::longest()));
+    told.more_than(63, &[0, 6, 7, 16]);
+    told.more_than(0, &[2, 3, 15]);
+    told.never(&[12, 14]);
 }
 
 /// What is read is written back, byte for byte.
