@@ -27,9 +27,9 @@ log() { printf '%s\n' "$1" >target/must-fail/one/wrong/.log; }
 # A repository on which every step ends well, with 3 proved (2 of them edits) and 4 Rust tests, and a step that prints closing lines.
 fresh() {
     rm -rf "${scratch:?}"/*
-    mkdir -p "$scratch/bin" "$scratch/repo/.ci" "$scratch/repo/crates/one/must-fail" "$scratch/repo/tests/gate" "$scratch/repo/target/must-fail/one/wrong" \
-        "$scratch/repo/target/must-fail/one/worse"
-    cd "$scratch/repo" && cp "$gate" .ci/run && touch crates/one/lib.rt target/made.rt tests/gate/try.sh
+    mkdir -p "$scratch/bin" "$scratch/repo/.ci" && cd "$scratch/repo" && cp "$gate" .ci/run || exit 1
+    mkdir -p crates/one/must-fail tests/gate target/must-fail/one/wrong target/must-fail/one/worse
+    touch crates/one/lib.rt target/made.rt tests/gate/try.sh
     printf '# least\nedits 2\ntests 4\n' >.ci/least
     echo 'file: src/lib.rt' | tee crates/one/must-fail/wrong.edit >crates/one/must-fail/worse.edit
     # shellcheck disable=SC2016

@@ -51,6 +51,10 @@ pub struct Answer {
     pub values: [u64; 3],
 }
 
+/// What stands before and behind the bytes and the numbers that are lent to a call.
+const BYTE_BESIDE: u8 = 0xEE;
+const NUMBER_BESIDE: u32 = 0xEEEE_EEEE;
+
 /// What `fields` hold before a call.
 pub fn untouched_fields() -> Fields {
     std::array::from_fn(|i| 0xF1E1_D000 + i as u32)
@@ -61,11 +65,29 @@ pub fn untouched_bytes(room: usize) -> Vec<u8> {
     (0..room).map(|place| 0x80 | (place % 101) as u8).collect()
 }
 
+/// Lends these values to a call between margins, which it has no business with, and keeps what it makes of them.
+fn lending<T: Copy + PartialEq, R>(values: &mut [T], margin: T, call: impl FnOnce(&mut [T]) -> R) -> R {
+    let margin = [margin; 16];
+    let mut memory = [&margin, &*values, &margin].concat();
+    let lent = &mut memory[margin.len()..][..values.len()];
+    let answer = call(lent);
+    values.copy_from_slice(lent);
+    assert!(memory.starts_with(&margin) && memory.ends_with(&margin), "written where nothing was lent");
+    answer
+}
+
 /// Lends fields to a call, and gives them back.
-fn lending_fields(call: impl FnOnce(&mut Fields) -> Answer) -> (Answer, Fields) {
+fn lending_fields(call: impl FnOnce(&mut [u32]) -> Answer) -> (Answer, Fields) {
     let mut fields = untouched_fields();
-    let answer = call(&mut fields);
+    let answer = lending(&mut fields, NUMBER_BESIDE, call);
     (answer, fields)
+}
+
+/// Lends `room` bytes to a call, and gives all of them back.
+fn lending_bytes(room: usize, call: impl FnOnce(&mut [u8]) -> Answer) -> (Answer, Vec<u8>) {
+    let mut bytes = untouched_bytes(room);
+    let answer = lending(&mut bytes, BYTE_BESIDE, call);
+    (answer, bytes)
 }
 
 /// Reads a list through the library.
@@ -79,23 +101,12 @@ pub fn read_into(bytes: &[u8], fields: &mut [u32]) -> Answer {
     unsafe { dock_read(bytes.as_ptr(), bytes.len(), fields.as_mut_ptr(), fields.len()) }
 }
 
-/// Bytes before and behind those that are lent to a call, which it has no business with.
-const MARGIN: [u8; 16] = [0xEE; 16];
-
-/// Lends `room` bytes to a call, and gives all of them back.
-fn lending(room: usize, call: impl FnOnce(&mut [u8]) -> Answer) -> (Answer, Vec<u8>) {
-    let mut memory = [&MARGIN[..], &untouched_bytes(room), &MARGIN].concat();
-    let out = &mut memory[MARGIN.len()..][..room];
-    let answer = call(out);
-    let out = out.to_vec();
-    assert!(memory.starts_with(&MARGIN) && memory.ends_with(&MARGIN), "bytes written that were not lent");
-    (answer, out)
-}
-
 /// Writes a list through the library into `room` bytes, and gives all of them back.
 pub fn write(fields: &[u32], room: usize) -> (Answer, Vec<u8>) {
     // SAFETY: the library reads the numbers of `fields` and writes the bytes of `out`, all of them lent here.
-    lending(room, |out| unsafe { dock_write(fields.as_ptr(), fields.len(), out.as_mut_ptr(), out.len()) })
+    lending_bytes(room, |out| unsafe {
+        dock_write(fields.as_ptr(), fields.len(), out.as_mut_ptr(), out.len())
+    })
 }
 
 /// Tests a list for overload through the library.
@@ -106,7 +117,7 @@ pub fn overload(fields: &[u32]) -> Answer {
 
 /// Plans a list through the library into `room` bytes, and gives all of them back.
 pub fn schedule(fields: &[u32], room: usize) -> (Answer, Vec<u8>) {
-    lending(room, |plan| schedule_into(fields, plan))
+    lending_bytes(room, |plan| schedule_into(fields, plan))
 }
 
 /// Plans a list through the library into these bytes, whatever they hold.
@@ -155,10 +166,16 @@ impl Lent {
 
 /// Makes a call of the library with `room` bytes for the plan, and gives back all that was lent.
 pub fn ask(call: Call, fields: &[u32], room: usize) -> (Answer, Lent) {
-    let mut lent = Lent::untouched(0);
-    let (answer, plan) =
-        lending(room, |plan| ask_lending(call, fields, plan, &mut lent.narrowed, &mut lent.bounds));
-    (answer, Lent { plan, ..lent })
+    let mut lent = Lent::untouched(room);
+    let answer = lending(&mut lent.plan, BYTE_BESIDE, |plan| {
+        lending(&mut lent.narrowed, NUMBER_BESIDE, |narrowed| {
+            lending(&mut lent.bounds, NUMBER_BESIDE, |bounds| {
+                let bounds = bounds.try_into().expect("as many bounds as were lent");
+                ask_lending(call, fields, plan, narrowed, bounds)
+            })
+        })
+    });
+    (answer, lent)
 }
 
 /// Makes a call of the library with this lent to it, whatever it holds.
@@ -189,7 +206,7 @@ pub fn ask_lending(
 
 /// Reports an input through the library into `room` bytes, and gives all of them back.
 pub fn report(bytes: &[u8], room: usize) -> (Answer, Vec<u8>) {
-    lending(room, |out| report_into(bytes, out))
+    lending_bytes(room, |out| report_into(bytes, out))
 }
 
 /// Reports an input through the library into these bytes, whatever they hold.
@@ -200,7 +217,7 @@ pub fn report_into(bytes: &[u8], out: &mut [u8]) -> Answer {
 
 /// Stores the line of a refusal through the library in `room` bytes, and gives all of them back.
 pub fn refusal_line(refusal: Answer, room: usize) -> (Answer, Vec<u8>) {
-    lending(room, |out| refusal_line_into(refusal, out))
+    lending_bytes(room, |out| refusal_line_into(refusal, out))
 }
 
 /// Stores the line of a refusal through the library in these bytes, whatever they hold.

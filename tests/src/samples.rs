@@ -2,7 +2,7 @@
 
 use crate::day::{Day, Entry, IDLE, LONGEST_DAY, MOST_ENTRIES};
 use crate::flat::{self, Fields, SIZE};
-use crate::{opening, writer};
+use crate::{cases, opening, writer};
 
 /// Bytes written as in document 01: hexadecimal, with blanks and bars anywhere.
 pub fn hex(text: &str) -> Vec<u8> {
@@ -252,6 +252,7 @@ pub fn opened_inputs() -> Vec<Vec<u8>> {
     vec![
         hex("02 00 80 01 00"),
         opened_document(),
+        cases::of(&cases::root().join("samples"), "late-opening".to_string()).list,
         writer::form(&opening::later(&every_shape(), 258)),
         opened_list(2, 1, &shorts(MOST_ENTRIES)),
         writer::form(&longest()),

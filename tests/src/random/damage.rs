@@ -6,19 +6,19 @@ use crate::flat::{self, Fields};
 use crate::samples::told_apart;
 use crate::writer;
 
-/// A list of any length, once in three times with its serials as they are drawn.
-fn apart_or_not(random: &mut Random) -> Day {
-    let day = any_drawn_day(random);
+/// This list, once in three times with its serials as they are drawn.
+fn apart_or_not(random: &mut Random, drawn: Day) -> Day {
     if random.once_in(3) {
-        day
+        drawn
     } else {
-        told_apart(day)
+        told_apart(drawn)
     }
 }
 
 /// The bytes of a random list with one to three damages.
 pub fn damaged(random: &mut Random) -> Vec<u8> {
-    let day = apart_or_not(random);
+    let drawn = any_drawn_day(random);
+    let day = apart_or_not(random, drawn);
     damaged_form(random, &day)
 }
 
@@ -30,13 +30,19 @@ pub fn damaged_opened(random: &mut Random) -> Vec<u8> {
         day = any_drawn_day(random);
     }
     let drawn = opened(random, day);
-    let mut bytes = writer::form(&if random.once_in(3) { drawn } else { told_apart(drawn) });
+    let day = apart_or_not(random, drawn);
+    with_damages(random, &day, |random, bytes| match random.below(4) {
+        0 => change_header(random, bytes),
+        1 => copy_opening(random, bytes),
+        _ => damage(random, bytes),
+    })
+}
+
+/// The bytes of this list after one to three damages of such a sort.
+fn with_damages(random: &mut Random, day: &Day, damage: impl Fn(&mut Random, &mut Vec<u8>)) -> Vec<u8> {
+    let mut bytes = writer::form(day);
     for _ in 0..=random.below(3) {
-        match random.below(4) {
-            0 => change_header(random, &mut bytes),
-            1 => copy_opening(random, &mut bytes),
-            _ => damage(random, &mut bytes),
-        }
+        damage(random, &mut bytes);
     }
     bytes
 }
@@ -51,11 +57,7 @@ fn copy_opening(random: &mut Random, bytes: &mut [u8]) {
 
 /// The bytes of this list with one to three damages.
 pub fn damaged_form(random: &mut Random, day: &Day) -> Vec<u8> {
-    let mut bytes = writer::form(day);
-    for _ in 0..=random.below(3) {
-        damage(random, &mut bytes);
-    }
-    bytes
+    with_damages(random, day, damage)
 }
 
 /// The bytes of this list with another byte in its header.
@@ -65,13 +67,18 @@ pub fn with_header_changed(random: &mut Random, day: &Day) -> Vec<u8> {
     bytes
 }
 
-/// Changes a byte of the header, if there is one: of the three, and of the opening minute's two where they stand.
+/// How many bytes the header of an input has: three, and the opening minute's two where they stand.
+fn header(bytes: &[u8]) -> usize {
+    let opened = bytes.get(2).is_some_and(|count| *count >= 128);
+    bytes.len().min(if opened { 5 } else { 3 })
+}
+
+/// Changes a byte of the header, if there is one.
 fn change_header(random: &mut Random, bytes: &mut [u8]) {
-    let header = if bytes.len() > 2 && bytes[2] >= 128 { 5 } else { 3 };
     if bytes.is_empty() {
         return;
     }
-    let at = random.below(header.min(bytes.len()));
+    let at = random.below(header(bytes));
     let byte = bytes[at];
     while bytes[at] == byte {
         let any = random.any() as u8;
@@ -90,7 +97,10 @@ fn damage(random: &mut Random, bytes: &mut Vec<u8>) {
         2 if at < end => bytes[at] = random.pick(&[0, 1, bytes[0], bytes[end - 1], 0xFF]),
         3 => bytes.truncate(at),
         4 => bytes.extend((0..=random.below(20)).map(|i| byte.wrapping_mul(i as u8))),
-        5 => drop(bytes.splice(at.., writer::form(&any_day(random)).into_iter().skip(3))),
+        5 => {
+            let other = writer::form(&any_day(random));
+            drop(bytes.splice(at.., other[header(&other)..].iter().copied())); // its entries
+        }
         6 => drop(bytes.drain(at..(at + random.below(4)).min(end))),
         _ => bytes.insert(at, byte),
     }
@@ -99,7 +109,8 @@ fn damage(random: &mut Random, bytes: &mut Vec<u8>) {
 /// A flat value that may break any rule: a list, often with noise behind it, with up to three numbers
 /// changed.
 pub fn wild_fields(random: &mut Random) -> Fields {
-    let day = apart_or_not(random);
+    let drawn = any_drawn_day(random);
+    let day = apart_or_not(random, drawn);
     let mut fields = flat::of_day(&day);
     if random.once_in(2) {
         let n = flat::at(day.entries.len());

@@ -27,3 +27,8 @@ fn rows(table: &str) -> Vec<Vec<String>> {
         table.lines().skip_while(|line| !line.starts_with("|---")).filter(|line| line.starts_with("| "));
     rows.map(|row| row.trim_matches('|').split('|').map(|cell| cell.trim().to_string()).collect()).collect()
 }
+
+/// A text in one line, however its page has lines.
+fn in_one_line(text: &str) -> String {
+    text.split_whitespace().collect::<Vec<_>>().join(" ")
+}

@@ -143,7 +143,8 @@ fn entry(way: &Way, left: &mut &[u8], length: usize, h: u16, opening: u16) -> Re
     Ok([meant, until, p])
 }
 
-/// Headers of at most 3 minutes, then lists of one entry, of which every field is tried that can tell.
+/// Headers of at most 3 minutes, and lists of one entry, of which every field is tried that can tell; shorter inputs
+/// first, then days of fewer minutes.
 fn inputs() -> Vec<Vec<u8>> {
     let mut all = vec![];
     for (h, count) in (1..=3).flat_map(|h| [0, 1, 65, 128, 129, 193].map(|count| (h, count))) {
@@ -153,7 +154,6 @@ fn inputs() -> Vec<Vec<u8>> {
             all.extend([0, 1].map(|high| vec![h, 0, count, low, high]));
         }
     }
-    all.sort_by_key(Vec::len);
     for h in 1..=3 {
         let maybe = |end: u16| (0..=end).map(Some).chain([None]).rev();
         let written = maybe(h).flat_map(|r| maybe(h + 1).map(move |d| (r, d)));
@@ -164,6 +164,7 @@ fn inputs() -> Vec<Vec<u8>> {
             all.extend((1..h).map(|opening| opened_list(h, opening, &[entry])));
         }
     }
+    all.sort_by_key(Vec::len);
     all
 }
 

@@ -180,7 +180,7 @@ fn the_report_that_readme_shows_is_the_samples() {
     );
 }
 
-/// It shows the picture too, leads to each demand's promises, and is read in some minutes.
+/// It shows the picture too, counts the sample days, leads to each demand's promises, and is read in some minutes.
 #[test]
 fn readme_is_for_a_newcomer() {
     let readme = page("README.md");
@@ -190,6 +190,9 @@ fn readme_is_for_a_newcomer() {
     for demand in 1..=3 {
         assert!(readme.contains(&format!("](docs/PROMISES.md#demand-{demand})")), "demand {demand}");
     }
+    let days = names(&root().join("samples"), "list").len();
+    let days = ["three", "four", "five", "six", "seven", "eight", "nine"][days - 3];
+    assert!(readme.contains(&format!("[samples](samples/README.md) has {days} days.")), "{days}");
     let words = readme.split_whitespace().count();
     assert!(words <= 1250, "{words} words");
 }

@@ -1,8 +1,9 @@
 //! docs/REFUSALS.md has a section for each refusal, with what it carries, who gives it and what to do; and no public
 //! function asks anything of its caller.
 
-use crate::page;
+use crate::{in_one_line, page};
 use dock_tests::cases::{names, root};
+use dock_tests::flat::SIZE;
 use std::fs;
 
 /// The number and the case of each refusal, from the definition: "codeOf (BadMapByte at) = code 4 (at ∷ [])".
@@ -49,6 +50,19 @@ fn each_section_says_what_to_do() {
         let printed = text.contains(&format!("`refused {number} "));
         assert!(printed || [11, 12, 13, 100].contains(&number), "{number} {case}: how the program prints it");
         assert_ne!(printed, text.contains("never printed by the program"), "{number} {case}");
+    }
+}
+
+#[test]
+fn the_section_of_100_has_the_length_of_a_row() {
+    let sections = sections();
+    let (_, _, text) = sections.iter().find(|(number, ..)| *number == 100).expect("a section");
+    let text = in_one_line(text);
+    for wanted in [
+        format!("- Carries: {SIZE}, the numbers of a row."),
+        format!("- What to do: use rows of {SIZE} numbers. One of {} is from before", SIZE - 1),
+    ] {
+        assert!(text.contains(&wanted), "{wanted}");
     }
 }
 

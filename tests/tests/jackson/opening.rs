@@ -31,6 +31,7 @@ fn every_small_day_with_every_opening_minute() {
 fn small_days_with_an_opening_minute_against_trying_everything() {
     let mut seen = [0; 2];
     for day in small::pause_days_up_to(3, 3).map(|day| later(&day, 2)) {
+        assert!(day.opening > 0, "{day:?}");
         let interval = shown(&day);
         assert_eq!(interval.is_none(), brute::has_plan(&day), "{day:?}");
         if interval.is_none() {

@@ -25,18 +25,6 @@ fn every_day_length() {
 }
 
 #[test]
-fn every_number_of_entries_before_an_input_that_ends() {
-    for n in 0..=u8::MAX {
-        let bytes = [100, 0, n];
-        match n {
-            0 => assert!(accepted(&bytes).entries.is_empty()),
-            1..=64 | 128..=192 => refused(&bytes, 1, 3),
-            65..=127 | 193..=255 => refused(&bytes, 3, 2),
-        }
-    }
-}
-
-#[test]
 fn every_number_of_entries_with_as_many_entries() {
     for n in 0..=127_u8 {
         let bytes = list(100, &shorts(n.into()));

@@ -1,15 +1,13 @@
 //! The opening minute of a value, and the writer: "The list value carries and compares that minute"; 15 is "0 for a
 //! value, where only H or more is wrong"; 16 stands "for a value, before 6". An opening minute of 0 is none.
 
-use dock_tests::check::{accepted, not_written, written};
+use crate::write_value::{written_and_read_back, ROOM};
+use dock_tests::check::{accepted, not_written, number, write, written};
 use dock_tests::day::{Day, Entry};
 use dock_tests::flat::{self, Fields, OPENING};
-use dock_tests::random::{self, Random};
 use dock_tests::samples::{self, entry, hex, numbered, value};
-use dock_tests::{abi, opening, writer};
-
-/// More room than any list needs.
-const ROOM: usize = 1000;
+use dock_tests::told::Told;
+use dock_tests::{abi, opening, random};
 
 /// A value that says a day of 100 minutes with this opening minute, right or wrong, and these entries.
 fn opened(minute: u32, entries: &[Entry]) -> Fields {
@@ -151,17 +149,45 @@ fn lists_that_differ_in_the_opening_minute_alone_have_other_bytes() {
 /// What is written reads back as the same list, opening minute and all.
 #[test]
 fn five_thousand_lists_are_written_and_read_back() {
-    let mut random = Random::new(9);
-    let mut with_one = 0;
-    for _ in 0..5_000 {
-        let day = random::any_drawn_day(&mut random);
-        let day = samples::told_apart(random::opened(&mut random, day));
-        let form = written(&flat::of_day(&day), ROOM);
-        assert_eq!(form, writer::form(&day));
-        assert_eq!(accepted(&form), day);
-        with_one += usize::from(day.opening > 0);
+    let opened = written_and_read_back(9, |random| {
+        let day = random::any_drawn_day(random);
+        samples::told_apart(random::opened(random, day))
+    });
+    assert!(opened > 3_000, "{opened} with an opening minute");
+}
+
+/// Writes a value with each of its numbers changed, one after the other: to 0, to the largest, by one up and by one down.
+/// What is answered must be what the second value check says.
+fn every_change_of_one_number(right: &Fields) -> Told {
+    let mut told = Told::default();
+    for at in 0..flat::SIZE {
+        for other in [0, u32::MAX, right[at].wrapping_add(1), right[at].wrapping_sub(1)] {
+            let mut fields = *right;
+            fields[at] = other;
+            told.count(number(&write(&fields, ROOM)));
+        }
     }
-    assert!(with_one > 3_000, "{with_one} with an opening minute");
+    told
+}
+
+/// The first r is the opening minute, the second window has just its minutes, and neighbours have serials one apart.
+#[test]
+fn every_change_of_one_number_of_three_entries() {
+    let sealed = Entry { seal: Some(0), whole: true, ..entry(20, 30, 9) };
+    let fields = opened(7, &numbered(&[entry(7, 100, 1), entry(8, 100, 92), sealed]));
+    written(&fields, ROOM);
+    let told = every_change_of_one_number(&fields);
+    told.more_than(0, &[0, 2, 3, 6, 7, 14, 15, 16]);
+    told.never(&[12]);
+}
+
+/// Here all 64 places count, and no two windows share a minute.
+#[test]
+fn every_change_of_one_number_of_a_longest_list() {
+    let told = every_change_of_one_number(&flat::of_day(&samples::longest()));
+    told.more_than(63, &[0, 6, 7, 16]);
+    told.more_than(0, &[2, 3, 15]);
+    told.never(&[12, 14]);
 }
 
 /// What is read is written back, byte for byte.

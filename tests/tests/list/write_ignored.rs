@@ -1,12 +1,11 @@
 //! What a flat value may hold besides the list: places from n on, a number beside no seal, any flag.
 
+use crate::write_value::ROOM;
 use dock_tests::check::{not_written, written};
 use dock_tests::flat::{self, Fields};
 use dock_tests::ignored::with_rest;
 use dock_tests::random::{self, Random};
 use dock_tests::{check, samples, writer};
-
-const ROOM: usize = 1000;
 
 /// The flat form of document 01's sample.
 fn sample() -> Fields {

@@ -1,49 +1,63 @@
-//! The script bench/run, where it stops before it builds anything.
+//! The script bench/run, where it stops before it builds anything, and where it begins to.
 
+use crate::folder::{succeeds, Folder};
 use dock_tests::cases::root;
+use std::ffi::OsStr;
 use std::fs;
-use std::path::{Path, PathBuf};
 use std::process::{Command, Output};
 
-/// Runs a command in a folder; it must succeed.
-#[track_caller]
-fn succeeds(folder: &Path, program: &str, arguments: &[&str]) {
-    let output = Command::new(program).args(arguments).current_dir(folder).output().expect("it must start");
-    assert!(output.status.success(), "{arguments:?}: {}", String::from_utf8_lossy(&output.stderr));
+/// The variables that name a repository to git. Whoever runs the tests may have them set, as a git hook has: then these
+/// tests would change that repository.
+const REPOSITORY: [&str; 5] =
+    ["GIT_DIR", "GIT_WORK_TREE", "GIT_INDEX_FILE", "GIT_COMMON_DIR", "GIT_OBJECT_DIRECTORY"];
+
+/// A command in a folder, for which git has no repository but that folder's.
+fn command(folder: &Folder, program: impl AsRef<OsStr>) -> Command {
+    let mut command = Command::new(program);
+    command.current_dir(&**folder);
+    for name in REPOSITORY {
+        command.env_remove(name);
+    }
+    command
 }
 
-/// A repository with the script, in which a list has so many numbers at one commit after the other.
-fn repository(name: &str, sources: &[&str]) -> PathBuf {
-    let folder = Path::new(env!("CARGO_TARGET_TMPDIR")).join(name);
-    if folder.exists() {
-        fs::remove_dir_all(&folder).expect("no folder");
-    }
-    fs::create_dir_all(folder.join("crates/flat/src")).expect("a folder");
-    fs::create_dir_all(folder.join("bench")).expect("a folder");
-    succeeds(&folder, "cp", &[&root().join("bench/run").display().to_string(), "bench/run"]);
-    succeeds(&folder, "git", &["init", "-q"]);
+/// What git prints in a folder, without signatures and hooks that its user may have.
+#[track_caller]
+fn git(folder: &Folder, arguments: &[&str]) -> String {
+    let settings =
+        ["commit.gpgsign=false", "core.hooksPath=/dev/null", "user.name=test", "user.email=test@example.org"];
+    let settings = settings.iter().flat_map(|setting| ["-c", setting]);
+    succeeds(command(folder, "git").args(settings).args(arguments))
+}
+
+/// A repository with the script, in which the crate flat has these sources at one commit after the other.
+fn repository(name: &str, sources: &[&str]) -> Folder {
+    let folder = Folder::with(name, &["crates/flat/src", "bench"]);
+    folder.copy("bench/run");
+    git(&folder, &["init", "-q"]);
     for source in sources {
         fs::write(folder.join("crates/flat/src/lib.rt"), source).expect("a source");
-        succeeds(&folder, "git", &["add", "."]);
-        let by = ["-c", "user.name=test", "-c", "user.email=test@example.org"];
-        succeeds(&folder, "git", &[&by[..], &["commit", "-q", "-m", "numbers"]].concat());
+        git(&folder, &["add", "."]);
+        git(&folder, &["commit", "-q", "-m", "numbers"]);
     }
     folder
 }
 
-fn run(folder: &Path, arguments: &[&str]) -> (Output, String) {
-    let output = Command::new(folder.join("bench/run")).args(arguments).output().expect("it must start");
+/// Runs the script with what it finds first in that folder, and gives what it says on standard error.
+fn run(folder: &Folder, arguments: &[&str]) -> (Output, String) {
+    let mut command = command(folder, folder.join("bench/run"));
+    folder.first_in_path(&mut command);
+    let output = command.args(arguments).output().expect("it must start");
     let said = String::from_utf8_lossy(&output.stderr).into_owned();
     (output, said)
 }
 
-/// It ends with status 2, says this, prints nothing and builds nothing.
+/// It ends with status 2, says this line, prints nothing and builds nothing.
 #[track_caller]
-fn stops(folder: &Path, arguments: &[&str], wanted: &str) {
+fn stops(folder: &Folder, arguments: &[&str], wanted: &str) {
     let (output, said) = run(folder, arguments);
-    assert_eq!(output.status.code(), Some(2), "{said}");
-    assert!(said.starts_with(wanted) && said.lines().count() == 1, "{said}");
-    assert_eq!(output.stdout, b"");
+    assert_eq!(said, format!("{wanted}\n"));
+    assert_eq!((output.status.code(), &output.stdout[..]), (Some(2), &b""[..]));
     assert!(!folder.join("target").exists(), "something is built");
 }
 
@@ -53,17 +67,32 @@ const NOW: &str = "// numbers\npub const NUMBERS: usize = 451;\n";
 #[test]
 fn a_commit_with_rows_of_another_length() {
     let folder = repository("bench-former", &["// none\n", FORMER, NOW]);
-    let (_, said) = run(&folder, &["HEAD~1"]);
-    assert!(said.contains(" a list has 450 numbers, and now 451;"), "{said}");
-    stops(&folder, &["HEAD~1"], "bench/run: at ");
-    stops(&folder, &["HEAD~2"], "bench/run: at ");
+    for (commit, numbers) in [("HEAD~1", "450"), ("HEAD~2", "an unknown number of")] {
+        let short = git(&folder, &["rev-parse", "--short", commit]);
+        let wanted = format!(
+            "bench/run: at {} a list has {numbers} numbers, and now 451; the libraries cannot be called alike",
+            short.trim_end()
+        );
+        stops(&folder, &[commit], &wanted);
+    }
+}
+
+/// The library of that commit is asked for, in a folder with its sources. The `rt` here fails, so that nothing is built.
+#[test]
+fn a_commit_with_rows_of_the_same_length() {
+    let folder = repository("bench-same", &[NOW, &format!("{NOW}// more\n")]);
+    folder.program("rt", "echo \"rt $*\"; cat crates/flat/src/lib.rt; exit 7");
+    let (output, said) = run(&folder, &["HEAD~1"]);
+    assert_eq!(said, format!("rt staticlib abi\n{NOW}"));
+    assert_eq!((output.status.code(), &output.stdout[..]), (Some(7), &b""[..]));
 }
 
 #[test]
 fn what_is_no_commit() {
     let folder = repository("bench-unknown", &[NOW]);
     stops(&folder, &["none"], "bench/run: git knows no commit 'none'");
-    stops(&folder, &["HEAD", "HEAD"], "usage: bench/run [COMMIT]");
+    let usage = "usage: bench/run [COMMIT], where COMMIT is what git takes for a commit";
+    stops(&folder, &["HEAD", "HEAD"], usage);
 }
 
 /// The script reads the number that this library has, which is the tests' own.

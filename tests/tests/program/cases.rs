@@ -8,10 +8,11 @@ use dock_tests::{program, writer};
 use std::collections::BTreeSet;
 use std::fs;
 
-/// A case as the folder's README lists it: "- **NAME** `BYTES`: ..", or "- **NAME**, N bytes: ..".
+/// A case as the folder's README lists it: "- **NAME** `BYTES`: ..", or "- **NAME**, N bytes: ..". The bytes may go on in
+/// the next line.
 fn listed() -> Vec<(String, Result<Vec<u8>, usize>)> {
     let page = fs::read_to_string(cases::folder().join("README.md")).expect("the list of cases");
-    let rows = page.lines().filter_map(|line| line.strip_prefix("- **"));
+    let rows = page.split("\n- **").skip(1);
     rows.map(|row| {
         let (name, rest) = row.split_once("**").expect("a name");
         let bytes = match rest.strip_prefix(", ") {

@@ -1,8 +1,9 @@
 //! The command ./dock-report of the repository's root.
 
+use crate::folder::Folder;
 use dock_tests::cases::{self, root, Case};
 use std::fs::{self, File};
-use std::path::{Path, PathBuf};
+use std::path::Path;
 use std::process::{Command, Output, Stdio};
 
 fn run(folder: &Path, arguments: &[&str], input: Stdio) -> Output {
@@ -40,24 +41,19 @@ fn the_command_refuses_what_is_no_file() {
 }
 
 /// A folder with the command, a program `rt` that says and does this, and a program `dock` that prints its input.
-/// A shell writes them: what this process has open for writing could not be run by another test's child.
-fn beside_rt(name: &str, rt: &str) -> PathBuf {
-    let folder = Path::new(env!("CARGO_TARGET_TMPDIR")).join(name);
-    fs::create_dir_all(folder.join("target/bin")).expect("a folder");
-    let write = "cp \"$0/dock-report\" . && printf '#!/bin/sh\\n%s\\n' \"$1\" >rt \
-                 && printf '#!/bin/sh\\ncat\\n' >target/bin/dock && chmod +x rt target/bin/dock";
-    let mut shell = Command::new("sh");
-    shell.args(["-c", write]).arg(root()).arg(rt).current_dir(&folder);
-    assert!(shell.status().expect("a shell").success());
+fn beside_rt(name: &str, rt: &str) -> Folder {
+    let folder = Folder::with(name, &["target/bin"]);
+    folder.copy("dock-report");
+    folder.program("rt", rt);
+    folder.program("target/bin/dock", "cat");
     folder
 }
 
 /// Runs the command of such a folder, which finds that `rt` first; then what its log has.
-fn run_beside_rt(folder: &Path) -> (Output, String) {
-    let path = std::env::var("PATH").expect("a path");
+fn run_beside_rt(folder: &Folder) -> (Output, String) {
     let mut command = Command::new(folder.join("dock-report"));
-    command.env("PATH", format!("{}:{path}", folder.display())).arg(root().join("samples/morning.txt"));
-    let output = command.output().expect("the command must start");
+    folder.first_in_path(&mut command);
+    let output = command.arg(root().join("samples/morning.txt")).output().expect("the command must start");
     (output, fs::read_to_string(folder.join("target/dock-report.log")).expect("a log"))
 }
 
@@ -82,7 +78,7 @@ fn the_command_names_each_crate_that_is_proved() {
 fn the_command_names_what_will_be_proved() {
     let folder = beside_rt("rt-builds", "cp dock target/bin/dock; echo 'rt: base proved (1 s)'");
     fs::rename(folder.join("target/bin/dock"), folder.join("dock")).expect("no program");
-    fs::copy(root().join("crates.txt"), folder.join("crates.txt")).expect("a list of crates");
+    folder.copy("crates.txt");
     let (output, _) = run_beside_rt(&folder);
     assert!(output.status.success());
     assert_eq!(

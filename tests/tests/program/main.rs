@@ -3,5 +3,6 @@
 mod bench;
 mod cases;
 mod command;
+mod folder;
 mod input;
 mod sample_days;

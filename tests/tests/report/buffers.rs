@@ -8,7 +8,10 @@ use dock_tests::random::{self, Random};
 use dock_tests::report::{outcome, Outcome, ENOUGH};
 use dock_tests::{abi, cases, writer};
 
-/// Inputs of every kind with their outcomes: the cases, and some random ones of each number.
+/// Enough to draw each number four times.
+const DRAWS: usize = 5_000;
+
+/// Inputs of every kind with their outcomes: the cases, and four random ones of each number.
 fn inputs() -> Vec<(Vec<u8>, Outcome)> {
     let with_outcome = |input: Vec<u8>| {
         let outcome = outcome(&input);
@@ -17,7 +20,7 @@ fn inputs() -> Vec<(Vec<u8>, Outcome)> {
     let mut inputs: Vec<_> = cases::all().into_iter().map(|case| with_outcome(case.list)).collect();
     let mut random = Random::new(221);
     let mut told = [0; 17];
-    while [0, 1, 2, 3, 4, 5, 6, 7, 8, 9, 10, 14, 15, 16].iter().any(|&number: &usize| told[number] < 4) {
+    for _ in 0..DRAWS {
         let day = random::mixed_day(&mut random, 12, 6);
         let day = random::with_doubled_serials(&mut random, day, 8);
         let input =
@@ -28,6 +31,8 @@ fn inputs() -> Vec<(Vec<u8>, Outcome)> {
             inputs.push((input, outcome));
         }
     }
+    let few = [0, 1, 2, 3, 4, 5, 6, 7, 8, 9, 10, 14, 15, 16].into_iter().find(|&number| told[number] < 4);
+    assert_eq!(few, None, "a number of which there are not 4 inputs");
     inputs
 }
 
