@@ -1,6 +1,6 @@
 // Refusals as numbers, for printing and for callers in other languages.
-// Promises: `numbers_of` gives every refusal its number in the documents and the values that it carries, by equality with the definition of
-// specs/. Uses the crates base and list.
+// Promises: `numbers_of` gives every refusal its number, that of the documents where they have one, and the values that it carries, by
+// equality with the definition of specs/. Uses the crates base and list.
 use list::types::Refusal;
 ghost use mathlib.Core.Path.{_≡_};
 ghost use mathlib.Core.List.{[], _∷_};

@@ -42,7 +42,7 @@ reads bs a b w =
       law = read-law bs;
     }
 
--- row 14, after rows 1 to 8
+-- row 14, after rows 1 to 8, 15 and 16
 module _ (bs : List ℕ) (b : Bytes bs) (a : ReadAnswer) (decoded : ReadsAs (decodeOf bs) a) where
   pub reads-decoded : (x : Refusal) → a .verdict ≡ Refused x → Reads bs a
   reads-decoded x v = reads bs a b (read-decoded bs a decoded x v)

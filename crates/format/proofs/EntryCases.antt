@@ -61,7 +61,7 @@ module _ (f : Frame) (at : ℕ) (m : Fields) (bs : List ℕ) where
   unfolding fieldsEntry
   fields-default e q h t = rw (← q) (simp (le-ltb _ _ h, t))
 
-  -- the verdict v on rows 6 and 7 decides
+  -- the verdict v on rows 16, 6 and 7 decides
   module _ (e : Entry) (v : Verdict) (q : e ≡ entryAt f m bs) (h : sizeOf m ≤ length bs) (t : defaultWritten f m e ≡ false)
       (w : verdictOf v ≡ entryFault f at e) where
     verdict : fieldsEntry f at m bs ≡ andThen (verdictOf v) (λ _. answered (e, sizeOf m))

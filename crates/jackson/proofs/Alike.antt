@@ -42,8 +42,8 @@ module _ {a b : DayList} (s : SameWindows a b) where
           ∙ ap (λ (es : List Entry). getD es i blank) (s .entries)
           ∙ List·getD-map plain (entriesOf b) i blank
 
--- Where the value check answers both alike, as it does if both pass (`both-pass`) or have the same serials (`serials-checked`), the calls
--- answer the same, and leave the same in a plan buffer.
+-- Where the value check answers both alike, as it does if both pass (`both-pass`) or have the same opening minute and serials
+-- (`serials-checked`), the calls answer the same, and leave the same in a plan buffer.
 module _ {a b : DayList} (s : SameWindows a b) (checked : checkOf a ≡ checkOf b) where
   pub alike-tested : testOf a ≡ testOf b
   unfolding testOf

@@ -1,4 +1,5 @@
--- The number and the carried values of each case of an answer, as "Where a list is turned back" has them, and document 02 from 14 on.
+-- The number and the carried values of each case of an answer, as "Where a list is turned back" has them, and document 02 from 14 on; 100
+-- is in neither.
 use Prim.Native.Nat.{ℕ}
 use mathlib.Core.List.{[], _∷_}
 use Rattle.base.specs.Outcomes.{Code, code, Outcome, answered, refused}

@@ -146,7 +146,7 @@ module _ (bs : List ℕ) (a : ReadAnswer) (reads : Reads bs a) where
   unfolding reportOf
   read-put out text b v p = rw (read-is Accepted v) p
 
-  -- Rows 1 to 8 and 14.
+  -- Rows 1 to 8, 14, 15 and 16.
   pub unread-is : (x : Refusal) → a .verdict ≡ Refused x → reportOf bs ≡ refused (codeOf x)
   unfolding reportOf
   unread-is x v = rw (read-is (Refused x) v) refl

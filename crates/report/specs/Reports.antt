@@ -93,7 +93,8 @@ dayText l v =
 abbrev pub plannedText : DayList → Outcome (List ℕ)
 plannedText l = andThen (narrowing overloadOf (wholeIn l) (windowsOf l)) (λ v. answered (dayText l v))
 
--- the text of the day that bytes say, or the refusal of its list: rows 1 to 8 and 14 as it is read, 9 and 10 as it is planned
+-- the text of the day that bytes say, or the refusal of its list: rows 1 to 8, 14, 15 and 16 as it is read, 9 and 10 as it is
+-- planned
 unfoldable pub reportOf : List ℕ → Outcome (List ℕ)
 reportOf bs = andThen (readOf bs) plannedText
 

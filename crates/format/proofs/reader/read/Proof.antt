@@ -1,4 +1,4 @@
--- `reader::read` meets its contract: rows 1 to 8 decide, or the first entry that clashes with an earlier one.
+-- `reader::read` meets its contract: rows 1 to 8, 15 and 16 decide, or the first entry that clashes with an earlier one.
 -- Assumes nothing.
 use borrow.Author.Needs.{needs}
 use native.Mathlib.Omega.{arith}
