@@ -41,8 +41,8 @@ pub struct DayList {
     pub entries: [Entry; ENTRIES],
 }
 
-// The refusals of every call of the planner, a case for each number of "Where a list is turned back" and of document 02's requests, and 100.
-// specs/Refusals.antt has each case's number and the values that it carries.
+// The refusals of every call of the planner, a case for each number of "Where a list is turned back" and of document 02's requests, and
+// 100. specs/Refusals.antt has each case's number and the values that it carries.
 pub enum Refusal {
     // 1: bytes are missing; the input's length.
     BytesMissing(usize),
