@@ -4,7 +4,7 @@ use dock_tests::abi::{self, Call};
 use dock_tests::check_bounds::{ask, ask_all, asked, by_trying_everything, calls, refused};
 use dock_tests::day::{Day, IDLE, LONGEST_DAY, MOST_ENTRIES};
 use dock_tests::flat::{self, OPENING};
-use dock_tests::opening::{later, possible};
+use dock_tests::opening::{later, possible, small_days};
 use dock_tests::random::{self, Random};
 use dock_tests::samples::{boxes, longest, opened_document, plan};
 use dock_tests::{check, small};
@@ -35,13 +35,11 @@ fn every_small_day_with_every_opening_minute() {
     assert!(opened > 500, "{opened} with an opening minute");
 }
 
-/// Small days of both kinds that begin a minute or two after 0, against all plans.
+/// Against all plans.
 #[test]
 fn small_days_with_an_opening_minute_against_trying_everything() {
     let mut seen = [0; 11];
-    for day in small::days_up_to(3, 3).chain(small::days_of_both_kinds(4, 2)) {
-        let day = later(&day, 1 + day.entries.len() as u16 % 2);
-        assert!(day.opening > 0, "{day:?}");
+    for day in small_days() {
         seen[by_trying_everything(&day) as usize] += 1;
     }
     assert!(seen[0] > 2_000 && seen[9] > 3_000 && seen[10] > 20, "{seen:?}");

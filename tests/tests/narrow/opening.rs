@@ -6,7 +6,7 @@ use dock_tests::check_narrow::{
 use dock_tests::day::{Day, Refusal, LONGEST_DAY, MOST_ENTRIES};
 use dock_tests::flat::{self, OPENING};
 use dock_tests::narrow::Narrowed;
-use dock_tests::opening::{later, possible, without};
+use dock_tests::opening::{later, possible, small_days, without};
 use dock_tests::random::{self, Random};
 use dock_tests::samples::{boxes, opened_document};
 use dock_tests::{abi, check, small};
@@ -33,14 +33,11 @@ fn every_small_day_with_every_opening_minute() {
     assert!(opened > 5_000, "{opened} with an opening minute");
 }
 
-/// Small days of both kinds that begin a minute or two after 0, against all plans, all sets of windows and all lists
-/// of steps.
+/// Against all plans, all sets of windows and all lists of steps.
 #[test]
 fn small_days_with_an_opening_minute_against_trying_everything() {
     let mut seen = [0; 11];
-    for day in small::days_up_to(3, 3).chain(small::days_of_both_kinds(4, 2)) {
-        let day = later(&day, 1 + day.entries.len() as u16 % 2);
-        assert!(day.opening > 0, "{day:?}");
+    for day in small_days() {
         let answer = by_trying_everything(&day);
         seen[answer.number as usize] += 1;
     }
