@@ -28,8 +28,8 @@ inside-at len n x row more three h =
 pub at-place : (len n x : ℕ) → 2 ≤ n → n ≤ 8 → x < len → PlaceIn len (code n (x ∷ []))
 at-place len n x more row = inside-at len n x (inl (omega arith, row)) (λ q. omega arith) (λ q. absurd (omega arith))
 
-pub at-early : (len x : ℕ) → x < len → PlaceIn len (code 16 (x ∷ []))
-at-early len x = inside-at len 16 x (inr (inr refl)) (λ q. omega arith) (λ q. absurd (omega arith))
+pub at-sixteen : (len x : ℕ) → x < len → PlaceIn len (code 16 (x ∷ []))
+at-sixteen len x = inside-at len 16 x (inr (inr refl)) (λ q. omega arith) (λ q. absurd (omega arith))
 
-pub at-opening : (len : ℕ) → 3 < len → PlaceIn len (code 15 (3 ∷ []))
-at-opening len = inside-at len 15 3 (inr (inl refl)) (λ q. omega arith) (λ q. refl)
+pub at-fifteen : (len : ℕ) → 3 < len → PlaceIn len (code 15 (3 ∷ []))
+at-fifteen len = inside-at len 15 3 (inr (inl refl)) (λ q. omega arith) (λ q. refl)

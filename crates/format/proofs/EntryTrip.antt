@@ -30,7 +30,7 @@ use Rattle.format.proofs.FieldTrip.{past-field, u16-read, u32-read, u32
 use Rattle.format.proofs.FieldTrip.{minute-read, written-again, minute-stands}
 use Rattle.format.proofs.MapBytes.{map-form, map-back}
 use Rattle.base.proofs.Inversion.{Says, by-row, by-step, neither}
-use Rattle.format.proofs.CarriedPlaces.{at-end, at-place, at-early}
+use Rattle.format.proofs.CarriedPlaces.{at-end, at-place, at-sixteen}
 use Rattle.list.proofs.Sound.{Sound, fault-says, faultless}
 use Rattle.format.proofs.FormCases.{seal-length, minute-length, entry-length}
 use Rattle.format.proofs.EntryCases.{entry-is, entry-legal, fields-taken}
@@ -167,7 +167,7 @@ module _ (f : Frame) (at : ℕ) (bs : List ℕ) (len : ℕ) (all : at + length b
       by-row P R (ltb (length bs) (sizeOf m)) _ _ (λ t. at-end len _ all)
       (λ l. by-row P R (defaultWritten f m e) _ _ (λ t. here h 5 (omega arith) (omega arith))
       (λ w. by-step (λ _. Sound f e) R P (entryFault f at e) _
-      (fault-says f at e R (λ _. at-early len at (omega arith)) (here h 6 (omega arith) (omega arith))
+      (fault-says f at e R (λ _. at-sixteen len at (omega arith)) (here h 6 (omega arith) (omega arith))
       (here h 7 (omega arith) (omega arith)))
       (λ _ s. taken legal (ltb-false _ _ l) w s)))
 

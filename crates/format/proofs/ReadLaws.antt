@@ -24,7 +24,7 @@ use Rattle.list.specs.declared.types.Entry.{Entry}
 use Rattle.list.specs.declared.types.Frame.{Frame}
 use Rattle.list.specs.declared.types.DayList.{DayList}
 use Rattle.base.proofs.Inversion.{Says, by-row, by-step, says-which, says-refusal, both}
-use Rattle.format.proofs.CarriedPlaces.{at-end, at-place, at-opening}
+use Rattle.format.proofs.CarriedPlaces.{at-end, at-place, at-fifteen}
 use Rattle.list.proofs.ClashFacts.{apart, first-clash, apart-told, first-told}
 use Rattle.list.proofs.Sound.{Header, header-says, OpensIn, opening-says, opening-passes, SoundList, well-formed}
 use Rattle.format.proofs.FieldTrip.{bytes-drop}
@@ -105,7 +105,7 @@ module _ (bs : List ℕ) where
   fifteen : from ≤ length bs → openingWritten bs ≡ true → PlaceIn (length bs) (code 15 (3 ∷ []))
   fifteen long w =
       let more : headerSize true ≤ length bs = rw w at long in
-      at-opening (length bs) (omega (arith, more))
+      at-fifteen (length bs) (omega (arith, more))
 
   opening-placed : from ≤ length bs → 1 ≤ f .h → (t : Bool) → openingWritten bs ≡ t
       → Says (λ _. OpensIn f) (PlaceIn (length bs)) (openingFault 3 f)

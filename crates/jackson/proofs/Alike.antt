@@ -1,5 +1,5 @@
 -- Lists that are planned alike: those that differ in their opening minute, serials, seals and kinds alone, if the value check answers both
--- alike, and so those equal by document 01's rule.
+-- alike, and so those equal by the documents' rule.
 -- Assumes nothing.
 use mathlib.Core.Path.{_≡_, refl, sym, ap, _∙_}
 use mathlib.Core.List.{List, [], _∷_, _++_, map}

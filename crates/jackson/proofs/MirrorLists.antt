@@ -1,6 +1,6 @@
 -- The mirrored list: its windows are the mirrored ones, and the value check accepts it if it accepts the list.
 -- Assumes nothing.
-use mathlib.Core.Path.{_≡_, refl, sym, ap, _∙_, fun-ext}
+use mathlib.Core.Path.{_≡_, refl, sym, ap, _∙_}
 use mathlib.Core.List.{List, [], _∷_, map}
 use Prim.Native.Nat.{ℕ, zero, suc, _-_, _<_, _≤_}
 use native.Mathlib.Omega.{arith}
@@ -8,14 +8,14 @@ use borrow.Author.Tests.{lt-ltb, le-ltb}
 use lib.ListN.{length, getD, length-map, length-take, List·getD-eq-default}
 use lib.Seq.{take-append-seam}
 use Rattle.base.proofs.Sums.{le-or-lt}
-use Rattle.list.specs.DayLists.{entriesOf, blank, wholeIn}
+use Rattle.list.specs.DayLists.{entriesOf, blank, SameBox}
 use Rattle.list.specs.Clashes.{InWindow}
 use Rattle.list.specs.Checks.{WellFormed}
 use Rattle.list.specs.declared.types.Entry.{Entry}
 use Rattle.list.specs.declared.types.Frame.{Frame}
 use Rattle.list.specs.declared.types.DayList.{DayList}
 use Rattle.list.proofs.ClashFacts.{clash-carried}
-use Rattle.list.proofs.Sound.{Sound, Every, every-at-places, sound-list, sound-at, list-apart, well-formed}
+use Rattle.list.proofs.Sound.{Sound, every-at-places, sound-list, sound-at, list-apart, well-formed}
 use Rattle.jackson.specs.Windows.{windowsOf}
 use Rattle.jackson.specs.Mirrors.{mirror, mirrorEntry, mirrorList}
 use Rattle.jackson.specs.Laws.{MirrorLaw}
@@ -30,24 +30,6 @@ mirror-sound f g e same always s =
       in-day = omega (arith, same);
       room = omega (arith, s .room, s .in-day);
     }
-
--- mirrored twice, sound entries are as they were
-mirrored-twice : (f : Frame) (es : List Entry) → Every (Sound f) es → map (mirrorEntry (f .h)) (map (mirrorEntry (f .h)) es) ≡ es
-mirrored-twice f [] sound = refl
-mirrored-twice f (e ∷ es) (s, more) = λ j. record {
-  serial = e .serial;
-  seal = e .seal;
-  r = r j;
-  d = d j;
-  p = e .p;
-  kind = e .kind;
-} ∷ mirrored-twice f es more j
-  where
-    r : f .h - (f .h - e .r) ≡ e .r
-    r = omega (arith, s .room, s .in-day)
-
-    d : f .h - (f .h - e .d) ≡ e .d
-    d = omega (arith, s .in-day)
 
 mapped-at : (f : Entry → Entry) (es : List Entry) (i : ℕ) → i < length es → getD (map f es) i blank ≡ f (getD es i blank)
 mapped-at f [] i h = absurd (omega arith)
@@ -84,12 +66,12 @@ module _ (l : DayList) where
           (λ over. let z = le-ltb i (length es) over in let q = past i over in record { r = rw (q, z); d = rw (q, z); p = rw q })
           (λ place. let z = lt-ltb i (length es) place in let q = entry-is i place in record { r = rw (q, z); d = rw (q, z); p = rw q })
 
-  -- the same entries are whole
-  kinds-are : wholeIn (mirrorList l) ≡ wholeIn l
-  kinds-are = fun-ext each
-    where
-      each : (i : ℕ) → wholeIn (mirrorList l) i ≡ wholeIn l i
-      each i = le-or-lt (length es) i (λ over. rw (past i over)) (λ place. rw (entry-is i place))
+  -- the boxes stay at their places
+  boxes-are : (i : ℕ) → SameBox (getD (entriesOf (mirrorList l)) i blank) (getD es i blank)
+  boxes-are i =
+      le-or-lt (length es) i
+      (λ over. rw (past i over) (record { serial = refl; seal = refl; p = refl; kind = refl }))
+      (λ place. rw (entry-is i place) (record { serial = refl; seal = refl; p = refl; kind = refl }))
 
   mirror-formed : WellFormed l → WellFormed (mirrorList l)
   mirror-formed formed =
@@ -123,13 +105,6 @@ module _ (l : DayList) where
           let z : InWindow (mirrorEntry h (getD es i blank)) t = rw (entry-is i place) at w in
           (omega (arith, z .0, z .1, s .in-day, s .room), omega (arith, z .0, z .1, s .in-day, s .room))
 
-  twice-are : WellFormed l → entriesOf (mirrorList (mirrorList l)) ≡ es
-  twice-are formed =
-      take-append-seam (map (mirrorEntry h) (entriesOf (mirrorList l))) _
-      ∙ ap (map (mirrorEntry h)) entries-are
-      ∙ mirrored-twice (l .frame) es (sound-list l formed .entries)
-
 -- the law holds of every list
 pub mirror-law : (l : DayList) → MirrorLaw l
-mirror-law l =
-    record { opening = refl; windows = windows-are l; kinds = kinds-are l; formed = mirror-formed l; twice = twice-are l }
+mirror-law l = record { opening = refl; windows = windows-are l; boxes = boxes-are l; formed = mirror-formed l }

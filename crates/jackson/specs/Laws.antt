@@ -3,8 +3,9 @@
 use Prim.Native.Nat.{ℕ, _<_}
 use mathlib.Core.Path.{_≡_}
 use mathlib.Core.Logic.{_↔_}
+use lib.ListN.{getD}
 use Rattle.base.specs.Outcomes.{Code, answered, refused}
-use Rattle.list.specs.DayLists.{entriesOf, wholeIn}
+use Rattle.list.specs.DayLists.{entriesOf, blank, SameBox}
 use Rattle.list.specs.Checks.{WellFormed}
 use Rattle.list.specs.declared.types.DayList.{DayList}
 use Rattle.jackson.specs.Windows.{Windows, windowsOf}
@@ -39,11 +40,10 @@ pub record ScheduleLaw (w : Windows) : Type 0 where
   pub follows : FollowsJackson w (placesIn (schedule w))
   pub one : (m : ℕ → ℕ) → FollowsJackson w m → (t : ℕ) → t < w .h → m t ≡ placesIn (schedule w) t
 
--- the law of the mirrored list, for every list: it has opening minute 0, the mirrored windows, and the kinds of the list; if the list is
--- well-formed, it is too, and mirrored twice the entries are as they were
+-- the law of the mirrored list, for every list: it has opening minute 0, the mirrored windows, and the boxes of the list, "places kept"; it
+-- is well-formed if the list is
 pub record MirrorLaw (l : DayList) : Type 0 where
   pub opening : mirrorList l .frame .opening ≡ 0
   pub windows : windowsOf (mirrorList l) ≡ mirror (windowsOf l)
-  pub kinds : wholeIn (mirrorList l) ≡ wholeIn l
+  pub boxes : (i : ℕ) → SameBox (getD (entriesOf (mirrorList l)) i blank) (getD (entriesOf l) i blank)
   pub formed : WellFormed l → WellFormed (mirrorList l)
-  pub twice : WellFormed l → entriesOf (mirrorList (mirrorList l)) ≡ entriesOf l

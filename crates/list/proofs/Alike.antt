@@ -1,4 +1,4 @@
--- Lists that are checked alike: those that differ in seals and kinds alone, and so those equal by document 01's rule.
+-- Lists that are checked alike: those that differ in seals and kinds alone, and so those equal by the documents' rule.
 -- Assumes nothing.
 use mathlib.Core.Path.{_≡_, refl, sym, ap, _∙_}
 use mathlib.Core.List.{List, [], _∷_, map}

@@ -78,7 +78,7 @@ module _ (l : DayList) where
       check-tells l Told
       (λ n x h. (λ at q. absurd (omega (arith, h, number q)), λ i q. absurd (omega (arith, h, number q))))
       (λ h. (λ _ _. h, λ i q. absurd (omega (arith, number q))))
-      (λ i h r. (λ at q. absurd (omega (arith, number q)), λ k q. subst Before (place q) (h, r)))
+      (λ i h r. (λ at q. absurd (omega (arith, number q)), λ k q. let z : i ≡ k = omega (arith, place q) in subst Before z (h, r)))
       (λ _ _. (λ at q. absurd (omega (arith, number q)), λ i q. absurd (omega (arith, number q))))
     where
       number : {n m x y : ℕ} → code n (x ∷ []) ≡ code m (y ∷ []) → n ≡ m
@@ -94,9 +94,9 @@ module _ (l : DayList) where
         accepted = (opened, closed);
         before = λ k e. rw e refl;
         fifteen = λ at e. (rw e at told) .0 at refl;
-        late = λ header h. rw (header, ← (opens-past-day 0 f h)) refl;
+        opens-past-day = λ header h. rw (header, ← (opens-past-day 0 f h)) refl;
         sixteen = λ i e. (rw e at told) .1 i refl;
-        early = λ header o i h none r.
+        before-opening = λ header o i h r none.
             let entry : entryFault f (0 + i) (getD es i blank) ≡ refused (code 16 (i ∷ [])) =
             simp zero-add (sym (before-opening f i _ r)) in
             rw (header, opening-passes 0 f o, first-fault f 0 es i h (λ j b. simp zero-add (none j b)) _ entry) refl;

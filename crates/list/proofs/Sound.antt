@@ -4,7 +4,7 @@ use mathlib.Core.Path.{_≡_, refl}
 use mathlib.Core.Bool.{_||_}
 use mathlib.Core.List.{List, [], _∷_}
 use Prim.Native.Nat.{ℕ, zero, suc, _+_, _≤_, _<_}
-use native.Mathlib.Nat.{add-zero, zero-add}
+use native.Mathlib.Nat.{add-zero}
 use native.Mathlib.Omega.{arith}
 use borrow.Author.Tests.{ltb-true, ltb-false, eqb-false, le-ltb, ne-eqb, leb-true, leb-false, lt-leb}
 use lib.Dec.{eqb, leb, ltb}
@@ -117,21 +117,25 @@ Low R = (k at : ℕ) → k ≤ 7 → R (code k (at ∷ []))
 abbrev pub High : (Code → Type 0) → Type 0
 High R = (k at : ℕ) → 15 ≤ k → R (code k (at ∷ []))
 
--- a fact of row 16 for those of the entries that come before the opening minute, the first at place i
-abbrev Early : (Code → Type 0) → Frame → ℕ → List Entry → Type 0
-Early R f i es = (j : ℕ) → j < length es → getD es j blank .r < f .opening → R (code 16 ((i + j) ∷ []))
+-- a fact of row 15, if the room opens when the day is over
+abbrev pub OfFifteen : (Code → Type 0) → Frame → Type 0
+OfFifteen R f = f .h ≤ f .opening → R (code 15 (0 ∷ []))
+
+-- a fact of row 16, for those of the entries that come before the opening minute, the first at place i
+abbrev pub OfSixteen : (Code → Type 0) → Frame → ℕ → List Entry → Type 0
+OfSixteen R f i es = (j : ℕ) → j < length es → getD es j blank .r < f .opening → R (code 16 ((i + j) ∷ []))
 
 module _ (f : Frame) where
   -- what follows from sound entries, an answer of their check says; a refusal says whatever holds of rows 16, 6 and 7
   checked-say : (R : Code → Type 0) → Low R
-      → (Q : Type 0) (i : ℕ) (es : List Entry) → Early R f i es → (Every (Sound f) es → Q) → Says (λ _. Q) R (entriesFault f i es)
+      → (Q : Type 0) (i : ℕ) (es : List Entry) → OfSixteen R f i es → (Every (Sound f) es → Q) → Says (λ _. Q) R (entriesFault f i es)
   unfolding entriesFault
-  checked-say R low Q i [] early q = q tt
-  checked-say R low Q i (e ∷ es) early q =
+  checked-say R low Q i [] sixteen q = q tt
+  checked-say R low Q i (e ∷ es) sixteen q =
       by-step (λ _. Sound f e) R (λ _. Q) (entryFault f i e) _
-      (fault-says f i e R (λ r. rw (add-zero i) at (early 0 (omega arith) r)) (low 6 i (omega arith)) (low 7 i (omega arith)))
+      (fault-says f i e R (λ r. rw (add-zero i) at (sixteen 0 (omega arith) r)) (low 6 i (omega arith)) (low 7 i (omega arith)))
       (λ _ s. checked-say R low Q (i + 1) es
-      (λ j h r. let z : i + suc j ≡ i + 1 + j = omega arith in rw z at (early (suc j) (omega arith) r)) (λ more. q (s, more)))
+      (λ j h r. let z : i + suc j ≡ i + 1 + j = omega arith in rw z at (sixteen (suc j) (omega arith) r)) (λ more. q (s, more)))
 
   checked-passes : (i : ℕ) (es : List Entry) → Every (Sound f) es → entriesFault f i es ≡ answered tt
   unfolding entriesFault
@@ -148,23 +152,17 @@ module _ (l : DayList) where
   abbrev es : List Entry
   es = entriesOf l
 
-  -- facts of rows 15 and 16 that hold if these are given
-  abbrev pub OfLate : (Code → Type 0) → Type 0
-  OfLate R = l .frame .h ≤ l .frame .opening → R (code 15 (0 ∷ []))
-
-  abbrev pub OfEarly : (Code → Type 0) → Type 0
-  OfEarly R = (i : ℕ) → i < length es → getD es i blank .r < l .frame .opening → R (code 16 (i ∷ []))
-
   -- what rows 2, 3, 15, 16, 6 and 7 say: of a refusal, whatever holds of each
-  values-say : (R : Code → Type 0) → Low R → OfLate R → OfEarly R → Says (λ _. SoundList l) R (valuesFault l)
+  values-say : (R : Code → Type 0) → Low R → OfFifteen R (l .frame) → OfSixteen R (l .frame) 0 es
+      → Says (λ _. SoundList l) R (valuesFault l)
   unfolding valuesFault
-  values-say R low late early =
+  values-say R low fifteen sixteen =
       let f = l .frame in
       let S : Unit {0} → Type 0 = λ _. SoundList l in
       by-step (λ _. Header (f .h) (l .n)) R S (headerFault 0 (f .h) (l .n)) _
       (header-says 0 (f .h) (l .n) R (low 2 0 (omega arith)) (low 3 0 (omega arith)))
-      (λ _ h. by-step (λ _. OpensIn f) R S (openingFault 0 f) _ (opening-says 0 f R late)
-      (λ _ o. checked-say f R low (SoundList l) 0 es (λ j h r. simp zero-add (early j h r))
+      (λ _ h. by-step (λ _. OpensIn f) R S (openingFault 0 f) _ (opening-says 0 f R fifteen)
+      (λ _ o. checked-say f R low (SoundList l) 0 es sixteen
       (λ s. record { header = h; opening = o; entries = s })))
 
   pub sound-values : SoundList l → valuesFault l ≡ answered tt
@@ -174,13 +172,13 @@ module _ (l : DayList) where
       (checked-passes (l .frame) 0 (entriesOf l) (s .entries))
 
   -- what the value check says: of a refusal, whatever holds of those rows and of 14
-  module _ (R : Code → Type 0) (low : Low R) (late : OfLate R) (early : OfEarly R)
+  module _ (R : Code → Type 0) (low : Low R) (fifteen : OfFifteen R (l .frame)) (sixteen : OfSixteen R (l .frame) 0 es)
       (fourteen : valuesFault l ≡ answered tt → FirstClash es (firstClash es) → R (code 14 (firstClash es ∷ [])))
     where
       passes-say : Says (λ _. SoundList l × Apart es) R (checkOf l)
       unfolding checkOf
       passes-say =
-          by-step (λ _. SoundList l) R (λ _. SoundList l × Apart es) (valuesFault l) _ (values-say R low late early)
+          by-step (λ _. SoundList l) R (λ _. SoundList l × Apart es) (valuesFault l) _ (values-say R low fifteen sixteen)
           (λ _ s. by-row (λ _. SoundList l × Apart es) R (ltb (firstClash es) (length es)) _ _
           (λ t. fourteen (sound-values s) (first-clash es (ltb-true _ _ t)))
           (λ t. (s, apart es (ltb-false _ _ t))))
@@ -195,7 +193,7 @@ module _ (l : DayList) where
   pub check-says : (R : Code → Type 0) → Low R → High R
       → (valuesFault l ≡ answered tt → FirstClash es (firstClash es) → R (code 14 (firstClash es ∷ [])))
       → Says (λ _. WellFormed l) R (checkOf l)
-  check-says R low high = check-tells R low (λ _. high 15 0 (omega arith)) (λ i _ _. high 16 i (omega arith))
+  check-says R low high = check-tells R low (λ _. high 15 0 (omega arith)) (λ i _ _. high 16 (0 + i) (omega arith))
 
   -- a list is well-formed exactly if its header and its entries are sound and no two entries clash
   passed : WellFormed l → SoundList l × Apart es

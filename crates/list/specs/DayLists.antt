@@ -58,6 +58,13 @@ pub record SameList (a b : DayList) : Type 0 where
   pub n : a .n ≡ b .n
   pub entries : entriesOf a ≡ entriesOf b
 
+-- entries that differ in their windows alone: serial, seal, minutes of work and kind stay
+pub record SameBox (e f : Entry) : Type 0 where
+  pub serial : e .serial ≡ f .serial
+  pub seal : e .seal ≡ f .seal
+  pub p : e .p ≡ f .p
+  pub kind : e .kind ≡ f .kind
+
 -- what the value check reads of an entry: not its seal and not its kind
 abbrev pub checkedFields : Entry → Entry
 checkedFields e = record { serial = e .serial; seal = Missing; r = e .r; d = e .d; p = e .p; kind = Pause }

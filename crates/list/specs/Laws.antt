@@ -23,13 +23,15 @@ pub record OpeningLaw (l : DayList) : Type 0 where
   -- rows 2 and 3 come first; then 15 is given for an opening minute of H or more, and for no other, "0 for a value"
   pub before : (k : Code) → headerFault 0 (l .frame .h) (l .n) ≡ refused k → checkOf l ≡ refused k
   pub fifteen : (at : ℕ) → checkOf l ≡ refused (code 15 (at ∷ [])) → l .frame .h ≤ l .frame .opening
-  pub late : headerFault 0 (l .frame .h) (l .n) ≡ answered tt → l .frame .h ≤ l .frame .opening → checkOf l ≡ refused (code 15 (0 ∷ []))
+  pub opens-past-day : headerFault 0 (l .frame .h) (l .n) ≡ answered tt → l .frame .h ≤ l .frame .opening
+      → checkOf l ≡ refused (code 15 (0 ∷ []))
   -- then 16 for the first entry that has a fault, if its r is before the opening minute, whatever its d and p are, and for no other
   pub sixteen : (i : ℕ) → checkOf l ≡ refused (code 16 (i ∷ []))
       → (i < length (entriesOf l)) × (getD (entriesOf l) i blank .r < l .frame .opening)
-  pub early : headerFault 0 (l .frame .h) (l .n) ≡ answered tt → l .frame .opening < l .frame .h → (i : ℕ) → i < length (entriesOf l)
+  pub before-opening : headerFault 0 (l .frame .h) (l .n) ≡ answered tt → l .frame .opening < l .frame .h
+      → (i : ℕ) → i < length (entriesOf l) → getD (entriesOf l) i blank .r < l .frame .opening
       → ((j : ℕ) → j < i → entryFault (l .frame) j (getD (entriesOf l) j blank) ≡ answered tt)
-      → getD (entriesOf l) i blank .r < l .frame .opening → checkOf l ≡ refused (code 16 (i ∷ []))
+      → checkOf l ≡ refused (code 16 (i ∷ []))
 
 -- `clash-law` of proofs/ClashLaws.antt
 pub record ClashLaw (l : DayList) : Type 0 where

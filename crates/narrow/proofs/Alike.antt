@@ -1,5 +1,5 @@
 -- Lists that are narrowed alike: those that differ in their opening minute, serials and seals alone, if the value check answers both alike,
--- and so those equal by document 01's rule; and what travels along into the list answered.
+-- and so those equal by the documents' rule; and what travels along into the list answered.
 -- Assumes nothing.
 use mathlib.Core.Path.{_≡_, refl, sym, ap, _∙_}
 use mathlib.Core.List.{List, [], _∷_, map, map-map}

@@ -22,7 +22,7 @@ use Rattle.narrow.proofs.StepsKeep.{Keeps}
 use Rattle.narrow.proofs.Costs.{round-cost, rounds-cost}
 use Rattle.narrow.proofs.NarrowLaws.{round-law, narrow-law}
 use Rattle.narrow.proofs.OverloadPlanner.{overload-planner}
-use Rattle.narrow.proofs.ListWindows.{listed-windows, listed-frame, listed-whole, listed-formed}
+use Rattle.narrow.proofs.ListWindows.{listed-windows, listed-frame, listed-boxes, listed-whole, listed-formed}
 
 -- the law of narrowing holds of a list that passes the value check
 settle-law : (l : DayList) → WellFormed l → NarrowLaw overloadOf (wholeIn l) (windowsOf l) (settleOf l)
@@ -50,6 +50,7 @@ module _ (l : DayList) (a : NarrowAnswer) where
         record {
           narrowed = narrowed (a .verdict) o (answers .outcome) refl;
           frame = λ e. let z = some (a .verdict) o (answers .outcome) refl e in rw (z .3) (listed-frame l (z .0));
+          boxes = λ e. let z = some (a .verdict) o (answers .outcome) refl e in rw (z .3) (listed-boxes l (z .0) (z .1));
           kinds = λ e. let z = some (a .verdict) o (answers .outcome) refl e in rw (z .3) (listed-whole l (z .0) (z .1));
           formed = λ e. let z = some (a .verdict) o (answers .outcome) refl e in rw (z .3) (listed-formed l (z .0) (z .1) (z .2));
         }

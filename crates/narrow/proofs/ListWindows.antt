@@ -4,7 +4,7 @@ use mathlib.Core.Path.{_≡_, refl, sym, ap, _∙_, fun-ext}
 use Prim.Native.Nat.{ℕ, _<_, _≤_}
 use native.Mathlib.Omega.{arith}
 use lib.ListN.{length, getD, length-take, List·getD-eq-default}
-use Rattle.list.specs.DayLists.{entriesOf, blank, isWhole, wholeIn}
+use Rattle.list.specs.DayLists.{entriesOf, blank, isWhole, wholeIn, SameBox}
 use Rattle.list.specs.Clashes.{InWindow}
 use Rattle.list.specs.Checks.{WellFormed}
 use Rattle.list.specs.declared.types.Entry.{Entry}
@@ -45,15 +45,16 @@ module _ (l : DayList) (w : Windows) (keeps : Keeps (windowsOf l) w) where
           (sym (keeps .past i h .0)) (sym (keeps .past i h .1)) (sym (keeps-p keeps i)))
           (λ h. at _ _ (listed-entry l w i h) i refl refl (sym (keeps-p keeps i)))
 
-  -- the same entries are whole
+  -- the boxes stay at their places
+  pub listed-boxes : (i : ℕ) → SameBox (getD (entriesOf (listWith l w)) i blank) (getD (entriesOf l) i blank)
+  listed-boxes i =
+      le-or-lt (windowsOf l .n) i
+      (λ h. rw (past-places i h .0 ∙ sym (past-places i h .1)) (record { serial = refl; seal = refl; p = refl; kind = refl }))
+      (λ h. rw (listed-entry l w i h) (record { serial = refl; seal = refl; p = refl; kind = refl }))
+
+  -- so the same entries are whole
   pub listed-whole : wholeIn (listWith l w) ≡ wholeIn l
-  listed-whole = fun-ext each
-    where
-      each : (i : ℕ) → wholeIn (listWith l w) i ≡ wholeIn l i
-      each i =
-          le-or-lt (windowsOf l .n) i
-          (λ h. ap (λ (e : Entry). isWhole (e .kind)) (past-places i h .0 ∙ sym (past-places i h .1)))
-          (λ h. ap (λ (e : Entry). isWhole (e .kind)) (listed-entry l w i h))
+  listed-whole = fun-ext (λ i. ap isWhole (listed-boxes i .kind))
 
   -- it passes the value check, if the list given does
   pub listed-formed : WellFormed l → WellFormed (listWith l w)

@@ -3,9 +3,10 @@ use Prim.Native.Nat.{ℕ, _+_}
 use mathlib.Core.Path.{_≡_}
 use mathlib.Core.Bool.{Bool}
 use mathlib.Core.List.{List, [], _∷_, map}
+use lib.ListN.{getD}
 use Rattle.base.specs.Outcomes.{Outcome, answered, refused, andThen}
 use Rattle.list.specs.Refusals.{outcomeOf}
-use Rattle.list.specs.DayLists.{entriesOf, dayList, emptyList, wholeIn}
+use Rattle.list.specs.DayLists.{entriesOf, blank, dayList, emptyList, wholeIn, SameBox}
 use Rattle.list.specs.Checks.{checkOf, WellFormed}
 use Rattle.list.specs.declared.types.Seal.the-variants.{Missing}
 use Rattle.list.specs.declared.types.Entry.{Entry}
@@ -89,11 +90,12 @@ pub record AnswersAs (l : DayList) (o : Outcome Narrowed) (a : NarrowAnswer) : T
   pub outcome : narrowAnswerOf a ≡ listed l o
   pub beside : (a .list, a .moves) ≡ standing (listed l o)
 
--- beside that: the list answered has the windows of the outcome, and H, the opening minute and the kinds of l; it passes the value check
--- itself
+-- beside that: the list answered has the windows of the outcome, and H, the opening minute and the boxes of l: "it travels inside its
+-- entry"; it passes the value check itself
 pub record HoldsAnswer (l : DayList) (o : Outcome Narrowed) (a : NarrowAnswer) : Type 0 where
   pub narrowed : narrowedIn a ≡ o
   pub frame : a .verdict ≡ Accepted → a .list .frame ≡ l .frame
+  pub boxes : a .verdict ≡ Accepted → (i : ℕ) → SameBox (getD (entriesOf (a .list)) i blank) (getD (entriesOf l) i blank)
   pub kinds : a .verdict ≡ Accepted → wholeIn (a .list) ≡ wholeIn l
   pub formed : a .verdict ≡ Accepted → WellFormed (a .list)
 

@@ -1,5 +1,5 @@
 -- Lists that are planned alike: those that differ in their opening minute, serials and seals alone, if the value check answers both alike,
--- and so those equal by document 01's rule.
+-- and so those equal by the documents' rule.
 -- Assumes nothing.
 use Prim.Native.Nat.{ℕ}
 use mathlib.Core.Path.{_≡_, refl}

@@ -1,5 +1,5 @@
 -- Demand 3 leaves one outcome, and of each place one least end, greatest start, early plan and late plan. Each call's contract leaves one
--- answer and one buffer, and the same for lists that are equal by document 01's rule.
+-- answer and one buffer, and the same for lists that are equal by the documents' rule.
 -- Assumes nothing.
 use mathlib.Core.Path.{_≡_, sym, ap, _∙_}
 use mathlib.Core.Bool.{Bool}
@@ -66,7 +66,7 @@ module _ {whole : ℕ → Bool} {w : Windows} (s t : Told) (a : Demand3 whole w 
     pub one-late : s .late k ≡ t .late k
     one-late = a .late-is v e k place .rule ∙ ap (latePlan (v .windows) k) one-start ∙ sym (b .late-is v too k place .rule)
 
--- Lists that are equal by document 01's rule, a list and itself among them, and two answers of each call.
+-- Lists that are equal by the documents' rule, a list and itself among them, and two answers of each call.
 module _ {a b : DayList} (s : SameList a b) where
   one-narrowed : (o u : Outcome Narrowed) → listed a o ≡ listed b u → (x y : NarrowAnswer) → AnswersAs a o x → AnswersAs b u y → x ≡ y
   one-narrowed o u same x y p q =
