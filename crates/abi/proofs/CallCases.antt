@@ -49,20 +49,20 @@ module _ {o : Outcome DayList} (a : ReadAnswer) (w : readAnswerOf a ≡ o) where
   turned-back x v = sym w ∙ ap (λ (t : Verdict). outcomeOf t (a .list)) v
 
 -- a refusal leaves the row as it was
-taken-refused : (x : Refusal) (old : List ℕ) (b : Answer) → RefusedAs x b → TakenCall (refused (codeOf x)) old b old
-taken-refused x old b q = record { answer = q; buffer = refl; back = λ l e. absurd (answered-refused e refl) }
+nothing-read : (x : Refusal) (old : List ℕ) (b : Answer) → RefusedAs x b → TakenCall (refused (codeOf x)) old b old
+nothing-read x old b q = record { answer = q; buffer = refl; back = λ l e. absurd (answered-refused e refl) }
 
-narrow-refused : (x : Refusal) (second : ℕ) (old : List ℕ) (b : Answer) → RefusedAs x b → NarrowCall (refused (codeOf x)) second old b old
-narrow-refused x second old b q = record { answer = q; buffer = refl; back = λ y e. absurd (answered-refused e refl) }
+nothing-narrowed : (x : Refusal) (second : ℕ) (old : List ℕ) (b : Answer) → RefusedAs x b → NarrowCall (refused (codeOf x)) second old b old
+nothing-narrowed x second old b q = record { answer = q; buffer = refl; back = λ y e. absurd (answered-refused e refl) }
 
 -- reading, after the test of the lent row
 module _ (bs old : List ℕ) (u : Verdict) (row : verdictOf u ≡ flatFault (length old)) where
   pub read-bad-length : (x : Refusal) (b : Answer) → u ≡ Refused x → VerdictAs u b → ReadCall bs old b old
-  read-bad-length x b v q = rw (by-refused row v) (taken-refused x old b (rw v at q))
+  read-bad-length x b v q = rw (by-refused row v) (nothing-read x old b (rw v at q))
 
   module _ (passed : u ≡ Accepted) (a : ReadAnswer) (w : Reads bs a) (b : Answer) (q : VerdictAs (a .verdict) b) where
-    pub read-refused : (x : Refusal) → a .verdict ≡ Refused x → ReadCall bs old b old
-    read-refused x v = rw (by-accepted row passed, turned-back a (w .outcome) x v) (taken-refused x old b (rw v at q))
+    pub bytes-refused : (x : Refusal) → a .verdict ≡ Refused x → ReadCall bs old b old
+    bytes-refused x v = rw (by-accepted row passed, turned-back a (w .outcome) x v) (nothing-read x old b (rw v at q))
 
     pub read-accepted : (fields : List ℕ) → a .verdict ≡ Accepted → StoresFlat (a .list) old fields → ReadCall bs old b fields
     read-accepted fields v put =
@@ -138,14 +138,14 @@ module _ (xs : List ℕ) (a : ReadAnswer) (x : Refusal) (v : a .verdict ≡ Refu
 
   module _ (fields : List ℕ) (w : readAnswerOf a ≡ flatBeside xs (length fields)) where
     pub settle-bad-length : SettleCall xs fields b fields
-    settle-bad-length = rw (turned-back a w x v) (narrow-refused x 0 fields b told)
+    settle-bad-length = rw (turned-back a w x v) (nothing-narrowed x 0 fields b told)
 
     pub plan-bad-length : (plan bounds : List ℕ) → PlanCall xs plan fields bounds b plan fields bounds
     plan-bad-length plan bounds =
-        rw (turned-back a w x v) (record { narrowed = narrow-refused x _ fields b told; plan = refl; bounds = refl })
+        rw (turned-back a w x v) (record { narrowed = nothing-narrowed x _ fields b told; plan = refl; bounds = refl })
 
     pub show-bad-length : (y : Shown) (k : ℕ) (plan : List ℕ) → ShowCall y xs k plan fields b plan fields
-    show-bad-length y k plan = rw (turned-back a w x v) (record { narrowed = narrow-refused x _ fields b told; plan = refl })
+    show-bad-length y k plan = rw (turned-back a w x v) (record { narrowed = nothing-narrowed x _ fields b told; plan = refl })
 
 -- what a writer answered, as numbers
 module _ (a : WriteAnswer) (b : Answer) (q : b ≡ answerWith (λ n. n ∷ []) (writeAnswerOf a)) (old new : List ℕ) where
@@ -181,7 +181,7 @@ module _ (old : List ℕ) (a : NarrowAnswer) (second : ℕ) where
 
   pub narrowed-refused : (x : Refusal) (b : Answer) → a .verdict ≡ Refused x → RefusedAs x b
       → NarrowCall (narrowAnswerOf a) second old b old
-  narrowed-refused x b v q = rw v (narrow-refused x second old b q)
+  narrowed-refused x b v q = rw v (nothing-narrowed x second old b q)
 
 -- the bounds that planning answered
 pub bounds-given : (a : PlanAnswer) (old new : List ℕ) → a .narrowed .verdict ≡ Accepted → new ≡ a .ends ++ a .starts

@@ -1,13 +1,14 @@
--- The mirrored list: its windows are the mirrored ones, and the value check accepts it if it accepts the list.
+-- The mirrored list: its windows are the mirrored ones, its boxes stay, and the value check accepts it if it accepts the list.
 -- Assumes nothing.
 use mathlib.Core.Path.{_≡_, refl, sym, ap, _∙_}
-use mathlib.Core.List.{List, [], _∷_, map}
-use Prim.Native.Nat.{ℕ, zero, suc, _-_, _<_, _≤_}
+use mathlib.Core.List.{List, map}
+use Prim.Native.Nat.{ℕ, suc, _-_, _<_, _≤_}
 use native.Mathlib.Omega.{arith}
 use borrow.Author.Tests.{lt-ltb, le-ltb}
 use lib.ListN.{length, getD, length-map, length-take, List·getD-eq-default}
 use lib.Seq.{take-append-seam}
 use Rattle.base.proofs.Sums.{le-or-lt}
+use Rattle.base.proofs.Walk.{mapped-at}
 use Rattle.list.specs.DayLists.{entriesOf, blank, SameBox}
 use Rattle.list.specs.Clashes.{InWindow}
 use Rattle.list.specs.Checks.{WellFormed}
@@ -31,11 +32,6 @@ mirror-sound f g e same always s =
       room = omega (arith, s .room, s .in-day);
     }
 
-mapped-at : (f : Entry → Entry) (es : List Entry) (i : ℕ) → i < length es → getD (map f es) i blank ≡ f (getD es i blank)
-mapped-at f [] i h = absurd (omega arith)
-mapped-at f (e ∷ es) zero h = refl
-mapped-at f (e ∷ es) (suc i) h = mapped-at f es i (omega arith)
-
 module _ (l : DayList) where
   abbrev h : ℕ
   h = l .frame .h
@@ -50,7 +46,7 @@ module _ (l : DayList) where
   count-is = ap length entries-are ∙ length-map es (mirrorEntry h)
 
   entry-is : (i : ℕ) → i < length es → getD (entriesOf (mirrorList l)) i blank ≡ mirrorEntry h (getD es i blank)
-  entry-is i place = ap (λ (xs : List Entry). getD xs i blank) entries-are ∙ mapped-at (mirrorEntry h) es i place
+  entry-is i place = ap (λ (xs : List Entry). getD xs i blank) entries-are ∙ mapped-at (mirrorEntry h) es blank blank i place
 
   -- from place n on there are none
   past : (i : ℕ) → length es ≤ i → getD (entriesOf (mirrorList l)) i blank ≡ getD es i blank

@@ -1,7 +1,7 @@
 -- The lent row's length, then the list read as numbers, or a refusal.
 -- Assumes nothing.
 use borrow.Author.Needs.{needs}
-use Rattle.abi.proofs.CallCases.{read-bad-length, read-refused, read-accepted}
+use Rattle.abi.proofs.CallCases.{read-bad-length, bytes-refused, read-accepted}
 use Rattle.abi.proofs.dock_read.Statement.{statement}
 use Rattle.abi.proofs.dock_read.Tie as tie
 
@@ -42,7 +42,7 @@ returns-2 c =
     let flat-fault = passed .before .before .flat-fault in
     let args = passed .before .before .before .before .before .args in
     let read = c .before .before .before .read in
-    read-refused (args .bytes .now) (args .fields .now) (flat-fault .result) (flat-fault .ensures) (passed .enum-told .given .1)
+    bytes-refused (args .bytes .now) (args .fields .now) (flat-fault .result) (flat-fault .ensures) (passed .enum-told .given .1)
     (read .result) (read .ensures) _ (c .verdict-as2 .ensures) _ (c .before .enum-told4 .given .1)
 
 put-flat-requires : tie.Need-put-flat-requires
