@@ -2,6 +2,7 @@
 //! with values that it does not write by chance, so that what it leaves alone can be told. A list crosses as a row of
 //! numbers with its length. Most calls here take any row, so that one of another length can be tried too.
 
+use crate::commits::Row;
 use crate::day::MOST_ENTRIES;
 use crate::flat::Fields;
 
@@ -39,6 +40,30 @@ extern "C" {
         narrowed: *mut u32,
         narrowed_numbers: usize,
     ) -> Answer;
+    fn dock_fresh(fields: *const u32, numbers: usize, day: *mut u32, day_numbers: usize) -> Answer;
+    fn dock_ask(
+        day: *const u32,
+        day_numbers: usize,
+        entry: *const u32,
+        entry_numbers: usize,
+        plan: *mut u8,
+        len: usize,
+        narrowed: *mut u32,
+        narrowed_numbers: usize,
+        bounds: *mut Bounds,
+    ) -> Answer;
+    fn dock_commit(
+        day: *mut u32,
+        day_numbers: usize,
+        entry: *const u32,
+        entry_numbers: usize,
+        stamp: u64,
+        plan: *mut u8,
+        len: usize,
+        narrowed: *mut u32,
+        narrowed_numbers: usize,
+        bounds: *mut Bounds,
+    ) -> Answer;
     fn dock_report(bytes: *const u8, len: usize, out: *mut u8, room: usize) -> Answer;
     fn dock_refusal_line(number: u64, values: *const [u64; 3], out: *mut u8, room: usize) -> Answer;
 }
@@ -58,6 +83,11 @@ const NUMBER_BESIDE: u32 = 0xEEEE_EEEE;
 /// What `fields` hold before a call.
 pub fn untouched_fields() -> Fields {
     std::array::from_fn(|i| 0xF1E1_D000 + i as u32)
+}
+
+/// What the row of a stamped day holds before a call.
+pub fn untouched_day() -> Row {
+    std::array::from_fn(|i| 0xDA15_0000 + i as u32)
 }
 
 /// What `out` and `plan` hold before a call: no byte of it is a place or 255.
@@ -200,6 +230,72 @@ pub fn ask_lending(
             Call::Plan => dock_plan(fields, numbers, plan, len, narrowed, more, bounds),
             Call::Early(place) => dock_early(fields, numbers, place, plan, len, narrowed, more),
             Call::Late(place) => dock_late(fields, numbers, place, plan, len, narrowed, more),
+        }
+    }
+}
+
+/// Makes a fresh day of a list through the library in this row, whatever it holds.
+pub fn fresh(fields: &[u32], day: &mut [u32]) -> Answer {
+    // SAFETY: the library reads the numbers of `fields` and writes those of `day`, all of them lent here.
+    lending(day, NUMBER_BESIDE, |day| unsafe {
+        dock_fresh(fields.as_ptr(), fields.len(), day.as_mut_ptr(), day.len())
+    })
+}
+
+/// The calls that take a stamped day and one more entry. A commit takes a stamp too.
+#[derive(Clone, Copy, Debug, PartialEq, Eq)]
+pub enum DayCall {
+    Ask,
+    Commit(u64),
+}
+
+/// Makes such a call of the library with this day and all else lent to it, whatever that holds.
+pub fn call_day(call: DayCall, day: &mut [u32], entry: &[u32], lent: &mut Lent) -> Answer {
+    let Lent { plan, narrowed, bounds } = lent;
+    call_day_lending(call, day, entry, plan, narrowed, bounds)
+}
+
+/// The same with a row of any length for the narrowed list.
+pub fn call_day_lending(
+    call: DayCall,
+    day: &mut [u32],
+    entry: &[u32],
+    plan: &mut [u8],
+    narrowed: &mut [u32],
+    bounds: &mut Bounds,
+) -> Answer {
+    lending(day, NUMBER_BESIDE, |day| {
+        lending(plan, BYTE_BESIDE, |plan| {
+            lending(narrowed, NUMBER_BESIDE, |narrowed| {
+                lending(bounds, NUMBER_BESIDE, |bounds| {
+                    let bounds = bounds.try_into().expect("as many bounds as were lent");
+                    dock_day(call, day, entry, plan, narrowed, bounds)
+                })
+            })
+        })
+    })
+}
+
+fn dock_day(
+    call: DayCall,
+    day: &mut [u32],
+    entry: &[u32],
+    plan: &mut [u8],
+    narrowed: &mut [u32],
+    bounds: &mut Bounds,
+) -> Answer {
+    let (day, numbers) = (day.as_mut_ptr(), day.len());
+    let (entry, fields) = (entry.as_ptr(), entry.len());
+    let (plan, len) = (plan.as_mut_ptr(), plan.len());
+    let (narrowed, more) = (narrowed.as_mut_ptr(), narrowed.len());
+    // SAFETY: the library reads two rows and writes bytes, a row and the bounds, a commit the day's row too,
+    // all of them lent here.
+    unsafe {
+        match call {
+            DayCall::Ask => dock_ask(day, numbers, entry, fields, plan, len, narrowed, more, bounds),
+            DayCall::Commit(stamp) => {
+                dock_commit(day, numbers, entry, fields, stamp, plan, len, narrowed, more, bounds)
+            }
         }
     }
 }

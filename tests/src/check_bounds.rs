@@ -18,8 +18,7 @@ pub fn calls(n: usize) -> Vec<Call> {
 
 /// What a call answers in these settled windows or with this refusal, and what it leaves in all that was
 /// lent: nothing is written beside a refusal.
-fn wanted(call: Call, expected: &Result<Narrowed, Refusal>, room: usize) -> (Answer, Lent) {
-    let mut lent = Lent::untouched(room);
+pub fn wanted(call: Call, expected: &Result<Narrowed, Refusal>, mut lent: Lent) -> (Answer, Lent) {
     let Narrowed { day, moves } = match expected {
         Ok(narrowed) => narrowed,
         Err(refusal) => return (refusing(refusal), lent),
@@ -52,7 +51,7 @@ fn wanted(call: Call, expected: &Result<Narrowed, Refusal>, room: usize) -> (Ans
 #[track_caller]
 fn alike(call: Call, fields: &Fields, room: usize, expected: &Result<Narrowed, Refusal>) -> (Answer, Lent) {
     let (answer, lent) = abi::ask(call, fields, room);
-    let (wanted, wanted_lent) = wanted(call, expected, room);
+    let (wanted, wanted_lent) = wanted(call, expected, Lent::untouched(room));
     assert_eq!(answer, wanted, "{call:?} of {:?} in {room} bytes", &fields[..]);
     assert_eq!(lent.plan, wanted_lent.plan, "plan buffer after {call:?} of {:?}", &fields[..]);
     let differs = (0..flat::SIZE).find(|&i| lent.narrowed[i] != wanted_lent.narrowed[i]);
@@ -105,26 +104,39 @@ pub fn ask_all(day: &Day) -> (Answer, Lent) {
 pub fn by_trying_everything(day: &Day) -> u64 {
     let expected = settled_by_trying(day);
     for call in calls(day.entries.len()) {
-        let room = usize::from(day.h);
-        let (answer, lent) = abi::ask(call, &flat::of_day(day), room);
-        match &expected {
-            Err(refusal) => {
-                assert_eq!(answer, refusing(refusal), "{call:?} of {day:?}");
-                assert!(lent == Lent::untouched(room), "a refusal writes nothing, {call:?} of {day:?}");
-            }
-            Ok(Narrowed { day: settled, moves }) => {
-                assert_eq!((answer.number, answer.values[0]), (0, *moves), "{call:?} of {day:?}");
-                assert!(lent.narrowed == flat::of_day(settled), "windows of {day:?} after {call:?}");
-                assert!(brute::is_plan(settled, &lent.plan), "{:?}, {call:?} of {day:?}", lent.plan);
-                match call {
-                    Call::Plan => is_planned(settled, answer, &lent),
-                    Call::Early(place) => is_early(settled, place as usize, answer, &lent.plan),
-                    Call::Late(place) => is_late(settled, place as usize, answer, &lent.plan),
-                }
+        let (answer, lent) = abi::ask(call, &flat::of_day(day), day.h.into());
+        is_right(call, day, &expected, answer, &lent);
+    }
+    expected.map_or_else(|refusal| refusal.code().0.into(), |_| 0)
+}
+
+/// Holds what planning a small day answered, and left in H bytes and all else that was lent to it untouched,
+/// against all plans.
+#[track_caller]
+pub fn planned_by_trying_everything(day: &Day, answer: Answer, lent: &Lent) {
+    is_right(Call::Plan, day, &settled_by_trying(day), answer, lent);
+}
+
+/// A call answered so of a day, and left this.
+#[track_caller]
+fn is_right(call: Call, day: &Day, expected: &Result<Narrowed, Refusal>, answer: Answer, lent: &Lent) {
+    match expected {
+        Err(refusal) => {
+            assert_eq!(answer, refusing(refusal), "{call:?} of {day:?}");
+            let before = Lent::untouched(day.h.into());
+            assert!(*lent == before, "a refusal writes nothing, {call:?} of {day:?}");
+        }
+        Ok(Narrowed { day: settled, moves }) => {
+            assert_eq!((answer.number, answer.values[0]), (0, *moves), "{call:?} of {day:?}");
+            assert!(lent.narrowed == flat::of_day(settled), "windows of {day:?} after {call:?}");
+            assert!(brute::is_plan(settled, &lent.plan), "{:?}, {call:?} of {day:?}", lent.plan);
+            match call {
+                Call::Plan => is_planned(settled, answer, lent),
+                Call::Early(place) => is_early(settled, place as usize, answer, &lent.plan),
+                Call::Late(place) => is_late(settled, place as usize, answer, &lent.plan),
             }
         }
     }
-    expected.map_or_else(|refusal| refusal.code().0.into(), |_| 0)
 }
 
 /// The settled windows and the moves, or the refusal, of narrowing by trying everything.

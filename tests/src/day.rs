@@ -28,8 +28,8 @@ pub struct Interval {
     pub work: u64,
 }
 
-/// The rows of document 01's table that the library's calls know, and 14, 15 and 16 of document 02, with what each
-/// carries; and 100, of a row of numbers that has another length than a list's.
+/// The rows of document 01's table that the library's calls know, and 14 to 18 of document 02, with what each
+/// carries; and 100, of a row of numbers of the wrong length.
 #[derive(Clone, Copy, Debug, PartialEq, Eq)]
 pub enum Refusal {
     Missing { length: usize },
@@ -48,6 +48,8 @@ pub enum Refusal {
     SerialClash { place: usize },
     Opening { carries: usize },
     BeforeOpening { place: usize },
+    StaleStamp { stamp: u16 },
+    DayFull { stamp: u16 },
     RowLength { numbers: usize },
 }
 
@@ -71,6 +73,8 @@ impl Refusal {
             Refusal::SerialClash { place } => (14, place),
             Refusal::Opening { carries } => (15, carries),
             Refusal::BeforeOpening { place } => (16, place),
+            Refusal::StaleStamp { stamp } => (17, usize::from(stamp)),
+            Refusal::DayFull { stamp } => (18, usize::from(stamp)),
             Refusal::RowLength { numbers } => (100, numbers),
         };
         (number, [carries as u64, 0, 0])

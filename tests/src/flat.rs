@@ -16,6 +16,7 @@ pub const fn at(place: usize) -> usize {
 }
 
 pub type Fields = [u32; SIZE];
+pub type Numbers = [u32; WIDTH];
 
 /// A list handed over as a value: any n, and 64 places of which those from n on mean nothing.
 #[derive(Clone, Debug)]
@@ -40,7 +41,12 @@ pub fn of_day(day: &Day) -> Fields {
 
 /// Puts an entry at a place.
 pub fn put(fields: &mut Fields, place: usize, entry: &Entry) {
-    let numbers = [
+    fields[at(place)..][..WIDTH].copy_from_slice(&numbers(entry));
+}
+
+/// The numbers of an entry.
+pub fn numbers(entry: &Entry) -> Numbers {
+    [
         entry.serial,
         u32::from(entry.seal.is_some()),
         entry.seal.unwrap_or(0),
@@ -48,28 +54,25 @@ pub fn put(fields: &mut Fields, place: usize, entry: &Entry) {
         u32::from(entry.d),
         u32::from(entry.p),
         u32::from(entry.whole),
-    ];
-    fields[at(place)..][..WIDTH].copy_from_slice(&numbers);
+    ]
 }
 
-fn minute(number: u32) -> u16 {
+/// The number of a field of 16 bits: one that is too large as 65,535.
+pub fn minute(number: u32) -> u16 {
     u16::try_from(number).unwrap_or(u16::MAX)
+}
+
+/// The entry that a place's numbers stand for.
+pub fn entry(&[serial, stands, seal, r, d, p, whole]: &Numbers) -> Entry {
+    let seal = (stands != 0).then_some(seal);
+    Entry { serial, seal, r: minute(r), d: minute(d), p: minute(p), whole: whole != 0 }
 }
 
 /// The value that 451 numbers stand for: a number too large for its field as the field's largest, which the
 /// rules then refuse, and any other number than 0 as a yes.
 pub fn value(fields: &Fields) -> Value {
-    let places = fields[at(0)..].chunks_exact(WIDTH).map(|place| match place {
-        &[serial, stands, seal, r, d, p, whole] => Entry {
-            serial,
-            seal: (stands != 0).then_some(seal),
-            r: minute(r),
-            d: minute(d),
-            p: minute(p),
-            whole: whole != 0,
-        },
-        _ => unreachable!("a place has {WIDTH} numbers"),
-    });
+    let places = fields[at(0)..].chunks_exact(WIDTH);
+    let places = places.map(|place| entry(place.try_into().expect("as many numbers as a place has")));
     let n = u8::try_from(fields[1]).unwrap_or(u8::MAX);
     Value { h: minute(fields[0]), n, opening: minute(fields[OPENING]), places: places.collect() }
 }

@@ -1,10 +1,11 @@
 //! Values that differ only in what a call must not look at. Serials count for 14 alone: where they change, no box is
 //! in two places before or after.
 
-use crate::day::Day;
-use crate::flat::{self, Fields, OPENING};
+use crate::abi::Lent;
+use crate::day::{Day, MOST_ENTRIES};
+use crate::flat::{self, Fields, OPENING, SIZE};
 use crate::random::Random;
-use crate::samples::told_apart;
+use crate::samples::{longest, told_apart};
 
 /// The numbers of a place that are not its window or its minutes.
 pub const SERIAL: usize = 0;
@@ -72,4 +73,17 @@ pub fn with_junk(random: &mut Random, fields: &Fields) -> [Fields; 4] {
             _ => 1,
         })
     })
+}
+
+/// What may stand in the lent buffers: zeros, ones, the largest numbers, a list with its plan.
+pub fn contents(room: usize) -> Vec<Lent> {
+    let filled = |byte, number| Lent {
+        plan: vec![byte; room],
+        narrowed: [number; SIZE],
+        bounds: [number; 2 * MOST_ENTRIES],
+    };
+    let mut list = filled(0, 0);
+    list.narrowed = flat::of_day(&longest());
+    list.bounds = std::array::from_fn(|i| i as u32);
+    vec![filled(0, 0), filled(1, 1), filled(255, u32::MAX), list, Lent::untouched(room)]
 }

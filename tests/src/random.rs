@@ -2,8 +2,10 @@
 //! equal serials stand in windows that share no minute; those that are drawn or doubled may be refused with 14.
 
 mod damage;
+mod one_more;
 
 pub use damage::{damaged, damaged_form, damaged_opened, wild_fields, with_header_changed};
+pub use one_more::{first_list, long_list, one_more, room_near, stamp_near};
 
 use crate::day::{Day, Entry, LONGEST_DAY, MOST_ENTRIES};
 use crate::opening;

@@ -28,9 +28,9 @@ pub fn lists() -> Vec<Fields> {
     days.iter().map(flat::of_day).chain(wrong).chain([[0; flat::SIZE]]).collect()
 }
 
-/// The first numbers of a list, so many of them, with zeros after them if that is more than a list has.
-pub fn of_length(fields: &Fields, numbers: usize) -> Vec<u32> {
-    let mut row = fields.to_vec();
+/// The first numbers of a row, so many of them, with zeros after them if that is more than it has.
+pub fn of_length(row: &[u32], numbers: usize) -> Vec<u32> {
+    let mut row = row.to_vec();
     row.resize(numbers, 0);
     row
 }

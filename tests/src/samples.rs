@@ -76,6 +76,13 @@ pub fn boxes(h: u16, entries: &str) -> Day {
     whole(windows(h, &all), &wholes)
 }
 
+/// One entry in short, with this serial.
+pub fn one_box(serial: u32, entry: &str) -> Entry {
+    let mut entries = boxes(1, entry).entries;
+    assert_eq!(entries.len(), 1, "{entry} is one entry");
+    Entry { serial, ..entries.remove(0) }
+}
+
 /// Found by search: 16 whole entries in 100 minutes that are settled with 68 moves.
 pub fn many_moves() -> Day {
     boxes(

@@ -1,6 +1,6 @@
 -- What the calls leave, from what the crates below answer.
 -- Assumes nothing.
-use mathlib.Core.Path.{_≡_, refl, sym, ap, subst, _∙_}
+use mathlib.Core.Path.{_≡_, refl, ap, subst, _∙_}
 use mathlib.Core.List.{List, [], _∷_, _++_}
 use Prim.Native.Nat.{ℕ}
 use borrow.Author.Tests.{eq-eqb}
@@ -8,8 +8,8 @@ use lib.ListN.{length}
 use Rattle.base.specs.Outcomes.{Outcome, answered, refused, andThen}
 use Rattle.base.proofs.Inversion.{answered-same, answered-refused, Says, Anything, by-step}
 use Rattle.list.specs.DayLists.{emptyList}
-use Rattle.list.specs.Refusals.{codeOf, verdictOf, outcomeOf, readAnswerOf, writeAnswerOf}
-use Rattle.list.proofs.Verdicts.{by-accepted, by-refused}
+use Rattle.list.specs.Refusals.{codeOf, verdictOf, readAnswerOf, writeAnswerOf}
+use Rattle.list.proofs.Verdicts.{by-verdict, by-accepted, by-refused}
 use Rattle.format.specs.Calls.{Reads, Writes}
 use Rattle.list.specs.declared.types.DayList.{DayList}
 use Rattle.list.specs.declared.types.Refusal.{Refusal}
@@ -21,7 +21,7 @@ use Rattle.jackson.specs.Calls.{Tests, Fills}
 use Rattle.narrow.specs.Calls.{narrowAnswerOf, narrowedIn, Settles}
 use Rattle.narrow.specs.declared.types.NarrowAnswer.{NarrowAnswer}
 use Rattle.bounds.specs.declared.types.Shown.{Shown}
-use Rattle.planner.specs.Calls.{settledOr, PlansDay, Shows}
+use Rattle.planner.specs.Calls.{narrowAfter, settledOr, PlansAfter, PlansDay, Shows}
 use Rattle.planner.specs.declared.types.PlanAnswer.{PlanAnswer}
 use Rattle.planner.specs.declared.types.ShownAnswer.{ShownAnswer}
 use Rattle.report.specs.Calls.{StoresText}
@@ -29,7 +29,8 @@ use Rattle.codes.specs.Codes.{three}
 use Rattle.flat.specs.Flat.{flatNumbers, flatOf, valueOf, flatFault, listIn, ReadsFlat, StoresFlat}
 use Rattle.flat.proofs.LengthCases.{length-says, length-right, list-says}
 use Rattle.abi.specs.Calls.{answerWith, flatBeside, ReadCall, WriteCall, OverloadCall, ScheduleCall, NarrowCall, SettleCall, PlanCall}
-use Rattle.abi.specs.Calls.{TakenCall, ShowCall, TextCall}
+use Rattle.abi.specs.Calls.{TakenCall, PlannedCall, ShowCall, TextCall}
+use Rattle.abi.specs.Internal.{GivesPlanned}
 use Rattle.abi.specs.declared.Answer.{Answer}
 
 -- an answer made of a refusal
@@ -43,17 +44,23 @@ VerdictAs v b = b ≡ answerWith (λ _. []) (verdictOf v)
 -- what an answer's verdict tells of the outcome that it says
 module _ {o : Outcome DayList} (a : ReadAnswer) (w : readAnswerOf a ≡ o) where
   taken : a .verdict ≡ Accepted → o ≡ answered (a .list)
-  taken v = sym w ∙ ap (λ (t : Verdict). outcomeOf t (a .list)) v
+  taken = by-verdict (a .list) w
 
   turned-back : (x : Refusal) → a .verdict ≡ Refused x → o ≡ refused (codeOf x)
-  turned-back x v = sym w ∙ ap (λ (t : Verdict). outcomeOf t (a .list)) v
+  turned-back x = by-verdict (a .list) w
 
 -- a refusal leaves the row as it was
 nothing-read : (x : Refusal) (old : List ℕ) (b : Answer) → RefusedAs x b → TakenCall (refused (codeOf x)) old b old
 nothing-read x old b q = record { answer = q; buffer = refl; back = λ l e. absurd (answered-refused e refl) }
 
-nothing-narrowed : (x : Refusal) (second : ℕ) (old : List ℕ) (b : Answer) → RefusedAs x b → NarrowCall (refused (codeOf x)) second old b old
-nothing-narrowed x second old b q = record { answer = q; buffer = refl; back = λ y e. absurd (answered-refused e refl) }
+nothing-narrowed : (x : Refusal) (second third : ℕ) (old : List ℕ) (b : Answer) → RefusedAs x b
+    → NarrowCall (refused (codeOf x)) second third old b old
+nothing-narrowed x second third old b q = record { answer = q; buffer = refl; back = λ y e. absurd (answered-refused e refl) }
+
+pub nothing-planned : (x : Refusal) (l : DayList) (third : ℕ) (plan fields bounds : List ℕ) (b : Answer) → RefusedAs x b
+    → PlannedCall l (refused (codeOf x)) third plan fields bounds b plan fields bounds
+nothing-planned x l third plan fields bounds b q =
+    record { narrowed = nothing-narrowed x _ third fields b q; plan = refl; bounds = refl }
 
 -- reading, after the test of the lent row
 module _ (bs old : List ℕ) (u : Verdict) (row : verdictOf u ≡ flatFault (length old)) where
@@ -68,7 +75,7 @@ module _ (bs old : List ℕ) (u : Verdict) (row : verdictOf u ≡ flatFault (len
     read-accepted fields v put =
         let z = by-accepted row passed in
         let o = taken a (w .outcome) v in
-        let long = length-right (length old) z in
+        let long = length-right _ (length old) z in
         let stored : fields ≡ flatOf (a .list) = rw (eq-eqb _ _ long) at (put .numbers) in
         rw (z, o) (record { answer = rw v at q; buffer = stored; back = λ l e. put .back long ∙ e })
 
@@ -103,8 +110,8 @@ module _ (xs fields : List ℕ) where
 
   lent-says : (l : DayList) → l ≡ valueOf xs → Says Passed Anything (andThen (flatFault (length fields)) (λ _. answered l))
   lent-says l e =
-      by-step (λ _. length fields ≡ flatNumbers) Anything Passed (flatFault (length fields)) (λ _. answered l) (length-says (length fields))
-      (λ _ long. (e, long))
+      by-step (λ _. length fields ≡ flatNumbers) Anything Passed (flatFault (length fields)) (λ _. answered l)
+      (length-says flatNumbers (length fields)) (λ _ long. (e, long))
 
   beside-says : Says Passed Anything (flatBeside xs (length fields))
   beside-says =
@@ -138,14 +145,14 @@ module _ (xs : List ℕ) (a : ReadAnswer) (x : Refusal) (v : a .verdict ≡ Refu
 
   module _ (fields : List ℕ) (w : readAnswerOf a ≡ flatBeside xs (length fields)) where
     pub settle-bad-length : SettleCall xs fields b fields
-    settle-bad-length = rw (turned-back a w x v) (nothing-narrowed x 0 fields b told)
+    settle-bad-length = rw (turned-back a w x v) (nothing-narrowed x 0 0 fields b told)
 
     pub plan-bad-length : (plan bounds : List ℕ) → PlanCall xs plan fields bounds b plan fields bounds
     plan-bad-length plan bounds =
-        rw (turned-back a w x v) (record { narrowed = nothing-narrowed x _ fields b told; plan = refl; bounds = refl })
+        rw (turned-back a w x v) (nothing-planned x _ 0 plan fields bounds b told)
 
     pub show-bad-length : (y : Shown) (k : ℕ) (plan : List ℕ) → ShowCall y xs k plan fields b plan fields
-    show-bad-length y k plan = rw (turned-back a w x v) (record { narrowed = nothing-narrowed x _ fields b told; plan = refl })
+    show-bad-length y k plan = rw (turned-back a w x v) (record { narrowed = nothing-narrowed x _ 0 fields b told; plan = refl })
 
 -- what a writer answered, as numbers
 module _ (a : WriteAnswer) (b : Answer) (q : b ≡ answerWith (λ n. n ∷ []) (writeAnswerOf a)) (old new : List ℕ) where
@@ -167,9 +174,9 @@ module _ (xs : List ℕ) (l : DayList) (g : Given xs (listIn xs) l) (v : Verdict
       rw (g .passed) (record { answer = q ∙ ap (answerWith (λ _. [])) (f .outcome); buffer = f .buffer })
 
 -- what narrowing answered, in numbers
-module _ (old : List ℕ) (a : NarrowAnswer) (second : ℕ) where
+module _ (old : List ℕ) (a : NarrowAnswer) (second third : ℕ) where
   pub narrowed-given : (fields : List ℕ) → length old ≡ flatNumbers → a .verdict ≡ Accepted → StoresFlat (a .list) old fields
-      → NarrowCall (narrowAnswerOf a) second old (record { number = 0; values = a .moves ∷ second ∷ 0 ∷ [] }) fields
+      → NarrowCall (narrowAnswerOf a) second third old (record { number = 0; values = a .moves ∷ second ∷ third ∷ [] }) fields
   narrowed-given fields long v put =
       let stored : fields ≡ flatOf (a .list) = rw (eq-eqb _ _ long) at (put .numbers) in
       rw v
@@ -180,38 +187,44 @@ module _ (old : List ℕ) (a : NarrowAnswer) (second : ℕ) where
       })
 
   pub narrowed-refused : (x : Refusal) (b : Answer) → a .verdict ≡ Refused x → RefusedAs x b
-      → NarrowCall (narrowAnswerOf a) second old b old
-  narrowed-refused x b v q = rw v (nothing-narrowed x second old b q)
+      → NarrowCall (narrowAnswerOf a) second third old b old
+  narrowed-refused x b v q = rw v (nothing-narrowed x second third old b q)
 
 -- the bounds that planning answered
 pub bounds-given : (a : PlanAnswer) (old new : List ℕ) → a .narrowed .verdict ≡ Accepted → new ≡ a .ends ++ a .starts
     → new ≡ settledOr old (λ _. a .ends ++ a .starts) (narrowedIn (a .narrowed))
 bounds-given a old new v q = rw v q
 
+-- what planning answered after any checks, in numbers
+pub planned-said : {checks : Outcome (Unit {0})} {l : DayList} {a : PlanAnswer} {third : ℕ} {b : Answer}
+    {oldPlan newPlan oldFields newFields oldBounds newBounds : List ℕ}
+    → PlansAfter checks l oldPlan a newPlan → GivesPlanned a third oldFields oldBounds b newFields newBounds
+    → PlannedCall l (narrowAfter checks l) third oldPlan oldFields oldBounds b newPlan newFields newBounds
+planned-said w given =
+    record {
+      narrowed = rw (← (w .answers .outcome), ← (w .broken)) (given .narrowed);
+      plan = w .buffer;
+      bounds = rw (← (w .ends), ← (w .starts), ← (w .holds .narrowed)) (given .bounds);
+    }
+
 -- narrowing, planning and showing a plan of the list value that was given
 module _ (xs oldFields newFields : List ℕ) (l : DayList) (g : Given xs (flatBeside xs (length oldFields)) l) (b : Answer) where
-  pub settle-said : (a : NarrowAnswer) → NarrowCall (narrowAnswerOf a) 0 oldFields b newFields → Settles l a
+  pub settle-said : (a : NarrowAnswer) → NarrowCall (narrowAnswerOf a) 0 0 oldFields b newFields → Settles l a
       → SettleCall xs oldFields b newFields
   settle-said a given w =
-      rw (g .passed, ← (g .value)) (subst (λ (u : Outcome (DayList × ℕ)). NarrowCall u 0 oldFields b newFields) (w .answers .outcome) given)
+      rw (g .passed, ← (g .value))
+      (subst (λ (u : Outcome (DayList × ℕ)). NarrowCall u 0 0 oldFields b newFields) (w .answers .outcome) given)
 
   pub plan-said : (oldPlan newPlan oldBounds newBounds : List ℕ) (a : PlanAnswer)
       → PlansDay l oldPlan a newPlan
-      → newBounds ≡ settledOr oldBounds (λ _. a .ends ++ a .starts) (narrowedIn (a .narrowed))
-      → NarrowCall (narrowAnswerOf (a .narrowed)) (a .broken) oldFields b newFields
+      → GivesPlanned a 0 oldFields oldBounds b newFields newBounds
       → PlanCall xs oldPlan oldFields oldBounds b newPlan newFields newBounds
-  plan-said oldPlan newPlan oldBounds newBounds a w bounds given =
-      let f : PlansDay (valueOf xs) oldPlan a newPlan = subst (λ (k : DayList). PlansDay k oldPlan a newPlan) (g .value) w in
-      rw (g .passed)
-      (record {
-        narrowed = rw (← (f .answers .outcome), ← (f .broken)) given;
-        plan = f .buffer;
-        bounds = rw (← (f .ends), ← (f .starts), ← (f .holds .narrowed)) bounds;
-      })
+  plan-said oldPlan newPlan oldBounds newBounds a w given =
+      rw (g .passed) (planned-said (subst (λ (k : DayList). PlansDay k oldPlan a newPlan) (g .value) w) given)
 
   pub shown-said : (x : Shown) (k : ℕ) (oldPlan newPlan : List ℕ) (a : ShownAnswer)
       → Shows x l k oldPlan a newPlan
-      → NarrowCall (narrowAnswerOf (a .narrowed)) (a .bound) oldFields b newFields
+      → NarrowCall (narrowAnswerOf (a .narrowed)) (a .bound) 0 oldFields b newFields
       → ShowCall x xs k oldPlan oldFields b newPlan newFields
   shown-said x k oldPlan newPlan a w given =
       let f : Shows x (valueOf xs) k oldPlan a newPlan = subst (λ (v : DayList). Shows x v k oldPlan a newPlan) (g .value) w in

@@ -1,2 +1,3 @@
 -- What the code's proofs cite, case by case.
 mod CallCases
+mod DayCases

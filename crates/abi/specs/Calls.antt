@@ -74,35 +74,35 @@ abbrev pub narrowedAfter : Outcome (DayList × ℕ) → List ℕ → List ℕ
 narrowedAfter (answered x) old = flatOf (x .0)
 narrowedAfter (refused k) old = old
 
--- an answer where narrowing has the outcome o, with the moves first and then this number, and what it leaves in a row that held old: a row
--- that says the list answered
-pub record NarrowCall (o : Outcome (DayList × ℕ)) (second : ℕ) (old : List ℕ) (a : Answer) (fields : List ℕ) : Type 0 where
-  pub answer : a ≡ answerWith (λ x. x .1 ∷ second ∷ []) o
+-- an answer where narrowing has the outcome o, with the moves first and then these numbers, and what it leaves in a row that held old: a
+-- row that says the list answered
+pub record NarrowCall (o : Outcome (DayList × ℕ)) (second third : ℕ) (old : List ℕ) (a : Answer) (fields : List ℕ) : Type 0 where
+  pub answer : a ≡ answerWith (λ x. x .1 ∷ second ∷ third ∷ []) o
   pub buffer : fields ≡ narrowedAfter o old
   pub back : (x : DayList × ℕ) → o ≡ answered x → listIn fields ≡ answered (x .0)
 
 -- what `dock_settle` answers of the row xs, and leaves in a row that held old: the moves alone
 abbrev pub SettleCall : List ℕ → List ℕ → Answer → List ℕ → Type 0
-SettleCall xs old = NarrowCall (listed (valueOf xs) (andThen (flatBeside xs (length old)) settleOf)) 0 old
+SettleCall xs old = NarrowCall (listed (valueOf xs) (andThen (flatBeside xs (length old)) settleOf)) 0 0 old
 
--- an answer where planning the list l has the outcome o, with the moves and the number of broken entries, and what it leaves in a plan
--- buffer, a row and bounds that held the old ones: the bounds are the least ends, then the greatest starts
-pub record PlannedCall (l : DayList) (o : Outcome Narrowed) (oldPlan oldFields oldBounds : List ℕ)
+-- an answer where planning the list l has the outcome o, with the moves, the number of broken entries and a third number, and what it
+-- leaves in a plan buffer, a row and bounds that held the old ones: the bounds are the least ends, then the greatest starts
+pub record PlannedCall (l : DayList) (o : Outcome Narrowed) (third : ℕ) (oldPlan oldFields oldBounds : List ℕ)
     (a : Answer) (newPlan newFields newBounds : List ℕ) : Type 0 where
-  pub narrowed : NarrowCall (listed l o) (brokenOf (wholeIn l) o) oldFields a newFields
+  pub narrowed : NarrowCall (listed l o) (brokenOf (wholeIn l) o) third oldFields a newFields
   pub plan : newPlan ≡ planned schedule oldPlan o
   pub bounds : newBounds ≡ settledOr oldBounds (λ _. endsOf (wholeIn l) o ++ startsOf (wholeIn l) o) o
 
 -- what `dock_plan` answers of the row xs, and leaves in what is lent
 abbrev pub PlanCall : List ℕ → List ℕ → List ℕ → List ℕ → Answer → List ℕ → List ℕ → List ℕ → Type 0
 PlanCall xs oldPlan oldFields =
-    PlannedCall (valueOf xs) (andThen (flatBeside xs (length oldFields)) (λ l. planOf l (length oldPlan))) oldPlan oldFields
+    PlannedCall (valueOf xs) (andThen (flatBeside xs (length oldFields)) (λ l. planOf l (length oldPlan))) 0 oldPlan oldFields
 
 -- an answer where showing the plan x of place k of the list l has the outcome o, with the moves and the place's bound in the settled
 -- windows, and what it leaves in a plan buffer and a row that held the old ones
 pub record ShownCall (x : Shown) (l : DayList) (k : ℕ) (o : Outcome Narrowed) (oldPlan oldFields : List ℕ) (a : Answer)
     (newPlan newFields : List ℕ) : Type 0 where
-  pub narrowed : NarrowCall (listed l o) (settledOr 0 (boundOf x (wholeIn l) k) o) oldFields a newFields
+  pub narrowed : NarrowCall (listed l o) (settledOr 0 (boundOf x (wholeIn l) k) o) 0 oldFields a newFields
   pub plan : newPlan ≡ planned (shownPlan x (wholeIn l) k) oldPlan o
 
 -- what `dock_early` and `dock_late` answer of the row xs and a place k, and leave in what is lent

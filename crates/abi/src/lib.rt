@@ -1,9 +1,12 @@
 // The planner's calls for programs in other languages: slices and numbers only.
-// Promises: each call answers 0 or a refusal's number, with its values, and leaves in its buffers what specs/Calls.antt says, whatever the
-// bytes and numbers are. A list value crosses as a row of 451 numbers (crate flat). `bytes`, `out` and `plan`, and the rows `fields` and
-// `narrowed`, come with their lengths; a row of another length is refused as 100 before all else, the one given before the one lent.
-// What a call cannot check are the pointers and that they have the lengths told: `bounds` has 128 numbers and `values` 3, and no two of
-// what is lent overlap. Uses all crates but dock.
+// Promises: each call answers 0 or a refusal's number, with its values, and leaves in its buffers what specs/Calls.antt and
+// specs/DayCalls.antt say, whatever the bytes and numbers are. A list value crosses as a row of 451 numbers, a stamped day as one of 452,
+// an entry as one of 7 (crate flat). `bytes`, `out` and `plan`, and the rows `fields`, `narrowed`, `day` and `entry`, come with their
+// lengths; a row of another length is refused as 100 before all else, those given before the one lent. What a call cannot check are the
+// pointers and that they have the lengths told: `bounds` has 128 numbers and `values` 3, and no two of what is lent overlap. Uses all
+// crates but dock.
+mod days;
+
 use codes::RefusalCode;
 use flat::BOUNDS;
 use flat::flat_fault;
@@ -30,6 +33,7 @@ ghost use Rattle.codes.specs.Codes.{three};
 ghost use Rattle.flat.specs.Flat.{flatNumbers};
 ghost use Rattle.abi.specs.Calls.{answerWith, ReadCall, WriteCall, OverloadCall, ScheduleCall, NarrowCall, SettleCall, PlanCall};
 ghost use Rattle.abi.specs.Calls.{EarlyCall, LateCall, ReportCall, LineCall, flatBeside};
+ghost use Rattle.abi.specs.Internal.{GivesPlanned};
 
 // What a call answers: 0 or a refusal's number, and three values, 0 where there are fewer.
 #[repr(C)]
@@ -49,7 +53,7 @@ fn refused_as(x: Refusal) -> Answer
     }
 }
 
-fn verdict_as(v: Verdict) -> Answer
+pub(crate) fn verdict_as(v: Verdict) -> Answer
     ensures { λ a. ⌜ a ≡ answerWith (λ _. []) (verdictOf v) ⌝ }
 {
     match v {
@@ -149,10 +153,10 @@ pub extern "C" fn dock_schedule(fields: &[u32], plan: &mut [u8]) -> Answer
     verdict_as(verdict)
 }
 
-// What narrowing answered: the values are the moves and this second one, and `narrowed` is the list; refused, it keeps its values.
-fn give_narrowed(answer: NarrowAnswer, second: u64, narrowed: &mut [u32]) -> Answer
+// What narrowing answered: the values are the moves and these two, and `narrowed` is the list; refused, it keeps its values.
+fn give_narrowed(answer: NarrowAnswer, second: u64, third: u64, narrowed: &mut [u32]) -> Answer
     requires { ⌜ length (now narrowed) ≡ flatNumbers ⌝ }
-    ensures { λ a. ⌜ NarrowCall (narrowAnswerOf answer) second (now (narrowed .entry)) a (now (narrowed .exit)) ⌝ }
+    ensures { λ a. ⌜ NarrowCall (narrowAnswerOf answer) second third (now (narrowed .entry)) a (now (narrowed .exit)) ⌝ }
 {
     let verdict = answer.verdict;
     match verdict {
@@ -160,7 +164,7 @@ fn give_narrowed(answer: NarrowAnswer, second: u64, narrowed: &mut [u32]) -> Ans
             put_flat(answer.list, narrowed);
             Answer {
                 number: 0,
-                values: [answer.moves as u64, second, 0],
+                values: [answer.moves as u64, second, third],
             }
         }
         Verdict::Refused(x) => refused_as(x),
@@ -177,7 +181,7 @@ pub extern "C" fn dock_settle(fields: &[u32], narrowed: &mut [u32]) -> Answer
     let Verdict::Accepted = fault else {
         return verdict_as(fault);
     };
-    give_narrowed(narrow::settle(given.list), 0, narrowed)
+    give_narrowed(narrow::settle(given.list), 0, 0, narrowed)
 }
 
 // The bounds that planning answered; refused, `bounds` keeps its values.
@@ -193,6 +197,22 @@ fn give_bounds(answer: PlanAnswer, bounds: &mut [u32; BOUNDS])
     let ends = answer.ends;
     let starts = answer.starts;
     *bounds = joined(ends, starts);
+}
+
+// What planning answered: the values are the moves, the number of broken entries and this third one, `narrowed` is the list, and `bounds`
+// are the bounds; refused, both keep their values.
+pub(crate) fn give_planned(
+    answer: PlanAnswer,
+    third: u64,
+    narrowed: &mut [u32],
+    bounds: &mut [u32; BOUNDS],
+) -> Answer
+    requires { ⌜ length (now narrowed) ≡ flatNumbers ⌝ }
+    ensures { λ a. ⌜ GivesPlanned answer third (now (narrowed .entry)) (now (bounds .entry)) a
+        (now (narrowed .exit)) (now (bounds .exit)) ⌝ }
+{
+    give_bounds(answer, bounds);
+    give_narrowed(answer.narrowed, answer.broken as u64, third, narrowed)
 }
 
 // Plans the list value that `fields` says. Accepted: the values are the moves and the number of broken entries, `narrowed` is the settled
@@ -214,8 +234,7 @@ pub extern "C" fn dock_plan(
         return verdict_as(fault);
     };
     let answer = plan_day(given.list, plan);
-    give_bounds(answer, bounds);
-    give_narrowed(answer.narrowed, answer.broken as u64, narrowed)
+    give_planned(answer, 0, narrowed, bounds)
 }
 
 // Shows the early plan of a place of the list value that `fields` says. Accepted: the values are the moves and the place's least end,
@@ -236,7 +255,7 @@ pub extern "C" fn dock_early(
         return verdict_as(fault);
     };
     let answer = show_early(given.list, place as usize, plan);
-    give_narrowed(answer.narrowed, answer.bound as u64, narrowed)
+    give_narrowed(answer.narrowed, answer.bound as u64, 0, narrowed)
 }
 
 // Shows the late plan, with the place's greatest start.
@@ -256,7 +275,7 @@ pub extern "C" fn dock_late(
         return verdict_as(fault);
     };
     let answer = show_late(given.list, place as usize, plan);
-    give_narrowed(answer.narrowed, answer.bound as u64, narrowed)
+    give_narrowed(answer.narrowed, answer.bound as u64, 0, narrowed)
 }
 
 // Stores the text of the day that `bytes` say at the start of `out`. Accepted: the first value is its number of bytes; else, a list that is

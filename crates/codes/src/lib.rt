@@ -55,6 +55,8 @@ pub fn numbers_of(x: Refusal) -> RefusalCode
         Refusal::SerialClash(at) => with_one(14, at),
         Refusal::BadOpening(at) => with_one(15, at),
         Refusal::BeforeOpening(at) => with_one(16, at),
+        Refusal::StaleStamp(stamp) => with_one(17, stamp as usize),
+        Refusal::DayFull(stamp) => with_one(18, stamp as usize),
         Refusal::BadFlatLength(numbers) => with_one(100, numbers),
     }
 }

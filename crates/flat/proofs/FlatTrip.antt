@@ -78,7 +78,7 @@ entries-back xs i (e ∷ es) here fits =
         ap (λ (k : ℕ). drop k xs) z ∙ sym (drop-drop 7 (3 + 7 * i) xs) ∙ ap (drop 7) here
 
 module _ (l : DayList) (fits : NumbersFit l) where
-  value-back : valueOf (flatOf l) ≡ l
+  pub value-back : valueOf (flatOf l) ≡ l
   value-back = λ j. record { frame = record { h = h j; opening = opening j }; n = n j; entries = entries j }
     where
       h : min (l .frame .h) 65535 ≡ l .frame .h

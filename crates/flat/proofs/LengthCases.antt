@@ -2,12 +2,12 @@
 -- Assumes nothing.
 use mathlib.Core.Path.{_≡_, refl, ap, _∙_}
 use mathlib.Core.Bool.{not}
-use mathlib.Core.List.{List}
+use mathlib.Core.List.{List, [], _∷_}
 use Prim.Native.Nat.{ℕ}
 use borrow.Author.Tests.{eqb-true, eq-eqb, ne-eqb, not-false}
 use lib.ListN.{length}
 use lib.Dec.{eqb}
-use Rattle.base.specs.Outcomes.{answered}
+use Rattle.base.specs.Outcomes.{Outcome, answered, firstOf}
 use Rattle.base.proofs.Inversion.{Says, Anything, by-row, by-step}
 use Rattle.list.specs.DayLists.{emptyList}
 use Rattle.list.specs.Refusals.{verdictOf}
@@ -18,16 +18,19 @@ use Rattle.list.specs.declared.types.ReadAnswer.{ReadAnswer}
 use Rattle.list.specs.declared.types.Verdict.the-variants.{Accepted, Refused}
 use Rattle.list.proofs.Verdicts.{by-accepted, by-refused}
 use Rattle.list.specs.Machine.{NumbersFit}
-use Rattle.flat.specs.Flat.{flatNumbers, flatOf, valueOf, flatFault, listIn, ReadsFlat, StoresFlat}
+use Rattle.flat.specs.Flat.{flatNumbers, flatOf, valueOf, lengthRow, flatFault, listIn, ReadsFlat, StoresFlat}
 use Rattle.flat.proofs.FlatTrip.{stored-back}
 
 -- the one length that row 100 lets pass
-pub length-says : (n : ℕ) → Says (λ _. n ≡ flatNumbers) Anything (flatFault n)
-length-says n =
-    by-row (λ _. n ≡ flatNumbers) Anything (not (eqb n flatNumbers)) _ (answered tt) (λ t. tt) (λ t. eqb-true _ _ (not-false _ t))
+abbrev pub lengthFault : ℕ → ℕ → Outcome (Unit {0})
+lengthFault asked n = firstOf (lengthRow asked n ∷ []) (answered tt)
 
-pub length-right : (n : ℕ) → flatFault n ≡ answered tt → n ≡ flatNumbers
-length-right n e = rw e at (length-says n)
+pub length-says : (asked n : ℕ) → Says (λ _. n ≡ asked) Anything (lengthFault asked n)
+length-says asked n =
+    by-row (λ _. n ≡ asked) Anything (not (eqb n asked)) _ (answered tt) (λ t. tt) (λ t. eqb-true _ _ (not-false _ t))
+
+pub length-right : (asked n : ℕ) → lengthFault asked n ≡ answered tt → n ≡ asked
+length-right asked n e = rw e at (length-says asked n)
 
 -- a row of that length says the list value of its numbers
 module _ (xs : List ℕ) where
@@ -36,8 +39,8 @@ module _ (xs : List ℕ) where
 
   pub list-says : Says Value Anything (listIn xs)
   list-says =
-      by-step (λ _. length xs ≡ flatNumbers) Anything Value (flatFault (length xs)) (λ _. answered (valueOf xs)) (length-says (length xs))
-      (λ _ _. refl)
+      by-step (λ _. length xs ≡ flatNumbers) Anything Value (flatFault (length xs)) (λ _. answered (valueOf xs))
+      (length-says flatNumbers (length xs)) (λ _ _. refl)
 
 -- what the test of a row's length leads to
 module _ (xs : List ℕ) (v : Verdict) (w : verdictOf v ≡ flatFault (length xs)) where

@@ -4,4 +4,5 @@ pub mod Examples
 -- What the code's proofs cite, case by case; `LengthCases` also for the crate above.
 mod FlatCases
 mod PlacesCases
+mod DayCases
 pub mod LengthCases

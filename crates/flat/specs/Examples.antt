@@ -1,14 +1,15 @@
--- The layout of a row, number by number, and the length of the layout before lists had an opening minute; `flat-examples` of
--- proofs/Examples.antt proves it.
+-- The layout of a row, number by number, the length of the layout before lists had an opening minute, and a stamped day's row;
+-- `flat-examples` of proofs/Examples.antt proves it.
 use mathlib.Core.Path.{_≡_}
-use mathlib.Core.List.{[], _∷_}
-use lib.ListN.{take}
+use mathlib.Core.List.{[], _∷_, _++_}
+use lib.ListN.{take, drop}
 use Rattle.base.specs.Outcomes.{code, refused}
 use Rattle.list.specs.DayLists.{dayList}
 use Rattle.list.specs.declared.types.Seal.the-variants.{Number}
 use Rattle.list.specs.declared.types.Kind.the-variants.{Whole}
 use Rattle.list.specs.declared.types.DayList.{DayList}
 use Rattle.flat.specs.Flat.{flatOf, flatFault}
+use Rattle.flat.specs.DayRows.{dayRow, dayOf, dayFault}
 
 -- H 10, a room that opens at 7, and one entry
 abbrev pub openedDay : DayList
@@ -17,4 +18,9 @@ openedDay = dayList (record { h = 10; opening = 7 }) (record { serial = 501; sea
 pub record FlatExamples : Type 0 where
   -- H, n, the opening minute; serial, 1 for a seal, its number, r, d, p, 1 for whole; and the next place's serial
   pub layout : take 11 (flatOf openedDay) ≡ 10 ∷ 1 ∷ 7 ∷ 501 ∷ 1 ∷ 77 ∷ 8 ∷ 9 ∷ 1 ∷ 1 ∷ 0 ∷ []
+  -- a stamped day: the list's numbers, then the stamp; a stamp too large for its field is the field's largest
+  pub day-list : take 451 (dayRow (record { list = openedDay; stamp = 3 })) ≡ flatOf openedDay
+  pub day-stamp : drop 451 (dayRow (record { list = openedDay; stamp = 3 })) ≡ 3 ∷ []
+  pub large-stamp : dayOf (flatOf openedDay ++ (70000 ∷ [])) .stamp ≡ 65535
+  pub list-length : dayFault 451 ≡ refused (code 100 (452 ∷ []))
   pub former-length : flatFault 450 ≡ refused (code 100 (451 ∷ []))

@@ -5,7 +5,7 @@ use mathlib.Core.Bool.{not, cond}
 use mathlib.Core.List.{List, [], _∷_, _++_}
 use lib.ListN.{length, getD}
 use lib.Dec.{eqb}
-use Rattle.base.specs.Outcomes.{Outcome, answered, row, firstOf, andThen}
+use Rattle.base.specs.Outcomes.{Outcome, answered, Row, row, firstOf, andThen}
 use Rattle.format.specs.Maps.{kindOf}
 use Rattle.format.specs.EntryFields.{sealOf}
 use Rattle.format.specs.Reading.{listOr}
@@ -25,6 +25,10 @@ flatNumbers = 451
 
 abbrev pub boundNumbers : ℕ
 boundNumbers = 128
+
+-- how many say an entry
+abbrev pub entryNumbers : ℕ
+entryNumbers = 7
 
 -- whether a seal is a number, and that number (0 where it is missing)
 abbrev pub present : Seal → ℕ
@@ -80,9 +84,13 @@ valueOf xs =
       entries = entriesIn mostEntries 0 xs;
     }
 
--- row 100: a row of another length is no list value; it carries the right length
+-- row 100 for a row that has another length than the one asked for, which it carries
+abbrev pub lengthRow : ℕ → ℕ → Row
+lengthRow asked numbers = row 100 (not (eqb numbers asked)) asked
+
+-- a row of another length is no list value
 abbrev pub flatFault : ℕ → Outcome (Unit {0})
-flatFault numbers = firstOf (row 100 (not (eqb numbers flatNumbers)) flatNumbers ∷ []) (answered tt)
+flatFault numbers = firstOf (lengthRow flatNumbers numbers ∷ []) (answered tt)
 
 -- the list value that a row says
 abbrev pub listIn : List ℕ → Outcome DayList

@@ -1,2 +1,3 @@
 pub mod Flat
+pub mod DayRows
 pub mod Examples

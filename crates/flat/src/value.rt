@@ -24,7 +24,7 @@ ghost use Rattle.flat.specs.Flat.{present, numberOf, wholeOf, flatEntry,
 ghost use Rattle.flat.specs.Flat.{flatFault, ReadsFlat, StoresFlat};
 
 // The largest u16 for a number that is too large, and likewise below.
-fn u16_of(x: u32) -> u16
+pub(crate) fn u16_of(x: u32) -> u16
     ensures { λ r. ⌜ r ≡ min x 65535 ⌝ }
 {
     if x < 65536 { x as u16 } else { 65535 }
@@ -53,7 +53,7 @@ fn kind_in(flag: u32) -> Kind
     if flag == 0 { Kind::Pause } else { Kind::Whole }
 }
 
-fn entry_in(fields: &[u32], at: usize) -> Entry
+pub(crate) fn entry_in(fields: &[u32], at: usize) -> Entry
     requires { ⌜ at + 7 ≤ length (now fields) ⌝ }
     ensures { λ e. ⌜ e ≡ entryIn (now (fields .entry)) at ⌝ }
 {
@@ -70,7 +70,7 @@ fn entry_in(fields: &[u32], at: usize) -> Entry
 }
 
 // The list value that the numbers say, whatever they are.
-fn value_in(fields: &[u32]) -> DayList
+pub(crate) fn value_in(fields: &[u32]) -> DayList
     requires { ⌜ length (now fields) ≡ flatNumbers ⌝ }
     ensures { λ l. ⌜ l ≡ valueOf (now (fields .entry)) ⌝ }
 {
@@ -160,7 +160,7 @@ fn put_entry_numbers(e: Entry, fields: &mut [u32], at: usize)
 }
 
 // Stores the numbers that say a list value.
-fn put_numbers(list: DayList, fields: &mut [u32])
+pub(crate) fn put_numbers(list: DayList, fields: &mut [u32])
     requires { ⌜ length (now fields) ≡ flatNumbers ⌝ }
     ensures { λ _. ⌜ now (fields .exit) ≡ flatOf list ⌝ }
 {

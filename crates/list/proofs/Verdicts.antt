@@ -10,19 +10,23 @@ use Rattle.list.specs.declared.types.Refusal.{Refusal}
 use Rattle.list.specs.declared.types.Refusal.the-variants.{BytesMissing, BadDayLength, TooManyEntries, BadMapByte, DefaultWritten}
 use Rattle.list.specs.declared.types.Refusal.the-variants.{NoMinutes, BadWindow, BytesLeftOver, Overloaded, NoPlace, PlanBufferShort}
 use Rattle.list.specs.declared.types.Refusal.the-variants.{ListBufferShort, UnknownPlace, SerialClash, BadOpening}
-use Rattle.list.specs.declared.types.Refusal.the-variants.{BeforeOpening, BadFlatLength}
+use Rattle.list.specs.declared.types.Refusal.the-variants.{BeforeOpening, StaleStamp, DayFull, BadFlatLength}
 use Rattle.list.specs.declared.types.Verdict.{Verdict}
 use Rattle.list.specs.declared.types.Verdict.the-variants.{Accepted, Refused}
 use Rattle.list.specs.declared.types.WriteAnswer.{WriteAnswer}
 use Rattle.list.specs.declared.types.WriteAnswer.the-variants.{Written, NotWritten}
 use Rattle.base.proofs.Inversion.{answered-refused, refused-same}
 
--- what a test's verdict tells of the outcome that it says
+-- what a verdict, with what stands beside it, tells of the outcome that it says
+pub by-verdict : {A : Type 0} {o : Outcome A} {v t : Verdict} (a : A) → outcomeOf v a ≡ o → v ≡ t → o ≡ outcomeOf t a
+by-verdict a says e = sym says ∙ ap (λ (u : Verdict). outcomeOf u a) e
+
+-- so of a test
 pub by-accepted : {o : Outcome (Unit {0})} {v : Verdict} → verdictOf v ≡ o → v ≡ Accepted → o ≡ answered tt
-by-accepted says e = sym says ∙ ap verdictOf e
+by-accepted = by-verdict tt
 
 pub by-refused : {o : Outcome (Unit {0})} {v : Verdict} {x : Refusal} → verdictOf v ≡ o → v ≡ Refused x → o ≡ refused (codeOf x)
-by-refused says e = sym says ∙ ap verdictOf e
+by-refused = by-verdict tt
 
 -- the refusal with these number and values
 abbrev refusalOf : Code → Refusal
@@ -44,7 +48,9 @@ refusalOf k =
     (cond (eqb n 13) (UnknownPlace x)
     (cond (eqb n 14) (SerialClash x)
     (cond (eqb n 15) (BadOpening x)
-    (cond (eqb n 16) (BeforeOpening x) (BadFlatLength x))))))))))))))))
+    (cond (eqb n 16) (BeforeOpening x)
+    (cond (eqb n 17) (StaleStamp x)
+    (cond (eqb n 18) (DayFull x) (BadFlatLength x))))))))))))))))))
 
 refusal-is : (x : Refusal) → refusalOf (codeOf x) ≡ x
 refusal-is (BytesMissing x) = refl
@@ -63,6 +69,8 @@ refusal-is (UnknownPlace x) = refl
 refusal-is (SerialClash x) = refl
 refusal-is (BadOpening x) = refl
 refusal-is (BeforeOpening x) = refl
+refusal-is (StaleStamp x) = refl
+refusal-is (DayFull x) = refl
 refusal-is (BadFlatLength x) = refl
 
 -- so no two refusals have the same number and values

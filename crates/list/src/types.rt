@@ -76,6 +76,10 @@ pub enum Refusal {
     BadOpening(usize),
     // 16: r is before the opening minute; the map byte's place, or the entry's for a value.
     BeforeOpening(usize),
+    // 17: a commit's stamp is not the day's; the day's stamp.
+    StaleStamp(u16),
+    // 18: the day has 64 entries or more, so no room for another; the day's stamp.
+    DayFull(u16),
     // 100, which no document has: lists cross to other languages as rows of numbers, and this row has too few or too many; as many as a row
     // has.
     BadFlatLength(usize),

@@ -7,7 +7,7 @@ use Prim.Native.Nat.{ℕ, _<_}
 use native.Mathlib.Omega.{arith}
 use borrow.Author.Tests.{eq-eqb, ne-eqb}
 use lib.Dec.{eqb}
-use lib.ListN.{length, getD, take, replicate}
+use lib.ListN.{length, getD, take}
 use lib.Seq.{take-at}
 use Rattle.base.specs.Outcomes.{Outcome, answered, refused}
 use Rattle.base.proofs.Sums.{same-cases}
@@ -27,6 +27,7 @@ use Rattle.narrow.specs.declared.types.WindowsAnswer.{WindowsAnswer}
 use Rattle.narrow.specs.Calls.{narrowedOf, narrowedIn}
 use Rattle.narrow.specs.declared.types.NarrowAnswer.{NarrowAnswer}
 use Rattle.jackson.proofs.ListLaws.{list-formed}
+use Rattle.narrow.proofs.ListAnswers.{answers-refused}
 use Rattle.bounds.specs.Ends.{leastEnd, greatestStart, byPlace}
 use Rattle.bounds.specs.ShownPlans.{earlyPlan, latePlan, boundOf, shownPlan}
 use Rattle.bounds.specs.Calls.{HoldsBounds, StoresPlan}
@@ -40,13 +41,13 @@ use Rattle.bounds.proofs.ShownFacts.{shown-long}
 use Rattle.planner.specs.BrokenEntries.{brokenIn}
 use Rattle.planner.specs.Demand2.{PlansWindows}
 use Rattle.planner.specs.Demand3.{Told, Demand3}
-use Rattle.planner.specs.Calls.{planChecks, shownChecks, settledOr, planned, planOf, endsOf, startsOf, brokenOf, toldByPlan, PlansDay}
-use Rattle.planner.specs.Calls.{shownOf, putShown, toldByShown, Shows}
+use Rattle.planner.specs.Calls.{planChecks, shownChecks, narrowAfter, settledOr, planned, endsOf, startsOf, brokenOf, toldByPlan}
+use Rattle.planner.specs.Calls.{unplanned, PlansAfter, PlansDay, shownOf, putShown, toldByShown, Shows}
 use Rattle.planner.specs.Internal.{NarrowsAfter}
 use Rattle.planner.specs.declared.types.PlanAnswer.{PlanAnswer}
 use Rattle.planner.specs.declared.types.ShownAnswer.{ShownAnswer}
 use Rattle.planner.proofs.Demands.{AtPlace, ByRules, demand3}
-use Rattle.planner.proofs.CallCases.{plan-formed, shown-plan, shown-formed, IsSettled, is-settled, windows-told}
+use Rattle.planner.proofs.CallCases.{plan-formed, shown-plan, shown-formed, after-checks, IsSettled, is-settled, windows-told}
 use Rattle.planner.proofs.CallCases.{settled-few, settled-day, settled-plan, Planning, place-in, ends-are, starts-are, plan-is}
 use Rattle.planner.proofs.CallCases.{broken-is, shown-bound, shown-stored}
 
@@ -65,13 +66,14 @@ told-demand {checks} {l} {a} after formed told is each passed =
         rw (← (answer .1)) (each (is-settled after (answer .0) formed) k (omega (arith, count, place)))
 
 -- Planning.
-module _ (l : DayList) (old : List ℕ) (a : PlanAnswer) (new : List ℕ) (after : NarrowsAfter (planChecks l (length old)) l (a .narrowed))
-    (broken : a .broken ≡ brokenOf (wholeIn l) (planOf l (length old)))
-    (ends : a .ends ≡ endsOf (wholeIn l) (planOf l (length old)))
-    (starts : a .starts ≡ startsOf (wholeIn l) (planOf l (length old)))
-    (buffer : new ≡ planned schedule old (planOf l (length old))) where
-  plans-day : PlansDay l old a new
-  plans-day =
+module _ (checks : Outcome (Unit {0})) (l : DayList) (formed : checks ≡ answered tt → WellFormed l) (old : List ℕ) (a : PlanAnswer)
+    (new : List ℕ) (after : NarrowsAfter checks l (a .narrowed))
+    (broken : a .broken ≡ brokenOf (wholeIn l) (narrowAfter checks l))
+    (ends : a .ends ≡ endsOf (wholeIn l) (narrowAfter checks l))
+    (starts : a .starts ≡ startsOf (wholeIn l) (narrowAfter checks l))
+    (buffer : new ≡ planned schedule old (narrowAfter checks l)) where
+  plans-after : PlansAfter checks l old a new
+  plans-after =
       record {
         answers = after .answers;
         holds = after .holds;
@@ -79,8 +81,8 @@ module _ (l : DayList) (old : List ℕ) (a : PlanAnswer) (new : List ℕ) (after
         ends = ends;
         starts = starts;
         buffer = buffer;
-        demand2 = λ e. plan (is-settled after e (plan-formed l (length old)));
-        demand3 = told-demand after (plan-formed l (length old)) (toldByPlan a) refl each;
+        demand2 = λ e. plan (is-settled after e formed);
+        demand3 = told-demand after formed (toldByPlan a) refl each;
       }
     where
       whole : ℕ → Bool
@@ -89,14 +91,14 @@ module _ (l : DayList) (old : List ℕ) (a : PlanAnswer) (new : List ℕ) (after
       w : Windows
       w = windowsOf (a .narrowed .list)
 
-      plan : IsSettled (planChecks l (length old)) l (a .narrowed) → PlansWindows whole w (take (l .frame .h) new) (a .broken)
+      plan : IsSettled checks l (a .narrowed) → PlansWindows whole w (take (l .frame .h) new) (a .broken)
       plan settled =
           let long : length (schedule w) ≡ l .frame .h = schedule-long w ∙ settled-day settled in
           let front : take (l .frame .h) new ≡ schedule w = rw (buffer, settled .outcome) (take-at (schedule w) _ _ long) in
           let count : a .broken ≡ _ = rw (settled .outcome) at broken in
           rw (front, count) (settled-plan settled)
 
-      each : IsSettled (planChecks l (length old)) l (a .narrowed) → (k : ℕ) → k < w .n → AtPlace whole w (toldByPlan a) k
+      each : IsSettled checks l (a .narrowed) → (k : ℕ) → k < w .n → AtPlace whole w (toldByPlan a) k
       each settled k place = record { end = end; start = start; early = ap (earlyPlan w k) end; late = ap (latePlan w k) start }
         where
           bound : (f : ℕ → ℕ) (xs : List ℕ) → xs ≡ byPlace (w .n) f → getD xs k 0 ≡ f k
@@ -162,13 +164,16 @@ module _ (x : Shown) (l : DayList) (k : ℕ) (old : List ℕ) (a : ShownAnswer) 
           plans = put-shown (λ z j. shownPlan z whole j w) x k bytes front
 
 -- What the code meets: narrowing after the checks was refused, or not.
-pub plan-refused : {l : DayList} {old : List ℕ} {a : NarrowAnswer} → NarrowsAfter (planChecks l (length old)) l a
-    → (found : WindowsAnswer) {x : Refusal} → found .verdict ≡ Refused x → narrowedOf found ≡ planOf l (length old)
-    → {ends starts : List ℕ} → ends ≡ replicate 64 0 → starts ≡ replicate 64 0
-    → PlansDay l old (record { narrowed = a; broken = 0; ends = ends; starts = starts }) old
-plan-refused {l} {old} after found {x} e is no-ends no-starts =
-    let z : planOf l (length old) ≡ refused (codeOf x) = sym is ∙ rw e in
-    plans-day _ _ _ _ after (rw z refl) (rw z no-ends) (rw z no-starts) (rw z refl)
+module _ (checks : Outcome (Unit {0})) (l : DayList) (formed : checks ≡ answered tt → WellFormed l) (old : List ℕ) (v : Verdict)
+    (x : Refusal) (e : v ≡ Refused x) (is : narrowAfter checks l ≡ refused (codeOf x)) (a : PlanAnswer) (made : a ≡ unplanned v) where
+  after-refusal : NarrowsAfter checks l (a .narrowed)
+  after-refusal =
+      after-checks checks l formed (a .narrowed)
+      (answers-refused l (a .narrowed) (narrowAfter checks l) v x (ap (λ (b : PlanAnswer). b .narrowed) made) e is)
+
+  pub plan-refused : PlansAfter checks l old a old
+  plan-refused =
+      plans-after checks l formed old a old after-refusal (rw (is, made) refl) (rw (is, made) refl) (rw (is, made) refl) (rw is refl)
 
 pub plan-done : {l : DayList} {old : List ℕ} {marks : List Bool} {found : WindowsAnswer}
     → Planning (planChecks l (length old)) l old marks found → {v : Verdict} {new : List ℕ}
@@ -178,7 +183,7 @@ pub plan-done : {l : DayList} {old : List ℕ} {marks : List Bool} {found : Wind
     → {a : NarrowAnswer} → NarrowsAfter (planChecks l (length old)) l a
     → PlansDay l old (record { narrowed = a; broken = x; ends = b .ends; starts = b .starts }) new
 plan-done {l} {old} planning fills broken bounds after =
-    plans-day l old _ _ after
+    plans-after (planChecks l (length old)) l (plan-formed l (length old)) old _ _ after
     (broken-is planning fills _ broken)
     (ends-are planning bounds)
     (starts-are planning bounds)

@@ -19,7 +19,7 @@ use Rattle.list.specs.declared.types.Verdict.{Verdict}
 use Rattle.list.specs.declared.types.Verdict.the-variants.{Accepted, Refused}
 use Rattle.list.specs.declared.types.DayList.{DayList}
 use Rattle.list.proofs.Sound.{sound-list}
-use Rattle.list.proofs.Verdicts.{by-accepted, by-refused}
+use Rattle.list.proofs.Verdicts.{by-verdict, by-accepted, by-refused}
 use Rattle.jackson.specs.Windows.{Windows, windowsOf, windowsIn, Formed}
 use Rattle.jackson.specs.Plans.{placesIn}
 use Rattle.jackson.specs.Intervals.{overloadOf}
@@ -120,7 +120,7 @@ module _ (l : DayList) where
 
 -- Narrowing after them, from the marks of the whole entries and the windows of the list.
 module _ (checks : Outcome (Unit {0})) (l : DayList) (formed : checks ≡ answered tt → WellFormed l) where
-  after-checks : (a : NarrowAnswer) → AnswersAs l (narrowAfter checks l) a → NarrowsAfter checks l a
+  pub after-checks : (a : NarrowAnswer) → AnswersAs l (narrowAfter checks l) a → NarrowsAfter checks l a
   unfolding settleOf
   after-checks a answers = record { answers = answers; holds = holds-answer l a (narrowAfter checks l) keeps answers }
     where
@@ -174,7 +174,7 @@ pub record IsSettled (checks : Outcome (Unit {0})) (l : DayList) (a : NarrowAnsw
 
 module _ {checks : Outcome (Unit {0})} {l : DayList} {a : NarrowAnswer} (after : NarrowsAfter checks l a) where
   pub outcome-is : (v : Verdict) → a .verdict ≡ v → narrowAfter checks l ≡ outcomeOf v (settledIn a)
-  outcome-is v e = sym (after .holds .narrowed) ∙ ap (λ (u : Verdict). outcomeOf u (settledIn a)) e
+  outcome-is v = by-verdict (settledIn a) (after .holds .narrowed)
 
   pub is-settled : a .verdict ≡ Accepted → (checks ≡ answered tt → WellFormed l) → IsSettled checks l a
   is-settled e formed =

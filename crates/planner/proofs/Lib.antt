@@ -7,7 +7,7 @@ pub mod Alike
 pub mod Examples
 -- The contracts, and demand 3 alone, leave one answer.
 pub mod OneAnswer
--- What the code's proofs cite, case by case.
+-- What the code's proofs cite, case by case. The crates above are to cite the last, for refusals of their own.
 mod BrokenCases
 mod CallCases
-mod AnswerCases
+pub mod AnswerCases

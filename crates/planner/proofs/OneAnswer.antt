@@ -1,7 +1,7 @@
 -- Demand 3 leaves one outcome, and of each place one least end, greatest start, early plan and late plan. Each call's contract leaves one
 -- answer and one buffer, and the same for lists that are equal by the documents' rule.
 -- Assumes nothing.
-use mathlib.Core.Path.{_≡_, sym, ap, _∙_}
+use mathlib.Core.Path.{_≡_, refl, sym, ap, _∙_}
 use mathlib.Core.Bool.{Bool}
 use mathlib.Core.List.{List}
 use Prim.Native.Nat.{ℕ, _<_}
@@ -19,7 +19,7 @@ use Rattle.narrow.proofs.OneOutcome.{one-outcome}
 use Rattle.narrow.proofs.Alike.{same-times}
 use Rattle.bounds.specs.ShownPlans.{earlyPlan, latePlan}
 use Rattle.planner.specs.Demand3.{Told, Demand3}
-use Rattle.planner.specs.Calls.{PlansDay, Shows}
+use Rattle.planner.specs.Calls.{PlansAfter, PlansDay, Shows}
 use Rattle.planner.specs.declared.types.PlanAnswer.{PlanAnswer}
 use Rattle.planner.specs.declared.types.ShownAnswer.{ShownAnswer}
 use Rattle.bounds.specs.declared.types.Shown.{Shown}
@@ -66,15 +66,27 @@ module _ {whole : ℕ → Bool} {w : Windows} (s t : Told) (a : Demand3 whole w 
     pub one-late : s .late k ≡ t .late k
     one-late = a .late-is v e k place .rule ∙ ap (latePlan (v .windows) k) one-start ∙ sym (b .late-is v too k place .rule)
 
+-- Two answers of narrowing.
+one-narrowed : {a b : DayList} (o u : Outcome Narrowed) → listed a o ≡ listed b u → (x y : NarrowAnswer) → AnswersAs a o x → AnswersAs b u y
+    → x ≡ y
+one-narrowed o u same x y p q =
+    let outcomes : narrowAnswerOf x ≡ narrowAnswerOf y = p .outcome ∙ same ∙ sym (q .outcome) in
+    let verdicts = one-verdict (x .verdict) (y .verdict) _ _ outcomes in
+    let beside : _≡_ {A = DayList × ℕ} (x .list, x .moves) (y .list, y .moves) = p .beside ∙ ap standing same ∙ sym (q .beside) in
+    λ i. record { verdict = verdicts i; list = beside i .0; moves = beside i .1 }
+
+-- Two answers of planning one list after the same checks.
+pub one-planned : {checks : Outcome (Unit {0})} {l : DayList} {old : List ℕ} {x y : PlanAnswer} {new other : List ℕ}
+    → PlansAfter checks l old x new → PlansAfter checks l old y other → (x ≡ y) × (new ≡ other)
+one-planned {checks} {l} {old} {x} {y} p q =
+    let narrowed = one-narrowed _ _ refl (x .narrowed) (y .narrowed) (p .answers) (q .answers) in
+    let broken : x .broken ≡ y .broken = p .broken ∙ sym (q .broken) in
+    let ends : x .ends ≡ y .ends = p .ends ∙ sym (q .ends) in
+    let starts : x .starts ≡ y .starts = p .starts ∙ sym (q .starts) in
+    (λ i. record { narrowed = narrowed i; broken = broken i; ends = ends i; starts = starts i }, p .buffer ∙ sym (q .buffer))
+
 -- Lists that are equal by the documents' rule, a list and itself among them, and two answers of each call.
 module _ {a b : DayList} (s : SameList a b) where
-  one-narrowed : (o u : Outcome Narrowed) → listed a o ≡ listed b u → (x y : NarrowAnswer) → AnswersAs a o x → AnswersAs b u y → x ≡ y
-  one-narrowed o u same x y p q =
-      let outcomes : narrowAnswerOf x ≡ narrowAnswerOf y = p .outcome ∙ same ∙ sym (q .outcome) in
-      let verdicts = one-verdict (x .verdict) (y .verdict) _ _ outcomes in
-      let beside : _≡_ {A = DayList × ℕ} (x .list, x .moves) (y .list, y .moves) = p .beside ∙ ap standing same ∙ sym (q .beside) in
-      λ i. record { verdict = verdicts i; list = beside i .0; moves = beside i .1 }
-
   pub one-plan : (old : List ℕ) (x y : PlanAnswer) (new other : List ℕ) → PlansDay a old x new → PlansDay b old y other
       → (x ≡ y) × (new ≡ other)
   one-plan old x y new other p q =

@@ -6,9 +6,10 @@ use mathlib.Core.List.{List, [], _∷_, _++_}
 use lib.ListN.{length, getD, take, drop, replicate}
 use lib.Dec.{eqb}
 use Rattle.base.specs.Outcomes.{Row, Outcome, answered, refused, firstOf, andThen}
-use Rattle.list.specs.DayLists.{wholeIn, mostEntries}
+use Rattle.list.specs.DayLists.{emptyList, wholeIn, mostEntries}
 use Rattle.list.specs.Checks.{checkOf}
 use Rattle.list.specs.declared.types.DayList.{DayList}
+use Rattle.list.specs.declared.types.Verdict.{Verdict}
 use Rattle.list.specs.declared.types.Verdict.the-variants.{Accepted}
 use Rattle.jackson.specs.Windows.{Windows, windowsOf}
 use Rattle.jackson.specs.Plans.{placesIn}
@@ -60,6 +61,10 @@ planned f old = settledOr old (λ w. f w ++ drop (w .h) old)
 abbrev pub planOf : DayList → ℕ → Outcome Narrowed
 planOf l room = narrowAfter (planChecks l room) l
 
+-- the same with as many bytes as the plan has, so that row 11 is passed over
+abbrev pub planning : DayList → Outcome Narrowed
+planning l = planOf l (l .frame .h)
+
 -- the least ends, greatest starts and broken entries beside the windows answered; 0 beside a refusal
 abbrev pub endsOf : (ℕ → Bool) → Outcome Narrowed → List ℕ
 endsOf whole = settledOr (replicate mostEntries 0) (leastEnds whole)
@@ -82,19 +87,33 @@ toldByPlan a =
       late = λ k. latePlan w k (getD (a .starts) k 0);
     }
 
--- what planning the list l answers, and leaves in a plan buffer that held old
-pub record PlansDay (l : DayList) (old : List ℕ) (a : PlanAnswer) (new : List ℕ) : Type 0 where
-  pub answers : AnswersAs l (planOf l (length old)) (a .narrowed)
-  pub holds : HoldsAnswer l (planOf l (length old)) (a .narrowed)
-  pub broken : a .broken ≡ brokenOf (wholeIn l) (planOf l (length old))
-  pub ends : a .ends ≡ endsOf (wholeIn l) (planOf l (length old))
-  pub starts : a .starts ≡ startsOf (wholeIn l) (planOf l (length old))
-  pub buffer : new ≡ planned schedule old (planOf l (length old))
+-- the answer with this verdict and nothing planned, as it stands beside a refusal
+abbrev pub unplanned : Verdict → PlanAnswer
+unplanned v =
+    record {
+      narrowed = record { verdict = v; list = emptyList; moves = 0 };
+      broken = 0;
+      ends = replicate mostEntries 0;
+      starts = replicate mostEntries 0;
+    }
+
+-- what planning the list l after checks with this outcome answers, and leaves in a plan buffer that held old
+pub record PlansAfter (checks : Outcome (Unit {0})) (l : DayList) (old : List ℕ) (a : PlanAnswer) (new : List ℕ) : Type 0 where
+  pub answers : AnswersAs l (narrowAfter checks l) (a .narrowed)
+  pub holds : HoldsAnswer l (narrowAfter checks l) (a .narrowed)
+  pub broken : a .broken ≡ brokenOf (wholeIn l) (narrowAfter checks l)
+  pub ends : a .ends ≡ endsOf (wholeIn l) (narrowAfter checks l)
+  pub starts : a .starts ≡ startsOf (wholeIn l) (narrowAfter checks l)
+  pub buffer : new ≡ planned schedule old (narrowAfter checks l)
   -- demand 2, of the windows answered and the bytes in the buffer
   pub demand2 : a .narrowed .verdict ≡ Accepted
       → PlansWindows (wholeIn l) (windowsOf (a .narrowed .list)) (take (l .frame .h) new) (a .broken)
   -- demand 3, for a list that passes the checks before 9
-  pub demand3 : planChecks l (length old) ≡ answered tt → Demand3 (wholeIn l) (windowsOf l) (toldByPlan a)
+  pub demand3 : checks ≡ answered tt → Demand3 (wholeIn l) (windowsOf l) (toldByPlan a)
+
+-- what planning the list l answers, and leaves in a plan buffer that held old
+abbrev pub PlansDay : DayList → List ℕ → PlanAnswer → List ℕ → Type 0
+PlansDay l old = PlansAfter (planChecks l (length old)) l old
 
 -- Showing an early or late plan.
 

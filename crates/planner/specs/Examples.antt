@@ -14,12 +14,11 @@ use Rattle.list.specs.declared.types.DayList.{DayList}
 use Rattle.jackson.specs.Windows.{Windows, windowsOf}
 use Rattle.jackson.specs.Plans.{Plan, IsEnd, IsStart}
 use Rattle.jackson.specs.Minutes.{schedule}
-use Rattle.narrow.specs.Rounds.{Narrowed}
 use Rattle.narrow.specs.Calls.{settleOf, roundOf, listed}
 use Rattle.bounds.specs.ShownPlans.{shownPlan}
 use Rattle.bounds.specs.declared.types.Shown.{Shown}
 use Rattle.bounds.specs.declared.types.Shown.the-variants.{Early, Late}
-use Rattle.planner.specs.Calls.{settledOr, planOf, endsOf, startsOf, brokenOf, shownOf}
+use Rattle.planner.specs.Calls.{settledOr, planning, endsOf, startsOf, brokenOf, shownOf}
 
 -- entries without a seal, by serial, r, d and p
 abbrev pub pauseEntry : ℕ → ℕ → ℕ → ℕ → Entry
@@ -35,10 +34,7 @@ day h es = dayList (record { h = h; opening = 0 }) es
 abbrev pub serialsOf : DayList → List ℕ
 serialsOf l = map (λ (e : Entry). e .serial) (entriesOf l)
 
--- the outcome of planning with a buffer of H bytes, and the plan's bytes
-abbrev pub planning : DayList → Outcome Narrowed
-planning l = planOf l (l .frame .h)
-
+-- the plan's bytes
 abbrev pub plannedBytes : DayList → List ℕ
 plannedBytes l = settledOr [] schedule (planning l)
 

@@ -25,7 +25,7 @@ ghost use Rattle.list.specs.DayLists.{marked};
 ghost use Rattle.jackson.specs.Windows.{windowsIn};
 ghost use Rattle.jackson.specs.Calls.{bufferFault};
 ghost use Rattle.narrow.specs.Calls.{narrowWindows, narrowedOf};
-ghost use Rattle.planner.specs.Calls.{planChecks, shownChecks, PlansDay, Shows, ShowsEarly, ShowsLate};
+ghost use Rattle.planner.specs.Calls.{planChecks, shownChecks, unplanned, PlansDay, Shows, ShowsEarly, ShowsLate};
 
 // Row 11 for a plan buffer of this length.
 fn buffer_fault(h: usize, room: usize) -> Verdict
@@ -76,6 +76,18 @@ fn narrowed_after(checks: Verdict, whole: [bool; ENTRIES], windows: WindowSet) -
     narrow_windows(whole, windows)
 }
 
+// The answer with this verdict and nothing planned, as it stands beside a refusal.
+pub fn unplanned(verdict: Verdict) -> PlanAnswer
+    ensures { λ a. ⌜ a ≡ unplanned verdict ⌝ }
+{
+    PlanAnswer {
+        narrowed: refused_with(verdict),
+        broken: 0,
+        ends: zeros(),
+        starts: zeros(),
+    }
+}
+
 // Plans a list: the value check, row 11, row 9 for the windows as given, then rounds and row 10, and Jackson's schedule of what they leave.
 pub fn plan_day(list: DayList, plan: &mut [u8]) -> PlanAnswer
     ensures { λ a. ⌜ PlansDay list (now (plan .entry)) a (now (plan .exit)) ⌝ }
@@ -85,12 +97,7 @@ pub fn plan_day(list: DayList, plan: &mut [u8]) -> PlanAnswer
     let found = narrowed_after(checks, whole, unchecked_windows(list));
     let verdict = found.verdict;
     let Verdict::Accepted = verdict else {
-        return PlanAnswer {
-            narrowed: refused_with(verdict),
-            broken: 0,
-            ends: zeros(),
-            starts: zeros(),
-        };
+        return unplanned(verdict);
     };
     let _filled = unchecked_schedule(found.windows, plan);
     let broken = broken_in(whole, found.windows, plan);

@@ -21,6 +21,7 @@ use Rattle.list.specs.declared.types.Verdict.the-variants.{Accepted, Refused}
 use Rattle.list.specs.declared.types.ReadAnswer.{ReadAnswer}
 use Rattle.list.specs.declared.types.WriteAnswer.{WriteAnswer}
 use Rattle.list.specs.declared.types.WriteAnswer.the-variants.{Written}
+use Rattle.list.proofs.Verdicts.{by-verdict}
 use Rattle.list.proofs.Sound.{sound-list}
 use Rattle.format.proofs.ReadLaws.{read-well-formed}
 use Rattle.jackson.specs.Windows.{Windows, windowsOf}
@@ -60,7 +61,7 @@ module _ (l : DayList) (well : WellFormed l) (old : List ℕ) (long : length old
   settled = record { windows = windowsOf (a .narrowed .list); moves = a .narrowed .moves }
 
   narrowed-is : (u : Verdict) → a .narrowed .verdict ≡ u → narrowing overloadOf (wholeIn l) (windowsOf l) ≡ outcomeOf u settled
-  narrowed-is u v = sym outcome-is ∙ sym (plans .holds .narrowed) ∙ ap (λ (u : Verdict). outcomeOf u settled) v
+  narrowed-is u v = sym outcome-is ∙ by-verdict settled (plans .holds .narrowed) v
 
   -- Rows 9 and 10.
   pub refused-is : (x : Refusal) → a .narrowed .verdict ≡ Refused x → plannedText l ≡ refused (codeOf x)
@@ -136,7 +137,7 @@ module _ (l : DayList) (well : WellFormed l) (old : List ℕ) (long : length old
 -- Reading an input.
 module _ (bs : List ℕ) (a : ReadAnswer) (reads : Reads bs a) where
   read-is : (u : Verdict) → a .verdict ≡ u → readOf bs ≡ outcomeOf u (a .list)
-  read-is u v = sym (reads .outcome) ∙ ap (λ (u : Verdict). outcomeOf u (a .list)) v
+  read-is u = by-verdict (a .list) (reads .outcome)
 
   pub read-formed : a .verdict ≡ Accepted → WellFormed (a .list)
   read-formed v = read-well-formed bs (a .list) (read-is Accepted v)

@@ -5,7 +5,8 @@
 use dock_tests::abi::{self, Call, Lent};
 use dock_tests::check_bounds::{ask, calls, refused};
 use dock_tests::day::{Day, LONGEST_DAY, MOST_ENTRIES};
-use dock_tests::flat::{self, Fields, SIZE};
+use dock_tests::flat::{self, Fields};
+use dock_tests::ignored::contents;
 use dock_tests::random::{self, Random};
 use dock_tests::samples::{self, boxes, plan};
 use dock_tests::{check, values};
@@ -86,19 +87,6 @@ fn a_buffer_is_not_measured_by_its_lowest_bytes() {
 fn refused_values() -> Vec<(u64, Fields)> {
     let days = refused_days().into_iter().map(|(number, day)| (number, flat::of_day(&day)));
     values::wrong().into_iter().chain(days).collect()
-}
-
-/// What may stand in the lent buffers: zeros, ones, the largest numbers, a list with its plan.
-fn contents(room: usize) -> Vec<Lent> {
-    let filled = |byte, number| Lent {
-        plan: vec![byte; room],
-        narrowed: [number; SIZE],
-        bounds: [number; 2 * MOST_ENTRIES],
-    };
-    let mut list = filled(0, 0);
-    list.narrowed = flat::of_day(&samples::longest());
-    list.bounds = std::array::from_fn(|i| i as u32);
-    vec![filled(0, 0), filled(1, 1), filled(255, u32::MAX), list, Lent::untouched(room)]
 }
 
 /// This call is refused with this number, and keeps all that it was lent, whatever that is.

@@ -4,6 +4,7 @@
 
 mod format;
 mod imports;
+mod late_boxes;
 mod opening_traps;
 mod pages;
 mod picture;

@@ -3,6 +3,7 @@
 
 use crate::{in_one_line, page};
 use dock_tests::cases::{names, root};
+use dock_tests::commits;
 use dock_tests::flat::SIZE;
 use std::fs;
 
@@ -38,7 +39,7 @@ fn each_refusal_has_its_section() {
     assert_eq!(headings, defined());
     let numbers: Vec<usize> = headings.iter().map(|(number, _)| *number).collect();
     assert_eq!(numbers, (1..numbers.len()).chain([100]).collect::<Vec<_>>());
-    assert!(numbers.len() >= 17, "{numbers:?}");
+    assert!(numbers.len() >= 19, "{numbers:?}");
 }
 
 #[test]
@@ -48,19 +49,22 @@ fn each_section_says_what_to_do() {
             assert_eq!(text.matches(part).count(), 1, "{number} {case}: {part}");
         }
         let printed = text.contains(&format!("`refused {number} "));
-        assert!(printed || [11, 12, 13, 100].contains(&number), "{number} {case}: how the program prints it");
+        assert!(
+            printed || [11, 12, 13, 17, 18, 100].contains(&number),
+            "{number} {case}: how the program prints it"
+        );
         assert_ne!(printed, text.contains("never printed by the program"), "{number} {case}");
     }
 }
 
 #[test]
-fn the_section_of_100_has_the_length_of_a_row() {
+fn the_section_of_100_has_the_lengths_of_rows() {
     let sections = sections();
     let (_, _, text) = sections.iter().find(|(number, ..)| *number == 100).expect("a section");
     let text = in_one_line(text);
     for wanted in [
-        format!("- Carries: {SIZE}, the numbers of a row."),
-        format!("- What to do: use rows of {SIZE} numbers. One of {} is from before", SIZE - 1),
+        format!("such a row: {SIZE} for a list, {} for a stamped day, 7 for an entry.", commits::SIZE),
+        format!("- What to do: use rows of that many numbers. A list of {} is from before", SIZE - 1),
     ] {
         assert!(text.contains(&wanted), "{wanted}");
     }

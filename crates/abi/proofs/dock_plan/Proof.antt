@@ -27,15 +27,9 @@ returns c =
 plan-day-requires : tie.Need-plan-day-requires
 plan-day-requires c κs = search needs
 
-give-bounds-requires : tie.Need-give-bounds-requires
-give-bounds-requires c κs = search needs
-
-cast-give-narrowed : tie.Need-cast-give-narrowed
-cast-give-narrowed c = search needs
-
-give-narrowed-requires : tie.Need-give-narrowed-requires
-give-narrowed-requires c κs =
-    let passed = c .before .before .before .before .before .before .before .before in
+give-planned-requires : tie.Need-give-planned-requires
+give-planned-requires c κs =
+    let passed = c .before .before .before .before .before .before in
     let beside = passed .before .before .list-beside in
     let args = passed .before .before .before .before .before .before .args in
     beside-long (args .fields .now) (args .narrowed .now) (beside .result) (beside .ensures) (passed .enum-told .given .1)
@@ -48,14 +42,13 @@ same-length-2 c = search needs
 
 returns-2 : tie.Need-returns-2
 returns-2 c =
-    let passed = c .before .before .before .before .before .before .before .before .before .before .before in
+    let passed = c .before .before .before .before .before .before .before .before .before in
     let beside = passed .before .before .list-beside in
     let args = passed .before .before .before .before .before .before .args in
     let given = beside-given (args .fields .now) (args .narrowed .now) (beside .result) (beside .ensures) (passed .enum-told .given .1) in
-    let plan-day = c .before .before .before .before .before .before .before .before .before .plan-day in
-    let give-bounds = c .before .before .before .before .before .give-bounds in
+    let plan-day = c .before .before .before .before .before .before .before .plan-day in
     plan-said (args .fields .now) (args .narrowed .now) _ _ given _ (args .plan .now) _ (args .bounds .now) _ (plan-day .result)
-    (plan-day .ensures) (give-bounds .ensures) (c .before .before .give-narrowed .ensures)
+    (plan-day .ensures) (c .before .before .give-planned .ensures)
 
 pub dock-plan-spec : {M : Type 1} → statement M
 dock-plan-spec =
@@ -67,9 +60,7 @@ dock-plan-spec =
     verdict-as-requires
     returns
     plan-day-requires
-    give-bounds-requires
-    cast-give-narrowed
-    give-narrowed-requires
+    give-planned-requires
     same-length
     same-length-2
     returns-2)

@@ -1,4 +1,4 @@
--- The list, the moves and the second value, or a refusal.
+-- The list, the moves and the two values, or a refusal.
 -- Assumes nothing.
 use borrow.Author.Needs.{needs}
 use Rattle.abi.proofs.CallCases.{narrowed-given, narrowed-refused}
@@ -11,8 +11,8 @@ enum-told c = search needs
 put-flat-requires : tie.Need-put-flat-requires
 put-flat-requires c κs = search needs
 
-cast-t10 : tie.Need-cast-t10
-cast-t10 c = search needs
+cast-t11 : tie.Need-cast-t11
+cast-t11 c = search needs
 
 enum-known-verdict : tie.Need-enum-known-verdict
 enum-known-verdict c = search needs
@@ -29,13 +29,13 @@ returns c =
     let args = start .args in
     let accepted = c .before .before .before .before .before .enum-told in
     let put-flat = c .before .before .before .put-flat in
-    narrowed-given (args .narrowed .now) (args .answer) (args .second) _ (start .pre) (accepted .given .1) (put-flat .ensures)
+    narrowed-given (args .narrowed .now) (args .answer) (args .second) (args .third) _ (start .pre) (accepted .given .1) (put-flat .ensures)
 
 returns-2 : tie.Need-returns-2
 returns-2 c =
     let args = c .before .before .before .before .before .args in
     let verdict = c .before .before .verdict in
-    narrowed-refused (args .narrowed .now) (args .answer) (args .second) _ _ (verdict .given .1) (c .refused-as .ensures)
+    narrowed-refused (args .narrowed .now) (args .answer) (args .second) (args .third) _ _ (verdict .given .1) (c .refused-as .ensures)
 
 pub give-narrowed-spec : {M : Type 1} → statement M
 give-narrowed-spec =
@@ -43,7 +43,7 @@ give-narrowed-spec =
     (tie.spec
     enum-told
     put-flat-requires
-    cast-t10
+    cast-t11
     enum-known-verdict
     refused-as-requires
     same-length

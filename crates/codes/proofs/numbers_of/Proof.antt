@@ -116,8 +116,26 @@ with-one-requires-15 c κs = search needs
 enum-known-x-16 : tie.Need-enum-known-x-16
 enum-known-x-16 c = search needs
 
+cast-with-one : tie.Need-cast-with-one
+cast-with-one c = search needs
+
 with-one-requires-16 : tie.Need-with-one-requires-16
 with-one-requires-16 c κs = search needs
+
+enum-known-x-17 : tie.Need-enum-known-x-17
+enum-known-x-17 c = search needs
+
+cast-with-one-2 : tie.Need-cast-with-one-2
+cast-with-one-2 c = search needs
+
+with-one-requires-17 : tie.Need-with-one-requires-17
+with-one-requires-17 c κs = search needs
+
+enum-known-x-18 : tie.Need-enum-known-x-18
+enum-known-x-18 c = search needs
+
+with-one-requires-18 : tie.Need-with-one-requires-18
+with-one-requires-18 c κs = search needs
 
 returns : tie.Need-returns
 returns c = carried (c .with-one .ensures) (c .before .before .x .given .1) refl
@@ -170,6 +188,12 @@ returns-16 c = carried (c .with-one15 .ensures) (c .before .before .x15 .given .
 returns-17 : tie.Need-returns-17
 returns-17 c = carried (c .with-one16 .ensures) (c .before .before .x16 .given .1) refl
 
+returns-18 : tie.Need-returns-18
+returns-18 c = carried (c .with-one17 .ensures) (c .before .before .x17 .given .1) refl
+
+returns-19 : tie.Need-returns-19
+returns-19 c = carried (c .with-one18 .ensures) (c .before .before .x18 .given .1) refl
+
 pub numbers-of-spec : {M : Type 1} → statement M
 numbers-of-spec =
     tie.close
@@ -207,7 +231,13 @@ numbers-of-spec =
     enum-known-x-15
     with-one-requires-15
     enum-known-x-16
+    cast-with-one
     with-one-requires-16
+    enum-known-x-17
+    cast-with-one-2
+    with-one-requires-17
+    enum-known-x-18
+    with-one-requires-18
     returns
     returns-2
     returns-3
@@ -224,4 +254,6 @@ numbers-of-spec =
     returns-14
     returns-15
     returns-16
-    returns-17)
+    returns-17
+    returns-18
+    returns-19)

@@ -13,7 +13,7 @@ enum-told : tie.Need-enum-told
 enum-told c = search needs
 
 value-in-requires : tie.Need-value-in-requires
-value-in-requires c κs = length-right _ (by-accepted (c .before .before .flat-fault .ensures) (c .enum-told .given .1))
+value-in-requires c κs = length-right _ _ (by-accepted (c .before .before .flat-fault .ensures) (c .enum-told .given .1))
 
 enum-known-fault : tie.Need-enum-known-fault
 enum-known-fault c = search needs

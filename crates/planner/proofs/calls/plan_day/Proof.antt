@@ -1,11 +1,11 @@
 -- The checks and narrowing may refuse; else the plan is stored, and the bounds are those of the settled windows.
 -- Assumes nothing.
 use borrow.Author.Needs.{needs}
-use mathlib.Core.Path.{_≡_}
+use mathlib.Core.Path.{_≡_, sym, _∙_}
 use lib.ListN.{length}
 use Rattle.narrow.specs.Calls.{narrowedOf}
 use Rattle.planner.specs.Calls.{planChecks, narrowAfter}
-use Rattle.planner.proofs.CallCases.{plan-formed, narrows-after, narrows-not, found-is, Planning, is-planning, plan-held, plan-long}
+use Rattle.planner.proofs.CallCases.{plan-formed, narrows-after, found-is, Planning, is-planning, plan-held, plan-long}
 use Rattle.planner.proofs.AnswerCases.{plan-refused, plan-done}
 use Rattle.planner.proofs.calls.plan_day.Statement.{statement}
 use Rattle.planner.proofs.calls.plan_day.Tie as tie
@@ -52,25 +52,17 @@ enum-told c = search needs
 enum-told-2 : tie.Need-enum-told-2
 enum-told-2 c = search needs
 
-refused-with-requires : tie.Need-refused-with-requires
-refused-with-requires c κs = search needs
-
-zeros-requires : tie.Need-zeros-requires
-zeros-requires c κs = search needs
-
-zeros-requires-2 : tie.Need-zeros-requires-2
-zeros-requires-2 c κs = search needs
+unplanned-requires : tie.Need-unplanned-requires
+unplanned-requires c κs = search needs
 
 returns : tie.Need-returns
 returns c =
-    let narrowed = c .before .before .before .before .before in
+    let narrowed = c .before .before .before in
     let args = narrowed .before .before .before .before .before .args in
-    let refused = c .before .before .refused-with in
-    let why = c .before .before .before .enum-told2 .given .1 in
-    plan-refused
-    (narrows-not (planChecks (args .list) (length (args .plan .now))) (args .list) (plan-formed (args .list) (length (args .plan .now)))
-    (narrowed .narrowed-after .result) (found narrowed) (refused .result) _ why (refused .ensures))
-    (narrowed .narrowed-after .result) why (found narrowed) (c .before .zeros .ensures) (c .zeros2 .ensures)
+    let why = c .before .enum-told2 .given .1 in
+    plan-refused (planChecks (args .list) (length (args .plan .now))) (args .list) (plan-formed (args .list) (length (args .plan .now)))
+    (args .plan .now) (narrowed .narrowed-after .result .verdict) _ why (sym (found narrowed) ∙ rw why) (c .unplanned .result)
+    (c .unplanned .ensures)
 
 unchecked-schedule-requires : tie.Need-unchecked-schedule-requires
 unchecked-schedule-requires c κs = search needs
@@ -113,9 +105,7 @@ plan-day-spec =
     narrowed-after-requires
     enum-told
     enum-told-2
-    refused-with-requires
-    zeros-requires
-    zeros-requires-2
+    unplanned-requires
     returns
     unchecked-schedule-requires
     broken-in-requires
