@@ -49,7 +49,7 @@ pub record AskedCall (d : StampedDay) (e : Entry) (o : Outcome Narrowed) (oldPla
   pub stamp : (v : Narrowed) → o ≡ answered v → getD (a .values) 2 0 ≡ d .stamp
 
 -- what `dock_ask` answers of the day's row xs and an entry's row ys, and leaves in what is lent
-abbrev pub AskCall : List ℕ → List ℕ → List ℕ → List ℕ → List ℕ → Answer → List ℕ → List ℕ → List ℕ → Type 0
+abbrev pub AskCall : (xs ys oldPlan oldFields oldBounds : List ℕ) → Answer → (newPlan newFields newBounds : List ℕ) → Type 0
 AskCall xs ys oldPlan oldFields =
     let e = entryIn ys 0 in
     AskedCall (dayOf xs) e (andThen (dayBeside xs (length ys) (length oldFields)) (λ d. askOf d e (length oldPlan))) oldPlan oldFields
@@ -68,7 +68,8 @@ pub record CommittedCall (d : StampedDay) (e : Entry) (o : Outcome Narrowed) (ol
   pub stamp : (v : Narrowed) → o ≡ answered v → getD (a .values) 2 0 ≡ dayOf newDay .stamp
 
 -- what `dock_commit` answers of the day's row xs, an entry's row ys and a stamp s, and leaves in what is lent
-abbrev pub CommitCall : List ℕ → List ℕ → ℕ → List ℕ → List ℕ → List ℕ → Answer → List ℕ → List ℕ → List ℕ → List ℕ → Type 0
+abbrev pub CommitCall : (xs ys : List ℕ) (s : ℕ) (oldPlan oldFields oldBounds : List ℕ) → Answer
+    → (newDay newPlan newFields newBounds : List ℕ) → Type 0
 CommitCall xs ys s oldPlan oldFields =
     let e = entryIn ys 0 in
     CommittedCall (dayOf xs) e (andThen (dayBeside xs (length ys) (length oldFields)) (λ d. commitOf d e s (length oldPlan)))

@@ -13,9 +13,10 @@ trimmed l = dayList (l .frame) (entriesOf l)
 abbrev pub withEntry : DayList → Entry → DayList
 withEntry l e = dayList (l .frame) (entriesOf l ++ (e ∷ []))
 
--- the stamp after a success: one more; "at 65,535, never reached from fresh, it stays"
+-- the largest number of 16 bits
 abbrev pub largestStamp : ℕ
 largestStamp = 65535
 
+-- the stamp after a success: one more; "at 65,535, never reached from fresh, it stays"
 abbrev pub nextStamp : ℕ → ℕ
 nextStamp s = min (s + 1) largestStamp
