@@ -57,6 +57,7 @@ pub fn numbers_of(x: Refusal) -> RefusalCode
         Refusal::BeforeOpening(at) => with_one(16, at),
         Refusal::StaleStamp(stamp) => with_one(17, stamp as usize),
         Refusal::DayFull(stamp) => with_one(18, stamp as usize),
+        Refusal::RoomCount(rooms) => with_one(19, rooms),
         Refusal::BadFlatLength(numbers) => with_one(100, numbers),
     }
 }

@@ -3,10 +3,10 @@
 mod MapBytes
 mod Places
 mod CarriedPlaces
-mod FieldTrip
-mod HeaderTrip
-mod EntryTrip
-mod ListTrip
+pub mod FieldTrip
+pub mod HeaderTrip
+pub mod EntryTrip
+pub mod ListTrip
 mod MapPlaces
 pub mod ReadLaws
 pub mod RoundTrip

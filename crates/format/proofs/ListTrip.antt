@@ -37,16 +37,17 @@ every-at P [] (suc k) (suc i) b s = every-at P [] k i b s
 every-at P (e ∷ es) k zero b s = s .0
 every-at P (e ∷ es) k (suc i) b s = every-at P es k i b (s .1)
 
--- entries that fit and are sound are read back from their one forms
-pub entries-read-back : (f : Frame) (at : ℕ) (es : List Entry) → f .h < 65536 → Every EntryFits es → Every (Sound f) es
-    → entriesFrom f (length es) at (bytesOfEntries f es) ≡ answered (es, at + length (bytesOfEntries f es))
+-- entries that fit and are sound are read back from their one forms, whatever follows
+pub entries-read-back : (f : Frame) (at : ℕ) (es : List Entry) (rest : List ℕ) → f .h < 65536 → Every EntryFits es → Every (Sound f) es
+    → entriesFrom f (length es) at (bytesOfEntries f es ++ rest) ≡ answered (es, at + length (bytesOfEntries f es))
 unfolding entriesFrom bytesOfEntries
-entries-read-back f at [] h fits s = rw add-zero
-entries-read-back f at (e ∷ es) h fits s =
+entries-read-back f at [] rest h fits s = rw add-zero
+entries-read-back f at (e ∷ es) rest h fits s =
     rw (
-      entry-reads-back f at e (bytesOfEntries f es) h (fits .0) (s .0),
-      drop-append-seam (entryBytes f e) (bytesOfEntries f es),
-      entries-read-back f (at + length (entryBytes f e)) es h (fits .1) (s .1),
+      append-assoc,
+      entry-reads-back f at e (bytesOfEntries f es ++ rest) h (fits .0) (s .0),
+      drop-append-seam (entryBytes f e) (bytesOfEntries f es ++ rest),
+      entries-read-back f (at + length (entryBytes f e)) es rest h (fits .1) (s .1),
       length-append,
       add-assoc,
     )

@@ -2,7 +2,7 @@
 -- that are equal are written alike.
 -- Assumes nothing.
 use mathlib.Core.Path.{_≡_, refl, sym, ap, _∙_}
-use mathlib.Core.List.{List, _++_}
+use mathlib.Core.List.{List, [], _++_, append-nil}
 use Prim.Native.Nat.{ℕ, _+_, _≤_, _<_}
 use native.Mathlib.Omega.{arith}
 use borrow.Author.Tests.{le-ltb}
@@ -43,7 +43,7 @@ module _ (l : DayList) (t : Typed l) (w : WellFormed l) where
       ≡ answered (entriesOf l, at + length (bytesOfEntries (l .frame) (entriesOf l)))
   entries-back at =
       let fits = every-take EntryFits (l .entries) (l .n) (λ i. record { serial = t .serial i; seal = t .seal i }) in
-      rw counted at (entries-read-back (l .frame) at (entriesOf l) small fits (sound .entries))
+      rw (counted, append-nil) at (entries-read-back (l .frame) at (entriesOf l) [] small fits (sound .entries))
 
   -- a well-formed list is read back from its one form: the same entries, and blank places after them
   decoded-back : decodeOf (bytesOf l) ≡ answered (dayList (l .frame) (entriesOf l))

@@ -10,7 +10,7 @@ use Rattle.list.specs.declared.types.Refusal.{Refusal}
 use Rattle.list.specs.declared.types.Refusal.the-variants.{BytesMissing, BadDayLength, TooManyEntries, BadMapByte, DefaultWritten}
 use Rattle.list.specs.declared.types.Refusal.the-variants.{NoMinutes, BadWindow, BytesLeftOver, Overloaded, NoPlace, PlanBufferShort}
 use Rattle.list.specs.declared.types.Refusal.the-variants.{ListBufferShort, UnknownPlace, SerialClash, BadOpening}
-use Rattle.list.specs.declared.types.Refusal.the-variants.{BeforeOpening, StaleStamp, DayFull, BadFlatLength}
+use Rattle.list.specs.declared.types.Refusal.the-variants.{BeforeOpening, StaleStamp, DayFull, RoomCount, BadFlatLength}
 use Rattle.list.specs.declared.types.Verdict.{Verdict}
 use Rattle.list.specs.declared.types.Verdict.the-variants.{Accepted, Refused}
 use Rattle.list.specs.declared.types.WriteAnswer.{WriteAnswer}
@@ -50,7 +50,8 @@ refusalOf k =
     (cond (eqb n 15) (BadOpening x)
     (cond (eqb n 16) (BeforeOpening x)
     (cond (eqb n 17) (StaleStamp x)
-    (cond (eqb n 18) (DayFull x) (BadFlatLength x))))))))))))))))))
+    (cond (eqb n 18) (DayFull x)
+    (cond (eqb n 19) (RoomCount x) (BadFlatLength x)))))))))))))))))))
 
 refusal-is : (x : Refusal) → refusalOf (codeOf x) ≡ x
 refusal-is (BytesMissing x) = refl
@@ -71,6 +72,7 @@ refusal-is (BadOpening x) = refl
 refusal-is (BeforeOpening x) = refl
 refusal-is (StaleStamp x) = refl
 refusal-is (DayFull x) = refl
+refusal-is (RoomCount x) = refl
 refusal-is (BadFlatLength x) = refl
 
 -- so no two refusals have the same number and values

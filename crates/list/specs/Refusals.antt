@@ -7,7 +7,7 @@ use Rattle.list.specs.declared.types.Refusal.{Refusal}
 use Rattle.list.specs.declared.types.Refusal.the-variants.{BytesMissing, BadDayLength, TooManyEntries, BadMapByte, DefaultWritten}
 use Rattle.list.specs.declared.types.Refusal.the-variants.{NoMinutes, BadWindow, BytesLeftOver, Overloaded, NoPlace, PlanBufferShort}
 use Rattle.list.specs.declared.types.Refusal.the-variants.{ListBufferShort, UnknownPlace, SerialClash, BadOpening}
-use Rattle.list.specs.declared.types.Refusal.the-variants.{BeforeOpening, StaleStamp, DayFull, BadFlatLength}
+use Rattle.list.specs.declared.types.Refusal.the-variants.{BeforeOpening, StaleStamp, DayFull, RoomCount, BadFlatLength}
 use Rattle.list.specs.declared.types.Verdict.{Verdict}
 use Rattle.list.specs.declared.types.Verdict.the-variants.{Accepted, Refused}
 use Rattle.list.specs.declared.types.DayList.{DayList}
@@ -34,6 +34,7 @@ codeOf (BadOpening at) = code 15 (at ∷ [])
 codeOf (BeforeOpening at) = code 16 (at ∷ [])
 codeOf (StaleStamp stamp) = code 17 (stamp ∷ [])
 codeOf (DayFull stamp) = code 18 (stamp ∷ [])
+codeOf (RoomCount rooms) = code 19 (rooms ∷ [])
 codeOf (BadFlatLength numbers) = code 100 (numbers ∷ [])
 
 -- a verdict with what stands beside Accepted

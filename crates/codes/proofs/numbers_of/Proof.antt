@@ -137,6 +137,12 @@ enum-known-x-18 c = search needs
 with-one-requires-18 : tie.Need-with-one-requires-18
 with-one-requires-18 c κs = search needs
 
+enum-known-x-19 : tie.Need-enum-known-x-19
+enum-known-x-19 c = search needs
+
+with-one-requires-19 : tie.Need-with-one-requires-19
+with-one-requires-19 c κs = search needs
+
 returns : tie.Need-returns
 returns c = carried (c .with-one .ensures) (c .before .before .x .given .1) refl
 
@@ -194,6 +200,9 @@ returns-18 c = carried (c .with-one17 .ensures) (c .before .before .x17 .given .
 returns-19 : tie.Need-returns-19
 returns-19 c = carried (c .with-one18 .ensures) (c .before .before .x18 .given .1) refl
 
+returns-20 : tie.Need-returns-20
+returns-20 c = carried (c .with-one19 .ensures) (c .before .before .x19 .given .1) refl
+
 pub numbers-of-spec : {M : Type 1} → statement M
 numbers-of-spec =
     tie.close
@@ -238,6 +247,8 @@ numbers-of-spec =
     with-one-requires-17
     enum-known-x-18
     with-one-requires-18
+    enum-known-x-19
+    with-one-requires-19
     returns
     returns-2
     returns-3
@@ -256,4 +267,5 @@ numbers-of-spec =
     returns-16
     returns-17
     returns-18
-    returns-19)
+    returns-19
+    returns-20)

@@ -1,0 +1,7 @@
+-- What stands at the front of bytes that read, that it is read whatever follows, and what reading the front says: FrontLaws.
+mod NotEight
+pub mod StandingLists
+pub mod Fronts
+pub mod FrontLaws
+-- What the code's proofs cite, case by case.
+mod FrontCases

@@ -1,0 +1,4 @@
+pub mod Shares
+pub mod Laws
+pub mod Calls
+pub mod Internal
