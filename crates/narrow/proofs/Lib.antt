@@ -5,8 +5,8 @@ pub mod OverloadPlanner
 pub mod MirrorSearches
 pub mod StepsKeep
 pub mod Costs
-mod RoundsEnd
-mod SingleRounds
+pub mod RoundsEnd
+pub mod SingleRounds
 -- Searches are exact, settled sets are settled in the mirror and stay inside, rounds are steps, and the law of narrowing: NarrowLaws.
 pub mod Exact
 pub mod MirrorSettled
@@ -20,7 +20,7 @@ pub mod OneOutcome
 mod MirrorSides
 pub mod Alike
 -- The list with the windows found, and what the answers of the calls on lists say.
-mod ListWindows
+pub mod ListWindows
 pub mod ListAnswers
 -- What the code's proofs cite, case by case.
 mod SearchCases

@@ -7,10 +7,9 @@ use Prim.Native.Nat.{ℕ, zero, suc, _+_, _≤_, _<_}
 use native.Mathlib.Omega.{arith}
 use borrow.Author.Tests.{le-ltb}
 use lib.Dec.{ltb}
-use lib.ListN.{length, take, drop, length-append, take-append-drop}
-use lib.Seq.{length-take-le, take-length}
+use lib.ListN.{length, take, drop, length-append, length-drop, take-append-drop}
+use lib.Seq.{length-take-le, take-length, take-append-seam}
 use Rattle.base.specs.Outcomes.{code, Outcome, answered, refused, firstOf}
-use Rattle.base.specs.Counting.{firstBelow}
 use Rattle.base.proofs.Searches.{first-below}
 use Rattle.list.specs.DayLists.{entriesOf, dayList}
 use Rattle.list.specs.Clashes.{firstClash, clashesEarlier, clashRow}
@@ -26,7 +25,8 @@ use Rattle.format.specs.Writing.{bytesOfEntries, bytesOf}
 use Rattle.format.proofs.HeaderTrip.{HeaderBack, header-back, header-length}
 use Rattle.format.proofs.EntryTrip.{EntryFits}
 use Rattle.format.proofs.ListTrip.{entries-read-back}
-use Rattle.shares.specs.Shares.{frontEntries, frontOf}
+use Rattle.format.proofs.LongestList.{longest}
+use Rattle.shares.specs.Shares.{shareBytes, frontEntries, frontOf, shareWith}
 
 -- a list that bytes can say: its header and entries are sound, its serials and seals fit their bytes, and behind its entries are blank ones
 pub record Readable (l : DayList) : Type 0 where
@@ -148,3 +148,18 @@ pub record Stands (l : DayList) : Type 0 where
 
 pub stands-read : (l : DayList) → Stands l → (rest : List ℕ) → frontOf (bytesOf l ++ rest) ≡ answered l
 stands-read l st rest = front-form l (st .readable) rest ∙ apart-read l (st .formed)
+
+-- a share in which a list was written
+module _ (l : DayList) (old : List ℕ) where
+  pub share-back : Stands l → frontOf (shareWith l old) ≡ answered l
+  unfolding shareWith
+  share-back st = stands-read l st (drop (length (bytesOf l)) old)
+
+  pub share-form : take (length (bytesOf l)) (shareWith l old) ≡ bytesOf l
+  unfolding shareWith
+  share-form = take-append-seam (bytesOf l) _
+
+  pub share-length : WellFormed l → length old ≡ shareBytes → length (shareWith l old) ≡ shareBytes
+  unfolding shareWith
+  share-length w long =
+      length-append (bytesOf l) (drop (length (bytesOf l)) old) ∙ omega (arith, length-drop (length (bytesOf l)) old, longest l w, long)

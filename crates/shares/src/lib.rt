@@ -4,4 +4,7 @@
 // codes, and of format its definitions, its reader's promise and what its round trips rest on.
 mod front;
 
+// The bytes of a share: as many as a longest list has.
+pub const SHARE_BYTES: usize = 965;
+
 pub use front::read_front;

@@ -1,0 +1,10 @@
+-- Turns in cyclic order, over whatever rooms.
+mod CycleLaws
+-- A room by its own turns: lists with narrowed windows stand in its share, each own turn is one round, and how the room ends.
+mod NarrowedLists
+mod RoomRounds
+mod RoomEnds
+-- The shares of one buffer, turns over what is lent as turns of the rooms, and the laws.
+mod SharesApart
+mod DeskTurns
+pub mod DeskLaws

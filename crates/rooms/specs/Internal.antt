@@ -1,0 +1,68 @@
+-- What private functions promise each other. No public promise cites these.
+use Prim.Native.Nat.{ℕ, _≤_}
+use mathlib.Core.Path.{_≡_}
+use mathlib.Core.Bool.{Bool, cond}
+use mathlib.Core.List.{List, [], _∷_}
+use lib.ListN.{length, getD}
+use lib.Dec.{ltb}
+use Rattle.base.specs.Outcomes.{Outcome, answered, refused, firstOf}
+use Rattle.list.specs.Machine.{Bytes}
+use Rattle.list.specs.Refusals.{verdictOf}
+use Rattle.list.specs.declared.types.DayList.{DayList}
+use Rattle.rooms.specs.Cycles.{numberAfter, numberUsed, nextUnfinished}
+use Rattle.rooms.specs.Rooms.{isUnfinished, roundIn, rowAfter, shareAfter, saidBy}
+use Rattle.rooms.specs.Turns.{noRow, shareOf, putShare, Turn, took, none-unfinished, turnRows}
+use Rattle.rooms.specs.Calls.{turnAnswerOf}
+use Rattle.rooms.specs.declared.types.Room.{Room}
+use Rattle.rooms.specs.declared.types.RoomAnswer.{RoomAnswer}
+use Rattle.rooms.specs.declared.types.TurnTaken.{TurnTaken}
+
+-- what `room_round` answers of a row and a share that held old, and what the share then holds
+pub record RoundsRoom (r : Room) (old : List ℕ) (a : RoomAnswer) (new : List ℕ) : Type 0 where
+  pub row : a .row ≡ rowAfter r (roundIn (r .stage) old)
+  pub share : new ≡ shareAfter old (roundIn (r .stage) old)
+  pub said : verdictOf (a .verdict) ≡ saidBy (roundIn (r .stage) old)
+
+-- which rooms are unfinished, by rows held by value
+abbrev pub unfinishedIn : List Room → ℕ → Bool
+unfinishedIn rows i = isUnfinished (getD rows i noRow .stage)
+
+-- the round of room k
+abbrev pub roundAt : List Room → ℕ → List ℕ → Outcome (DayList × ℕ)
+roundAt rows k lists = roundIn (getD rows k noRow .stage) (shareOf k lists)
+
+-- what a turn of the first n rows answers
+unfoldable pub answerOf : List Room → ℕ → ℕ → List ℕ → Outcome Turn
+answerOf rows n number lists =
+    let k = nextUnfinished (unfinishedIn rows) n number in
+    firstOf (turnRows n (length lists))
+    (answered (cond (ltb k n) (took k (saidBy (roundAt rows k lists)) (numberAfter n k)) (none-unfinished (numberUsed n number))))
+
+-- the place of the row that is to be stored, n where none is; that row; and the lists afterwards
+abbrev pub placeBy : Outcome Turn → ℕ → ℕ
+placeBy (answered (took k said next)) n = k
+placeBy (answered (none-unfinished used)) n = n
+placeBy (refused k) n = n
+
+abbrev pub rowBy : Outcome Turn → List Room → List ℕ → Room
+rowBy (answered (took k said next)) rows lists = rowAfter (getD rows k noRow) (roundAt rows k lists)
+rowBy (answered (none-unfinished used)) rows lists = noRow
+rowBy (refused k) rows lists = noRow
+
+abbrev pub listsBy : Outcome Turn → List Room → List ℕ → List ℕ
+listsBy (answered (took k said next)) rows lists = putShare k (shareAfter (shareOf k lists) (roundAt rows k lists)) lists
+listsBy (answered (none-unfinished used)) rows lists = lists
+listsBy (refused k) rows lists = lists
+
+-- what `take_turn` answers of the first n rows and lists, and leaves there
+pub record TakesTurn (rows : List Room) (n number : ℕ) (old : List ℕ) (a : TurnTaken) (new : List ℕ) : Type 0 where
+  pub answer : turnAnswerOf (a .answer) ≡ answerOf rows n number old
+  pub at : a .at ≡ placeBy (answerOf rows n number old) n
+  pub row : a .row ≡ rowBy (answerOf rows n number old) rows old
+  pub lists : new ≡ listsBy (answerOf rows n number old) rows old
+  pub bytes : Bytes old
+
+-- eight rows, as they are gathered; d past the last
+abbrev pub eightRows : List Room → Room → List Room
+eightRows ys d =
+    getD ys 0 d ∷ getD ys 1 d ∷ getD ys 2 d ∷ getD ys 3 d ∷ getD ys 4 d ∷ getD ys 5 d ∷ getD ys 6 d ∷ getD ys 7 d ∷ []

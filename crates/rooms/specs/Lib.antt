@@ -1,0 +1,6 @@
+pub mod Cycles
+pub mod Rooms
+pub mod Turns
+pub mod Laws
+pub mod Calls
+pub mod Internal
