@@ -17,5 +17,5 @@ pub mod Examples
 mod EntryCases
 mod ReadCases
 mod FormCases
-mod WriteCases
+pub mod WriteCases
 mod CallCases

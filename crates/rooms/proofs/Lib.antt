@@ -8,3 +8,9 @@ mod RoomEnds
 mod SharesApart
 mod DeskTurns
 pub mod DeskLaws
+-- What the code's proofs cite, case by case.
+mod RoomCases
+mod TurnCases
+mod LentTurns
+-- A slice that is lent for a call, as the proofs that walk code by hand need it.
+mod Lending

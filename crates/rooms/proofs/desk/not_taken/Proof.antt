@@ -1,0 +1,15 @@
+use borrow.Author.Needs.{needs}
+use Rattle.rooms.proofs.desk.not_taken.Statement.{statement}
+use Rattle.rooms.proofs.desk.not_taken.Tie as tie
+use Rattle.rooms.proofs.desk.not_taken.Reads as reads
+use Rattle.rooms.proofs.desk.not_taken.Lts as lts
+use Rattle.rooms.proofs.desk.no_row.Reads as no-row-reads
+
+no-row-requires : tie.Need-no-row-requires
+no-row-requires c κs = search needs
+
+returns : tie.Need-returns
+returns c = rw (c .no-row .ensures)
+
+pub not-taken-spec : {M : Type 1} → statement M
+not-taken-spec = tie.close (tie.spec no-row-requires returns)
