@@ -1,44 +1,30 @@
 -- A turn over eight rows held by value, and the row stored, is the turn over what is lent.
 -- Assumes nothing.
-use mathlib.Core.Path.{_≡_, refl, sym, ap, _∙_, fun-ext}
+use mathlib.Core.Path.{_≡_, refl, sym, ap, _∙_, fun-ext, subst}
 use mathlib.Core.Bool.{cond}
-use mathlib.Core.List.{List, [], _∷_}
-use Prim.Native.Nat.{ℕ, zero, suc, _<_, _≤_}
+use mathlib.Core.List.{List, [], _∷_, _++_}
+use Prim.Native.Nat.{ℕ, _<_, _≤_}
 use native.Mathlib.Omega.{arith}
 use borrow.Author.Tests.{lt-ltb, ne-eqb}
 use lib.Dec.{ltb}
-use lib.ListN.{length, getD, set, List·getD-eq-default}
+use lib.ListN.{length, getD, set, take, drop}
 use lib.Seq.{set-out}
 use Rattle.base.specs.Outcomes.{code, Outcome, answered, refused, firstOf}
 use Rattle.base.proofs.Sums.{le-or-lt}
+use Rattle.list.specs.Machine.{Bytes}
+use Rattle.list.specs.declared.types.Refusal.the-variants.{RoomCount}
 use Rattle.rooms.specs.Cycles.{numberAfter, numberUsed, nextUnfinished}
 use Rattle.rooms.specs.Rooms.{isUnfinished, roundIn, rowAfter, shareAfter, saidBy}
-use Rattle.rooms.specs.Turns.{mostRooms, Lent, noRow, shareOf, putShare, Turn, took, none-unfinished, turnRows, turnOf, lentBy, lentAfter}
-use Rattle.rooms.specs.Calls.{Turns}
-use Rattle.rooms.specs.Internal.{answerOf, placeBy, rowBy, listsBy, TakesTurn, eightRows}
+use Rattle.rooms.specs.Turns.{mostRooms, Lent, noRow, shareOf, putShare, Turn, took, none-unfinished}
+use Rattle.rooms.specs.Turns.{turnRows, turnOf, lentBy, lentAfter}
+use Rattle.rooms.specs.Calls.{Turns, TurnsHeld}
+use Rattle.rooms.specs.Internal.{answerOf, placeBy, rowBy, listsBy, TakesTurn, TurnsFront}
 use Rattle.rooms.specs.declared.types.Room.{Room}
 use Rattle.rooms.specs.declared.types.TurnTaken.{TurnTaken}
+use Rattle.rooms.specs.declared.types.HeldAnswer.{HeldAnswer}
+use Rattle.rooms.specs.declared.types.TurnAnswer.the-variants.{NotTurned}
 use Rattle.rooms.proofs.DeskLaws.{turn-law, turns-law}
-
-abbrev eight : List Room → List Room
-eight ys = eightRows ys noRow
-
-eight-below : (ys : List Room) (i : ℕ) → i < 8 → getD (eight ys) i noRow ≡ getD ys i noRow
-eight-below ys zero h = refl
-eight-below ys (suc zero) h = refl
-eight-below ys (suc (suc zero)) h = refl
-eight-below ys (suc (suc (suc zero))) h = refl
-eight-below ys (suc (suc (suc (suc zero)))) h = refl
-eight-below ys (suc (suc (suc (suc (suc zero))))) h = refl
-eight-below ys (suc (suc (suc (suc (suc (suc zero)))))) h = refl
-eight-below ys (suc (suc (suc (suc (suc (suc (suc zero))))))) h = refl
-eight-below ys (suc (suc (suc (suc (suc (suc (suc (suc i)))))))) h = absurd (omega arith)
-
-eight-at : (ys : List Room) → length ys ≤ mostRooms → (i : ℕ) → getD (eight ys) i noRow ≡ getD ys i noRow
-eight-at ys few i =
-    le-or-lt mostRooms i
-    (λ h. List·getD-eq-default (eight ys) noRow h ∙ sym (List·getD-eq-default ys noRow (omega arith)))
-    (eight-below ys i)
+use Rattle.rooms.proofs.EightRows.{eight, eight-at, first-rows, rows-again}
 
 -- a turn's answer, by the rows at their places
 answerBy : (ℕ → Room) → ℕ → ℕ → List ℕ → Outcome Turn
@@ -107,6 +93,16 @@ module _ (ys : List Room) (lists : List ℕ) (number : ℕ) where
   unfolding lentAfter
   lists-after = le-or-lt n mostRooms (λ few. lists-by few (turnOf x number)) (λ h. rw (too-many h))
 
+  -- more than eight rows are refused
+  pub turn-many : Bytes lists → mostRooms < n → Turns x number (NotTurned (RoomCount n)) x
+  turn-many b h =
+      record {
+        answer = sym (too-many h);
+        lent = sym (turn-law x b number .refusal _ (too-many h));
+        law = turn-law x b number;
+        turns = turns-law x b number;
+      }
+
   module _ (a : TurnTaken) (new : List ℕ) (takes : TakesTurn (eight ys) n number lists a new) where
     rows-are : set ys (a .at) (a .row) ≡ lentAfter x number .rows
     rows-are =
@@ -126,3 +122,31 @@ module _ (ys : List Room) (lists : List ℕ) (number : ℕ) where
           law = turn-law x (takes .bytes) number;
           turns = turns-law x (takes .bytes) number;
         }
+
+-- eight rows held by value, which are the first of those lent
+module _ (held : List Room) (n number : ℕ) (old : List ℕ) where
+  pub held-many : Bytes old → mostRooms < n → (a : HeldAnswer) → a ≡ record { rows = held; answer = NotTurned (RoomCount n) }
+      → TurnsHeld held n old number a old
+  held-many b h a is =
+      record {
+        as-lent = λ rows count first.
+            let many : mostRooms < length rows = omega (arith, h, count) in
+            rw (is, ← count) (rows, turn-many rows old number b many, first);
+      }
+
+  pub held-front : n ≤ mostRooms → (a : HeldAnswer) (new : List ℕ) → TurnsFront held n old number a new → TurnsHeld held n old number a new
+  held-front few a new front =
+      record {
+        as-lent = λ rows count first.
+            let room : length rows ≤ mostRooms = omega (arith, few, count) in
+            let lent : take n held ≡ rows = (λ j. take (sym count j) (first j)) ∙ first-rows rows room in
+            let turned : Turns (record { rows = rows; lists = old }) number (a .answer) (record { rows = front .first; lists = new }) =
+            subst (λ (ys : List Room). Turns (record { rows = ys; lists = old }) number (a .answer) (record { rows = front .first; lists = new }))
+            lent (front .turned) in
+            let same : length (front .first) ≡ length rows =
+            ap (λ (y : Lent). length (y .rows)) (turned .lent) ∙ turned .law .rows-stay in (
+              front .first,
+              turned,
+              front .rows ∙ (λ j. front .first ++ drop (sym count j) (first j)) ∙ rows-again rows (front .first) same room,
+            );
+      }

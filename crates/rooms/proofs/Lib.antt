@@ -11,6 +11,8 @@ pub mod DeskLaws
 -- What the code's proofs cite, case by case.
 mod RoomCases
 mod TurnCases
+mod EightRows
 mod LentTurns
 -- A slice that is lent for a call, as the proofs that walk code by hand need it.
 mod Lending
+mod LendingFront

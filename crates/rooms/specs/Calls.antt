@@ -1,15 +1,14 @@
 -- What the public calls promise.
-use Prim.Native.Nat.{ℕ, _≤_}
+use Prim.Native.Nat.{ℕ}
 use mathlib.Core.Path.{_≡_}
-use mathlib.Core.Bool.{cond}
-use mathlib.Core.List.{List, [], _∷_, _++_}
-use lib.ListN.{length, take, drop}
-use lib.Dec.{leb}
-use Rattle.base.specs.Outcomes.{Outcome, answered, refused, firstOf}
+use mathlib.Core.List.{List}
+use lib.ListN.{length}
+use Rattle.base.specs.Outcomes.{Outcome, answered, refused}
 use Rattle.list.specs.Refusals.{codeOf, verdictOf}
-use Rattle.rooms.specs.Turns.{mostRooms, Lent, Turn, took, none-unfinished, turnRows, turnOf, lentAfter}
+use Rattle.rooms.specs.Turns.{Lent, noRow, eightRows, Turn, took, none-unfinished, turnOf, lentAfter}
 use Rattle.rooms.specs.Laws.{Fit, TurnLaw, TurnsLaw}
 use Rattle.rooms.specs.declared.types.Room.{Room}
+use Rattle.rooms.specs.declared.types.HeldAnswer.{HeldAnswer}
 use Rattle.rooms.specs.declared.types.TurnAnswer.{TurnAnswer}
 use Rattle.rooms.specs.declared.types.TurnAnswer.the-variants.{NotTurned, NoneUnfinished, Turned}
 
@@ -26,3 +25,10 @@ pub record Turns (x : Lent) (number : ℕ) (a : TurnAnswer) (y : Lent) : Type 0 
   -- the laws, of this turn and of turns one after the other
   pub law : TurnLaw x number
   pub turns : Fit x → TurnsLaw x number
+
+-- what `turn_held` answers of eight rows, a number of rooms, lists and a number, and leaves there: what `turn` answers and leaves of any n
+-- rows of which these are the first eight
+pub record TurnsHeld (held : List Room) (n : ℕ) (old : List ℕ) (number : ℕ) (a : HeldAnswer) (new : List ℕ) : Type 0 where
+  pub as-lent : (rows : List Room) → length rows ≡ n → held ≡ eightRows rows noRow
+      → (y : List Room) × Turns (record { rows = rows; lists = old }) number (a .answer) (record { rows = y; lists = new })
+      × (a .rows ≡ eightRows y noRow)

@@ -28,6 +28,11 @@ noRow = record { stage = Fresh; rounds = 0; moves = 0 }
 abbrev pub rowIn : Lent → ℕ → Room
 rowIn x i = getD (x .rows) i noRow
 
+-- the first eight rows, this one past the last
+abbrev pub eightRows : List Room → Room → List Room
+eightRows rows d =
+    getD rows 0 d ∷ getD rows 1 d ∷ getD rows 2 d ∷ getD rows 3 d ∷ getD rows 4 d ∷ getD rows 5 d ∷ getD rows 6 d ∷ getD rows 7 d ∷ []
+
 -- the share of room i in the buffer
 abbrev pub shareOf : ℕ → List ℕ → List ℕ
 shareOf i lists = take shareBytes (drop (i * shareBytes) lists)

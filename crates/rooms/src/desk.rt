@@ -14,7 +14,7 @@ ghost use Rattle.rooms.specs.Rooms.{isUnfinished};
 ghost use Rattle.rooms.specs.Turns.{mostRooms, noRow};
 ghost use Rattle.rooms.specs.Internal.{unfinishedIn, TakesTurn};
 
-const MOST_ROOMS: usize = 8;
+pub(crate) const MOST_ROOMS: usize = 8;
 
 fn is_unfinished(stage: Stage) -> bool
     ensures { λ t. ⌜ t ≡ isUnfinished stage ⌝ }

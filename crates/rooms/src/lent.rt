@@ -2,11 +2,14 @@
 // their code by hand; they are few and thin, and all rules are in the functions that they call.
 use crate::desk::no_row;
 use crate::desk::take_turn;
+use crate::types::HeldAnswer;
 use crate::types::Room;
 use crate::types::TurnAnswer;
 ghost use mathlib.Core.Path.{_≡_};
+ghost use Prim.Native.Nat.{_≤_};
 ghost use lib.ListN.{getD, set};
-ghost use Rattle.rooms.specs.Internal.{eightRows};
+ghost use Rattle.rooms.specs.Turns.{mostRooms, eightRows};
+ghost use Rattle.rooms.specs.Internal.{TurnsFront};
 ghost use Rattle.rooms.specs.Calls.{Turns};
 
 // Row i, or d where there is none.
@@ -53,4 +56,17 @@ pub fn turn(rooms: &mut [Room], lists: &mut [u8], number: usize) -> TurnAnswer
     let taken = take_turn(lists, rows, n, number);
     put_or(rooms, taken.at, taken.row);
     taken.answer
+}
+
+// A turn at a desk whose n rows are the first of these: they are lent to `turn`.
+pub(crate) fn turn_front(rows: [Room; 8], n: usize, lists: &mut [u8], number: usize) -> HeldAnswer
+    requires { ⌜ n ≤ mostRooms ⌝ }
+    ensures { λ a. ⌜ TurnsFront rows n (now (lists .entry)) number a (now (lists .exit)) ⌝ }
+{
+    let mut mine = rows;
+    let answer = turn(&mut mine[..n], lists, number);
+    HeldAnswer {
+        rows: mine,
+        answer: answer,
+    }
 }

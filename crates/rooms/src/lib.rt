@@ -4,8 +4,10 @@
 // turn and of turns one after the other. Uses the crates list, format, shares, jackson and narrow by their stated answers, of narrow also
 // what is shown of single rounds, and of base definitions and lemmas.
 mod desk;
+mod held;
 mod lent;
 mod room;
 pub mod types;
 
+pub use held::turn_held;
 pub use lent::turn;

@@ -43,3 +43,9 @@ pub struct TurnTaken {
     pub row: Room,
     pub answer: TurnAnswer,
 }
+
+// What a turn over rows held by value answers, for callers that cannot lend a slice of them: the rows after it, and the answer.
+pub struct HeldAnswer {
+    pub rows: [Room; 8],
+    pub answer: TurnAnswer,
+}

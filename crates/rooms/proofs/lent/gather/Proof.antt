@@ -40,7 +40,7 @@ use denote.Triple.Table.{entered, cited}
 use denote.Triple.Walked.{says, Stays, stay-none-slice, stay-none, walkOf, Walks, ends-at, walked, goes-none-slice, goes-none, walk-meets}
 use denote.Exit.{yes}
 use Rattle.rooms.specs.declared.types.Room.{Room}
-use Rattle.rooms.specs.Internal.{eightRows}
+use Rattle.rooms.specs.Turns.{eightRows}
 use Rattle.rooms.proofs.types.Room as T
 use Rattle.rooms.proofs.types.Room.Laws as T′
 use Rattle.rooms.proofs.lent.row_or as row-or

@@ -45,9 +45,9 @@ use denote.Triple.Walked.{says, Stays, stay-none, gave-slice, walkOf, goes-none,
 use denote.Exit.{yes}
 use Rattle.rooms.specs.declared.types.Room.{Room}
 use Rattle.rooms.specs.declared.types.TurnTaken.{TurnTaken}
-use Rattle.rooms.specs.Turns.{noRow as blank}
+use Rattle.rooms.specs.Turns.{eightRows, noRow as blank}
 use Rattle.rooms.specs.Calls.{Turns}
-use Rattle.rooms.specs.Internal.{TakesTurn, eightRows}
+use Rattle.rooms.specs.Internal.{TakesTurn}
 use Rattle.rooms.proofs.LentTurns.{turn-lent}
 use Rattle.rooms.proofs.types.Room as T
 use Rattle.rooms.proofs.types.Room.Laws as T′

@@ -1,0 +1,21 @@
+// A turn over rows held by value, for callers that cannot lend a slice of them.
+use crate::desk::MOST_ROOMS;
+use crate::lent::turn_front;
+use crate::types::HeldAnswer;
+use crate::types::Room;
+use crate::types::TurnAnswer;
+use list::types::Refusal;
+ghost use Rattle.rooms.specs.Calls.{TurnsHeld};
+
+// A turn at a desk of n rooms, of which these are the first eight rows: `turn` over them, or row 19 where there are more.
+pub fn turn_held(rows: [Room; MOST_ROOMS], n: usize, lists: &mut [u8], number: usize) -> HeldAnswer
+    ensures { λ a. ⌜ TurnsHeld rows n (now (lists .entry)) number a (now (lists .exit)) ⌝ }
+{
+    if MOST_ROOMS < n {
+        return HeldAnswer {
+            rows: rows,
+            answer: TurnAnswer::NotTurned(Refusal::RoomCount(n)),
+        };
+    }
+    turn_front(rows, n, lists, number)
+}
