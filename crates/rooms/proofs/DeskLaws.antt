@@ -139,6 +139,11 @@ module _ (x : Lent) (b : Bytes (x .lists)) where
     pub turn-law : TurnLaw x number
     turn-law =
         record {
+          fits = λ t e. rows-passed x number (λ fit. fit) (λ c r. absurd (answered-refused e r));
+          fitting = λ fit.
+              le-or-lt m k
+              (λ h. (none-unfinished (numberUsed m number), turn-nothing x number fit h))
+              (λ h. (took k (saidBy (roundFor x k)) (numberAfter m k), turn-took x number fit k refl h));
           refusal = refused-stays x number;
           other-rows = leaves .0;
           other-bytes = leaves .1;

@@ -1,5 +1,5 @@
 -- Turns in cyclic order, over whatever rooms.
-mod CycleLaws
+pub mod CycleLaws
 -- A room by its own turns: lists with narrowed windows stand in its share, each own turn is one round, and how the room ends.
 mod NarrowedLists
 mod RoomRounds
@@ -11,7 +11,7 @@ pub mod DeskLaws
 -- What the code's proofs cite, case by case.
 mod RoomCases
 mod TurnCases
-mod EightRows
+pub mod EightRows
 mod LentTurns
 -- A slice that is lent for a call, as the proofs that walk code by hand need it.
 mod Lending

@@ -11,7 +11,7 @@ use Rattle.format.specs.Writing.{bytesOf}
 use Rattle.shares.specs.Shares.{shareBytes, frontOf}
 use Rattle.rooms.specs.Cycles.{numberUsed, ahead, alone, ownTurns}
 use Rattle.rooms.specs.Rooms.{isUnfinished, mostCounted, RoomState, ownTurn, unfinished, answerAlone, slackOf}
-use Rattle.rooms.specs.Turns.{mostRooms, Lent, rowIn, shareOf, took, none-unfinished, roomFor, turnOf, lentAfter}
+use Rattle.rooms.specs.Turns.{mostRooms, Lent, rowIn, shareOf, Turn, took, none-unfinished, roomFor, turnOf, lentAfter}
 use Rattle.rooms.specs.Turns.{starts, afterTurns, roomIn, cycleOf}
 use Rattle.rooms.specs.declared.types.Stage.the-variants.{Fresh, Settled, Refused}
 
@@ -35,7 +35,9 @@ pub record IsNext (x : Lent) (number k : ℕ) : Type 0 where
 
 -- one turn over what is lent, from this number
 pub record TurnLaw (x : Lent) (number : ℕ) : Type 0 where
-  -- a refusal changes nothing
+  -- it is not refused exactly if what is lent fits, and a refusal changes nothing
+  pub fits : (t : Turn) → turnOf x number ≡ answered t → Fit x
+  pub fitting : Fit x → (t : Turn) × (turnOf x number ≡ answered t)
   pub refusal : (k : Code) → turnOf x number ≡ refused k → lentAfter x number ≡ x
   -- "touches no other row or list": rows, and every byte outside of the room's share
   pub other-rows : (i : ℕ) → (i ≡ roomFor x number → ⊥) → rowIn (lentAfter x number) i ≡ rowIn x i

@@ -9,5 +9,6 @@ mod lent;
 mod room;
 pub mod types;
 
+pub use desk::no_row;
 pub use held::turn_held;
 pub use lent::turn;

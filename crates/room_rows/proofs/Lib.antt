@@ -1,0 +1,5 @@
+-- Rows of numbers and the rooms that they say.
+mod RoomTrip
+-- What the code's proofs cite, case by case.
+mod RowCases
+mod TurnCases

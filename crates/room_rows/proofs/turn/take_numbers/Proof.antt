@@ -1,0 +1,128 @@
+use mathlib.Core.Path.{refl}
+use native.Mathlib.Omega.{arith}
+use borrow.Author.Needs.{needs}
+use Rattle.room_rows.proofs.TurnCases.{turn-refused, turn-nothing, in-eight, inside, turn-taken}
+use Rattle.room_rows.proofs.turn.take_numbers.Statement.{statement}
+use Rattle.room_rows.proofs.turn.take_numbers.Tie as tie
+use Rattle.room_rows.proofs.turn.take_numbers.Reads as reads
+use Rattle.room_rows.proofs.turn.take_numbers.Lts as lts
+use Rattle.room_rows.proofs.rows.eight_rooms.Reads as eight-rooms-reads
+use Rattle.room_rows.proofs.rows.put_room.Reads as put-room-reads
+use Rattle.room_rows.proofs.turn.put_carried.Reads as put-carried-reads
+use Rattle.room_rows.proofs.turn.refused_as.Reads as refused-as-reads
+use Rattle.rooms.proofs.turn_held.Reads as turn-held-reads
+
+eight-rooms-requires : tie.Need-eight-rooms-requires
+eight-rooms-requires c κs = search needs
+
+turn-held-requires : tie.Need-turn-held-requires
+turn-held-requires c κs = search needs
+
+enum-known-answer : tie.Need-enum-known-answer
+enum-known-answer c = search needs
+
+refused-as-requires : tie.Need-refused-as-requires
+refused-as-requires c κs = search needs
+
+enum-known-answer-2 : tie.Need-enum-known-answer-2
+enum-known-answer-2 c = search needs
+
+enum-known-answer-3 : tie.Need-enum-known-answer-3
+enum-known-answer-3 c = search needs
+
+mul-row : tie.Need-mul-row
+mul-row c =
+    let told = c .before in
+    let held = told .before .before .before .before .before in
+    let args = held .before .before .before .before .before .before .args in
+    let few =
+    in-eight (args .numbers .now) (args .lists .now) (args .number) (args .carried .now) _ (held .before .before .eight-rooms .ensures)
+    (held .turn-held .result) _ (held .turn-held .ensures) _ _ _ (told .answer3 .given .1) in
+    omega (arith, few)
+
+array-copy-out-row : tie.Need-array-copy-out-row
+array-copy-out-row c =
+    let told = c .before in
+    let held = told .before .before .before .before .before in
+    let args = held .before .before .before .before .before .before .args in
+    in-eight (args .numbers .now) (args .lists .now) (args .number) (args .carried .now) _ (held .before .before .eight-rooms .ensures)
+    (held .turn-held .result) _ (held .turn-held .ensures) _ _ _ (told .answer3 .given .1)
+
+put-room-requires : tie.Need-put-room-requires
+put-room-requires c κs =
+    let told = c .before .before .before in
+    let held = told .before .before .before .before .before in
+    let args = held .before .before .before .before .before .before .args in
+    inside (args .numbers .now) (args .lists .now) (args .number) (args .carried .now) _ (held .before .before .eight-rooms .ensures)
+    (held .turn-held .result) _ (held .turn-held .ensures) _ _ _ (told .answer3 .given .1)
+
+put-carried-requires : tie.Need-put-carried-requires
+put-carried-requires c κs = search needs
+
+same-length : tie.Need-same-length
+same-length c = search needs
+
+same-length-2 : tie.Need-same-length-2
+same-length-2 c = search needs
+
+returns : tie.Need-returns
+returns c =
+    let told = c .before .before in
+    let held = told .before .before .before .before .before in
+    let args = held .before .before .before .before .before .before .args in
+    turn-refused (args .numbers .now) (args .lists .now) (args .number) (args .carried .now) _ (held .before .before .eight-rooms .ensures)
+    (held .turn-held .result) _ (held .turn-held .ensures) _ (c .refused-as .result) (told .answer .given .1) (c .refused-as .ensures)
+
+same-length-3 : tie.Need-same-length-3
+same-length-3 c = search needs
+
+same-length-4 : tie.Need-same-length-4
+same-length-4 c = search needs
+
+returns-2 : tie.Need-returns-2
+returns-2 c =
+    let told = c .before in
+    let held = told .before .before .before .before .before in
+    let args = held .before .before .before .before .before .before .args in
+    turn-nothing (args .numbers .now) (args .lists .now) (args .number) (args .carried .now) _ (held .before .before .eight-rooms .ensures)
+    (held .turn-held .result) _ (held .turn-held .ensures) _ (told .answer2 .given .1)
+
+same-length-5 : tie.Need-same-length-5
+same-length-5 c = search needs
+
+same-length-6 : tie.Need-same-length-6
+same-length-6 c = search needs
+
+returns-3 : tie.Need-returns-3
+returns-3 c =
+    let put = c .before .before .before .before in
+    let told = put .before .before .before .before in
+    let held = told .before .before .before .before .before in
+    let args = held .before .before .before .before .before .before .args in
+    turn-taken (args .numbers .now) (args .lists .now) (args .number) (args .carried .now) _ (held .before .before .eight-rooms .ensures)
+    (held .turn-held .result) _ (held .turn-held .ensures) _ _ _ (told .answer3 .given .1) _ _ _ _ refl
+    (put .put-room .ensures) (c .put-carried .ensures .0) (c .put-carried .ensures .1)
+
+pub take-numbers-spec : {M : Type 1} → statement M
+take-numbers-spec =
+    tie.close
+    (tie.spec
+    eight-rooms-requires
+    turn-held-requires
+    enum-known-answer
+    refused-as-requires
+    enum-known-answer-2
+    enum-known-answer-3
+    mul-row
+    array-copy-out-row
+    put-room-requires
+    put-carried-requires
+    same-length
+    same-length-2
+    returns
+    same-length-3
+    same-length-4
+    returns-2
+    same-length-5
+    same-length-6
+    returns-3)

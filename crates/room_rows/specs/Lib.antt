@@ -1,0 +1,3 @@
+pub mod RoomRows
+pub mod Calls
+pub mod Internal
