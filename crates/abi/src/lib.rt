@@ -6,6 +6,7 @@
 // pointers and that they have the lengths told: `bounds` has 128 numbers and `values` 3, and no two of what is lent overlap. Uses all
 // crates but dock.
 mod days;
+mod desk;
 
 use codes::RefusalCode;
 use flat::BOUNDS;
