@@ -64,6 +64,14 @@ extern "C" {
         narrowed_numbers: usize,
         bounds: *mut Bounds,
     ) -> Answer;
+    fn dock_turn(
+        rooms: *mut u32,
+        numbers: usize,
+        lists: *mut u8,
+        len: usize,
+        number: u64,
+        carried: *mut [u64; 3],
+    ) -> Answer;
     fn dock_report(bytes: *const u8, len: usize, out: *mut u8, room: usize) -> Answer;
     fn dock_refusal_line(number: u64, values: *const [u64; 3], out: *mut u8, room: usize) -> Answer;
 }
@@ -79,6 +87,7 @@ pub struct Answer {
 /// What stands before and behind the bytes and the numbers that are lent to a call.
 const BYTE_BESIDE: u8 = 0xEE;
 const NUMBER_BESIDE: u32 = 0xEEEE_EEEE;
+const VALUE_BESIDE: u64 = 0xEEEE_EEEE_EEEE_EEEE;
 
 /// What `fields` hold before a call.
 pub fn untouched_fields() -> Fields {
@@ -298,6 +307,22 @@ fn dock_day(
             }
         }
     }
+}
+
+/// Makes a turn of the library from this room number, with any numbers for the rooms' rows, any bytes for their lists
+/// and three values for what a room's refusal carries lent to it, whatever they hold.
+pub fn turn(rooms: &mut [u32], lists: &mut [u8], number: u64, carried: &mut [u64; 3]) -> Answer {
+    lending(rooms, NUMBER_BESIDE, |rooms| {
+        lending(lists, BYTE_BESIDE, |lists| {
+            lending(carried, VALUE_BESIDE, |carried| {
+                let (rooms, numbers) = (rooms.as_mut_ptr(), rooms.len());
+                let (lists, len) = (lists.as_mut_ptr(), lists.len());
+                let carried: &mut [u64; 3] = carried.try_into().expect("as many values as were lent");
+                // SAFETY: the library reads and writes the rows, the bytes and the values, all of them lent here.
+                unsafe { dock_turn(rooms, numbers, lists, len, number, carried) }
+            })
+        })
+    })
 }
 
 /// Reports an input through the library into `room` bytes, and gives all of them back.

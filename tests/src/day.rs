@@ -28,7 +28,7 @@ pub struct Interval {
     pub work: u64,
 }
 
-/// The rows of document 01's table that the library's calls know, and 14 to 18 of document 02, with what each
+/// The rows of document 01's table that the library's calls know, and 14 to 19 of document 02, with what each
 /// carries; and 100, of a row of numbers of the wrong length.
 #[derive(Clone, Copy, Debug, PartialEq, Eq)]
 pub enum Refusal {
@@ -50,6 +50,7 @@ pub enum Refusal {
     BeforeOpening { place: usize },
     StaleStamp { stamp: u16 },
     DayFull { stamp: u16 },
+    RoomCount { rooms: usize },
     RowLength { numbers: usize },
 }
 
@@ -75,6 +76,7 @@ impl Refusal {
             Refusal::BeforeOpening { place } => (16, place),
             Refusal::StaleStamp { stamp } => (17, usize::from(stamp)),
             Refusal::DayFull { stamp } => (18, usize::from(stamp)),
+            Refusal::RoomCount { rooms } => (19, rooms),
             Refusal::RowLength { numbers } => (100, numbers),
         };
         (number, [carries as u64, 0, 0])

@@ -1,7 +1,8 @@
 //! What the tests of the dock planner stand on. The tests are a program for each layer: `list` (reading and
 //! writing), `jackson` (overload test and schedule of the windows as given), `narrow`, `bounds` (the calls that
-//! plan), `commits` (a stamped day, asks and commits), `report` (the report's text), `program` (the built
-//! program); and `documents` for the pages, the imports under crates/, and wrong readings of the documents.
+//! plan), `commits` (a stamped day, asks and commits), `rooms` (turns of the rooms at one control desk), `report` (the
+//! report's text), `program` (the built program); and `documents` for the pages, the imports under crates/, and wrong
+//! readings of the documents.
 
 // What is tested.
 pub mod abi; // the calls of the static library
@@ -11,6 +12,7 @@ pub mod program; // the report program as it is built
 pub mod bounds; // least ends, greatest starts, shown plans
 pub mod commits; // a day with its stamp, asks and commits
 pub mod day; // the list, its entries and refusals
+pub mod desk; // the rows and shares of rooms, and a turn
 pub mod flat; // a list as the numbers in which the library takes it
 pub mod jackson; // Jackson's schedule
 pub mod mirror; // the mirrored list and plan
@@ -31,6 +33,7 @@ pub mod small; // every day of so many minutes and entries
 pub mod check; // reading, writing, overload test, schedule
 pub mod check_bounds; // planning and shown plans
 pub mod check_commits; // fresh days, asks and commits
+pub mod check_desk; // turns
 pub mod check_narrow; // narrowing
 pub mod check_report; // reports and refusals' lines
 

@@ -3,9 +3,11 @@
 
 mod damage;
 mod one_more;
+mod rooms;
 
 pub use damage::{damaged, damaged_form, damaged_opened, wild_fields, with_header_changed};
 pub use one_more::{first_list, long_list, one_more, room_near, stamp_near};
+pub use rooms::{any_desk, fresh_desk, room_list, room_number, row, share, share_with_junk};
 
 use crate::day::{Day, Entry, LONGEST_DAY, MOST_ENTRIES};
 use crate::opening;

@@ -36,6 +36,38 @@ impl Cursor<'_> {
 
 /// Reads a list, or gives the first refusal.
 pub fn read(input: &[u8]) -> Result<Day, Refusal> {
+    let found = listed(input)?;
+    if found.end < input.len() {
+        return Err(Refusal::LeftOver { first: found.end });
+    }
+    found.told_apart()
+}
+
+/// Reads the list that a room's share of a longer buffer begins with: "A share is read from its first byte; bytes after
+/// the list are not tested."
+pub fn read_share(share: &[u8]) -> Result<Day, Refusal> {
+    listed(share)?.told_apart()
+}
+
+/// A list whose entries are right one by one, the places of their map bytes, and where it ends.
+struct Listed {
+    day: Day,
+    maps: Vec<usize>,
+    end: usize,
+}
+
+impl Listed {
+    /// The list, if no box is in two places.
+    fn told_apart(self) -> Result<Day, Refusal> {
+        match self.day.first_clash() {
+            Some(place) => Err(Refusal::SerialClash { place: self.maps[place] }),
+            None => Ok(self.day),
+        }
+    }
+}
+
+/// The header and the entries that an input begins with, or the first refusal before 8.
+fn listed(input: &[u8]) -> Result<Listed, Refusal> {
     let length = input.len();
     if length < 3 {
         return Err(Refusal::Missing { length });
@@ -57,14 +89,7 @@ pub fn read(input: &[u8]) -> Result<Day, Refusal> {
         maps.push(cursor.place());
         entries.push(entry(&mut cursor, h, opening)?);
     }
-    if !cursor.left.is_empty() {
-        return Err(Refusal::LeftOver { first: cursor.place() });
-    }
-    let day = Day { h, opening, entries };
-    match day.first_clash() {
-        Some(place) => Err(Refusal::SerialClash { place: maps[place] }),
-        None => Ok(day),
-    }
+    Ok(Listed { day: Day { h, opening, entries }, maps, end: cursor.place() })
 }
 
 /// "If the two bytes are missing that is 1, after 3. An opening minute written as 0, or one of H or more, is refused as

@@ -1,7 +1,7 @@
 //! How often each number was answered: a refusal's, or 0 for a success.
 
 #[derive(Debug, Default)]
-pub struct Told([usize; 19]);
+pub struct Told([usize; 20]);
 
 impl Told {
     pub fn count(&mut self, number: usize) {

@@ -1,7 +1,8 @@
 //! What the documents say: the pages of this repository, what its files import, the traps of document 01, wrong
-//! readings of document 02's tie rule, of its running sum and of its opening minute, and the smallest days that the tie
-//! rule changes.
+//! readings of document 02's tie rule, of its running sum, of its opening minute and of its control desk, and the
+//! smallest days that the tie rule changes.
 
+mod desk_traps;
 mod format;
 mod imports;
 mod late_boxes;

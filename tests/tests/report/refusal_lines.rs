@@ -25,7 +25,7 @@ fn the_documents_examples() {
     line(10, [0, 0, 0], "refused 10 entry 0\n");
 }
 
-/// One of each row of document 01's table, and 14, 15 and 16 of document 02; and 100, for a row of another length.
+/// One of each row of document 01's table, and 14 to 19 of document 02; and 100, for a row of another length.
 #[test]
 fn every_row() {
     for (number, values, text) in [
@@ -45,6 +45,9 @@ fn every_row() {
         (14, [950, 0, 0], "refused 14 at 950\n"),
         (15, [3, 0, 0], "refused 15 at 3\n"),
         (16, [950, 0, 0], "refused 16 at 950\n"),
+        (17, [65_535, 0, 0], "refused 17 at 65535\n"),
+        (18, [64, 0, 0], "refused 18 at 64\n"),
+        (19, [9, 0, 0], "refused 19 at 9\n"),
         (100, [451, 0, 0], "refused 100 at 451\n"),
     ] {
         line(number, values, text);
