@@ -3,6 +3,7 @@
 use mathlib.Core.Path.{_≡_, refl, ap, _∙_}
 use mathlib.Core.List.{List}
 use Prim.Native.Nat.{ℕ}
+use lib.ListN.{length}
 use Rattle.base.specs.Outcomes.{Outcome, answered, refused}
 use Rattle.rooms.specs.Turns.{Lent, Turn, took, none-unfinished}
 use Rattle.room_rows.specs.Calls.{turnValues, numbersBy, NumbersTurn}
@@ -21,9 +22,9 @@ same-numbers m (refused k) = refl
 
 pub turn-given : {x : Lent} {o : Outcome Turn} {xs old rooms lists carried : List ℕ} (t : TurnNumbers)
     → NumbersTurn x o xs old t rooms lists carried → TurnedCall x o xs old (answerOf t) rooms lists carried
-turn-given t turned =
+turn-given {x} {o} t turned =
     record {
-      answer = ap answerOf (turned .answer) ∙ same-numbers _ _;
+      answer = ap answerOf (turned .answer) ∙ same-numbers (length (x .rows)) o;
       rooms = turned .rooms;
       lists = turned .lists;
       carried = turned .carried;
