@@ -8,7 +8,12 @@ ghost use Rattle.abi.specs.RoomCalls.{TurnCall};
 // number of its refusal or 0, and the next number; `carried` has what its refusal carries. Nothing unfinished: the values are the number of
 // rooms, 0 and the number as it was used. Then, and refused, all that is lent keeps its values.
 #[no_mangle]
-pub extern "C" fn dock_turn(rooms: &mut [u32], lists: &mut [u8], number: u64, carried: &mut [u64; 3]) -> Answer
+pub extern "C" fn dock_turn(
+    rooms: &mut [u32],
+    lists: &mut [u8],
+    number: u64,
+    carried: &mut [u64; 3],
+) -> Answer
     ensures { λ a. ⌜ TurnCall (now (rooms .entry)) (now (lists .entry)) number (now (carried .entry)) a
         (now (rooms .exit)) (now (lists .exit)) (now (carried .exit)) ⌝ }
 {

@@ -18,6 +18,14 @@ le-or-lt {G} a b f g = go (leb a b) refl
     go true e = f (leb-true a b e)
     go false e = g (leb-false a b e)
 
+-- one number is the other, or not
+pub eq-or-ne : {G : Type 0} (a b : ℕ) → (a ≡ b → G) → ((a ≡ b → ⊥) → G) → G
+eq-or-ne {G} a b f g = go (eqb a b) refl
+  where
+    go : (t : Bool) → eqb a b ≡ t → G
+    go true e = f (eqb-true a b e)
+    go false e = g (eqb-false a b e)
+
 -- what holds below n and of n holds below n + 1
 pub below-suc : (n : ℕ) (P : ℕ → Type 0) → ((i : ℕ) → i < n → P i) → P n → (i : ℕ) → i < suc n → P i
 below-suc n P below at i h = le-or-lt n i (λ e. let z : i ≡ n = omega arith in rw z at) (below i)

@@ -6,11 +6,11 @@ use Prim.Native.Nat.{ℕ, zero, suc, _+_, _*_, _/_, _<_, _≤_}
 use native.Mathlib.Omega.{arith}
 use lib.ListN.{length, getD, set, length-set, List·getD-eq-default}
 use lib.Seq.{sets, length-sets, getD-set-same, getD-set-other, ext-getD}
+use Rattle.base.proofs.Sums.{eq-or-ne}
 use Rattle.rooms.specs.Turns.{noRow}
 use Rattle.rooms.specs.declared.types.Stage.{Stage}
 use Rattle.rooms.specs.declared.types.Stage.the-variants.{Fresh, Begun, Settled, Refused}
 use Rattle.rooms.specs.declared.types.Room.{Room}
-use Rattle.rooms.proofs.CycleLaws.{eq-or-ne}
 use Rattle.room_rows.specs.RoomRows.{roomNumbers, stageNumber, stageOf, roomRow, roomAt, roomsFrom, roomsIn}
 
 from-count : (k i : ℕ) (xs : List ℕ) → length (roomsFrom k i xs) ≡ k

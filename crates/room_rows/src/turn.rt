@@ -51,7 +51,12 @@ fn put_carried(verdict: Verdict, carried: &mut [u64; 3]) -> u64
 }
 
 // The turn of as many rooms as there are threes, of which the first eight are taken apart; the row of the room that had it is stored.
-fn take_numbers(numbers: &mut [u32], lists: &mut [u8], number: usize, carried: &mut [u64; 3]) -> TurnNumbers
+fn take_numbers(
+    numbers: &mut [u32],
+    lists: &mut [u8],
+    number: usize,
+    carried: &mut [u64; 3],
+) -> TurnNumbers
     ensures { λ a. ⌜ TurnsRooms (now (numbers .entry)) (now (lists .entry)) number (now (carried .entry)) a
         (now (numbers .exit)) (now (lists .exit)) (now (carried .exit)) ⌝ }
 {
@@ -80,7 +85,12 @@ fn take_numbers(numbers: &mut [u32], lists: &mut [u8], number: usize, carried: &
 
 // A turn over rooms that are three numbers each: row 100 for numbers that are no rows of three, then `turn`. A refused turn and one with
 // nothing unfinished leave all that is lent; else the numbers of the room that had it, its share and `carried` are written.
-pub fn turn_numbers(numbers: &mut [u32], lists: &mut [u8], number: usize, carried: &mut [u64; 3]) -> TurnNumbers
+pub fn turn_numbers(
+    numbers: &mut [u32],
+    lists: &mut [u8],
+    number: usize,
+    carried: &mut [u64; 3],
+) -> TurnNumbers
     ensures { λ a. ⌜ TurnsNumbers (now (numbers .entry)) (now (lists .entry)) number (now (carried .entry)) a
         (now (numbers .exit)) (now (lists .exit)) (now (carried .exit)) ⌝ }
 {

@@ -24,7 +24,8 @@ use Rattle.rooms.specs.Turns.{Desk, starts, afterTurns, roomIn, cycleOf}
 use Rattle.rooms.specs.Laws.{Fit, InShare, IsNext, TurnLaw, FreshRoom, FewCounts, Ends, TurnsLaw}
 use Rattle.rooms.specs.declared.types.Stage.{Stage}
 use Rattle.rooms.specs.declared.types.Stage.the-variants.{Settled, Refused}
-use Rattle.rooms.proofs.CycleLaws.{pick-live, next-some, next-first, finished, projected}
+use Rattle.rooms.proofs.CyclicOrder.{next-some, next-first}
+use Rattle.rooms.proofs.CycleLaws.{taken-unfinished, finished, projected}
 use Rattle.rooms.proofs.RoomEnds.{room-finishes, fresh-ends, fresh-counts}
 use Rattle.rooms.proofs.SharesApart.{share-is-bytes, byte-other, put-length}
 use Rattle.rooms.proofs.DeskTurns.{Good, turn-took, turn-nothing, share-inside, new-length, cycle-turns}
@@ -103,14 +104,14 @@ module _ (x : Lent) (b : Bytes (x .lists)) where
     all-finished : ((i : ℕ) → i < m → isUnfinished (rowIn x i .stage) ≡ false) → m ≤ k
     all-finished done =
         le-or-lt m k (λ h. h)
-        (λ h. absurd (true≢false (sym (pick-live unfinished ownTurn m (cycleOf d) k refl h) ∙ done k h)))
+        (λ h. absurd (true≢false (sym (taken-unfinished unfinished ownTurn m (cycleOf d) k refl h) ∙ done k h)))
 
     is-next : k < m → IsNext x number k
     is-next h =
         record {
           inside = h;
-          goes = pick-live unfinished ownTurn m (cycleOf d) k refl h;
-          first = λ i l. next-first (λ j. isUnfinished (rowIn x j .stage)) m number i l h;
+          goes = taken-unfinished unfinished ownTurn m (cycleOf d) k refl h;
+          first = λ i l. next-first (λ j. isUnfinished (rowIn x j .stage)) m number i l;
         }
 
     -- what a turn took is that room

@@ -9,7 +9,7 @@ use lib.ListN.{length, set, length-set}
 use lib.Seq.{getD-set-same, getD-set-other}
 use Rattle.base.specs.Outcomes.{answered}
 use Rattle.base.proofs.Inversion.{Says, Anything}
-use Rattle.base.proofs.Sums.{le-or-lt}
+use Rattle.base.proofs.Sums.{le-or-lt, eq-or-ne}
 use Rattle.shares.specs.Shares.{frontOf, shareBytes}
 use Rattle.shares.proofs.StandingLists.{Stands, share-length}
 use Rattle.rooms.specs.Cycles.{numberAfter, numberUsed, putRoom, Cycle, cycleTurn, cycleTurns}
@@ -17,7 +17,7 @@ use Rattle.rooms.specs.Rooms.{RoomState, rowAfter, shareAfter, saidBy, o
 use Rattle.rooms.specs.Turns.{Lent, noRow, rowIn, shareOf, putShare, took, none-unfinished, roomFor, roundFor, turnOf}
 use Rattle.rooms.specs.Turns.{Desk, deskTurn, deskTurns, roomIn, cycleOf}
 use Rattle.rooms.specs.Laws.{Fit}
-use Rattle.rooms.proofs.CycleLaws.{eq-or-ne, turn-takes, turn-idle, turn-own, turn-other, turns-zero, turns-next}
+use Rattle.rooms.proofs.CycleLaws.{turn-takes, turn-idle, turn-own, turn-other, turns-zero, turns-next}
 use Rattle.rooms.proofs.RoomRounds.{Round, stops, settles, goes-on, own-turn}
 use Rattle.rooms.proofs.RoomEnds.{Reads, reads-kept}
 use Rattle.rooms.proofs.SharesApart.{share-same, share-other, share-size, put-length}

@@ -1,5 +1,6 @@
 -- Turns in cyclic order, over whatever rooms.
-pub mod CycleLaws
+mod CyclicOrder
+mod CycleLaws
 -- A room by its own turns: lists with narrowed windows stand in its share, each own turn is one round, and how the room ends.
 mod NarrowedLists
 mod RoomRounds

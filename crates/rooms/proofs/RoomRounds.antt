@@ -8,6 +8,7 @@ use native.Mathlib.Omega.{arith}
 use borrow.Author.Tests.{eq-eqb, ne-eqb, lt-leb}
 use Rattle.base.specs.Outcomes.{Code, Outcome, answered, refused, andThen}
 use Rattle.base.proofs.Inversion.{Says, Anything}
+use Rattle.base.proofs.Sums.{eq-or-ne}
 use Rattle.list.specs.DayLists.{wholeIn}
 use Rattle.list.specs.Checks.{WellFormed}
 use Rattle.list.specs.declared.types.DayList.{DayList}
@@ -26,7 +27,6 @@ use Rattle.shares.proofs.StandingLists.{Stands, share-back}
 use Rattle.rooms.specs.Rooms.{mostCounted, countOn, firstTest, RoomState, roundIn, roomAfter, ownTurn, slackOf}
 use Rattle.rooms.specs.declared.types.Stage.{Stage}
 use Rattle.rooms.specs.declared.types.Stage.the-variants.{Begun}
-use Rattle.rooms.proofs.CycleLaws.{eq-or-ne}
 use Rattle.rooms.proofs.NarrowedLists.{listed-again, stands-with}
 
 -- Counts below 100,000.

@@ -91,7 +91,12 @@ fn not_taken(n: usize, answer: TurnAnswer) -> TurnTaken
 }
 
 // A turn of the first n rows: rows 19 and 12, then the round of the next unfinished room on its share.
-pub(crate) fn take_turn(lists: &mut [u8], rows: [Room; MOST_ROOMS], n: usize, number: usize) -> TurnTaken
+pub(crate) fn take_turn(
+    lists: &mut [u8],
+    rows: [Room; MOST_ROOMS],
+    n: usize,
+    number: usize,
+) -> TurnTaken
     ensures { λ t. ⌜ TakesTurn rows n number (now (lists .entry)) t (now (lists .exit)) ⌝ }
 {
     if n == 0 {
@@ -101,7 +106,10 @@ pub(crate) fn take_turn(lists: &mut [u8], rows: [Room; MOST_ROOMS], n: usize, nu
         return not_taken(n, TurnAnswer::NotTurned(Refusal::RoomCount(n)));
     }
     if lists.len() < n * SHARE_BYTES {
-        return not_taken(n, TurnAnswer::NotTurned(Refusal::ListBufferShort(n * SHARE_BYTES)));
+        return not_taken(
+            n,
+            TurnAnswer::NotTurned(Refusal::ListBufferShort(n * SHARE_BYTES)),
+        );
     }
     let at = next_unfinished(rows, n, number);
     if at < n {

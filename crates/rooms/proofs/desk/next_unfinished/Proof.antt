@@ -3,7 +3,7 @@ use Prim.Native.Nat.{ℕ, _<_}
 use borrow.Author.Needs.{needs}
 use Rattle.rooms.specs.Cycles.{nextFrom, nextUnfinished}
 use Rattle.rooms.specs.Internal.{unfinishedIn}
-use Rattle.rooms.proofs.CycleLaws.{from-below, after-below}
+use Rattle.rooms.proofs.CyclicOrder.{used-below, after-below}
 use Rattle.rooms.proofs.TurnCases.{search-found, search-passed, search-ended, search-starts}
 use Rattle.rooms.proofs.desk.next_unfinished.Statement.{statement}
 use Rattle.rooms.proofs.desk.next_unfinished.Tie as tie
@@ -27,7 +27,7 @@ loop-holds : tie.Need-loop-holds Inv-loop μ-loop
 loop-holds c =
     let args = c .before .args in
     let used = c .number-used .ensures in
-    (subst (λ (k : ℕ). k < args .n) (sym used) (from-below _ _ (c .before .pre .0)), search-starts _ _ _ _ used)
+    (subst (λ (k : ℕ). k < args .n) (sym used) (used-below _ _ (c .before .pre .0)), search-starts _ _ _ _ used)
 
 mul-r : tie.Need-mul-r Inv-loop μ-loop
 mul-r c = search needs
