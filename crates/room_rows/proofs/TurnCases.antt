@@ -91,7 +91,7 @@ module _ (xs lists : List ℕ) (number : ℕ) (old : List ℕ) (first : List Roo
     o = outcome-is (Turned k verdict next) is
 
     below : k < length xs / roomNumbers
-    below = omega (arith, turns .law .taken k (verdictOf verdict) next o .inside, rooms-count xs)
+    below = omega (arith, turns .law .taken k (verdictOf verdict) next o .is-next .inside, rooms-count xs)
 
     pub inside : roomNumbers * k + roomNumbers ≤ length xs
     inside = omega (arith, below)
@@ -100,7 +100,7 @@ module _ (xs lists : List ℕ) (number : ℕ) (old : List ℕ) (first : List Roo
     in-eight =
         omega (
           arith,
-          turns .law .taken k (verdictOf verdict) next o .inside,
+          turns .law .taken k (verdictOf verdict) next o .is-next .inside,
           turns .law .fits (took k (verdictOf verdict) next) o .few,
         )
 

@@ -8,8 +8,8 @@ use native.Mathlib.Omega.{arith}
 use borrow.Author.Tests.{lt-ltb, le-ltb, eqb-true, eqb-false, eq-eqb, ne-eqb}
 use lib.Dec.{eqb}
 use Rattle.base.proofs.Sums.{le-or-lt}
-use Rattle.rooms.specs.Cycles.{numberAfter, numberUsed, ahead, nextUnfinished, putRoom, Cycle, cycleTurn, cycleTurns, alone, ownTurns}
-use Rattle.rooms.proofs.CyclicOrder.{after-below, used-below, used-same, ahead-below, Before, next-unfinished, next-near}
+use Rattle.rooms.specs.Cycles.{numberAfter, numberUsed, nextUnfinished, putRoom, Cycle, cycleTurn, cycleTurns, alone, ownTurns}
+use Rattle.rooms.proofs.CyclicOrder.{after-below, used-below, used-same, ahead, ahead-below, next-unfinished, next-near}
 
 -- A room by its own turns alone.
 module _ {S : Type 0} (unfinished : S → Bool) (own : S → S) where
@@ -22,9 +22,26 @@ module _ {S : Type 0} (unfinished : S → Bool) (own : S → S) where
   unfolding alone
   alone-next k s e = rw e
 
-  alone-zero : (s : S) → alone unfinished own zero s ≡ s
+  pub alone-zero : (s : S) → alone unfinished own zero s ≡ s
   unfolding alone
   alone-zero s = refl
+
+  -- so many and then so many more
+  pub alone-add : (k j : ℕ) (s : S) → alone unfinished own (k + j) s ≡ alone unfinished own j (alone unfinished own k s)
+  alone-add zero j s =
+      let z : 0 + j ≡ j = omega arith in
+      ap (λ (n : ℕ). alone unfinished own n s) z ∙ ap (alone unfinished own j) (sym (alone-zero s))
+  alone-add (suc k) j s = go (unfinished s) refl (alone-add k j (own s))
+    where
+      by : ℕ → S → S
+      by n u = alone unfinished own n u
+
+      z : suc k + j ≡ suc (k + j)
+      z = omega arith
+
+      go : (t : Bool) → unfinished s ≡ t → by (k + j) (own s) ≡ by j (by k (own s)) → by (suc k + j) s ≡ by j (by (suc k) s)
+      go true e more = ap (λ (n : ℕ). by n s) z ∙ alone-next (k + j) s e ∙ more ∙ ap (by j) (sym (alone-next k s e))
+      go false e more = alone-finished (suc k + j) s e ∙ sym (alone-finished j s e) ∙ ap (by j) (sym (alone-finished (suc k) s e))
 
 module _ {S : Type 0} (unfinished : S → Bool) (own : S → S) (m : ℕ) where
   -- the room that a turn takes, what the turn leaves, and what turns leave

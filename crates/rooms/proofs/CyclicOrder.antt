@@ -4,13 +4,13 @@ use mathlib.Core.Path.{_≡_, refl, sym, ap, _∙_}
 use mathlib.Core.Bool.{Bool, true, false, cond, true≢false}
 use Prim.Native.Nat.{ℕ, zero, suc, _+_, _-_, _<_, _≤_}
 use native.Mathlib.Omega.{arith}
-use borrow.Author.Tests.{ltb-true, ltb-false, lt-ltb, leb-true, leb-false}
+use borrow.Author.Tests.{ltb-true, ltb-false, lt-ltb, le-ltb, leb-true, leb-false}
 use lib.Dec.{leb, ltb}
 use Rattle.base.proofs.Sums.{eq-or-ne}
-use Rattle.rooms.specs.Cycles.{numberAfter, numberUsed, ahead, nextFrom, nextUnfinished}
+use Rattle.rooms.specs.Cycles.{numberAfter, numberUsed, nextFrom, nextUnfinished}
 
 -- the number after k
-after-cases : {G : Type 0} (m k : ℕ) → (suc k < m → numberAfter m k ≡ suc k → G) → (m ≤ suc k → numberAfter m k ≡ 0 → G) → G
+pub after-cases : {G : Type 0} (m k : ℕ) → (suc k < m → numberAfter m k ≡ suc k → G) → (m ≤ suc k → numberAfter m k ≡ 0 → G) → G
 unfolding numberAfter
 after-cases {G} m k f g = go (ltb (suc k) m) refl
   where
@@ -33,7 +33,14 @@ pub used-same : (m number : ℕ) → number < m → numberUsed m number ≡ numb
 unfolding numberUsed
 used-same m number h = rw (lt-ltb number m h)
 
--- how many rooms are ahead of i, from k on
+pub used-past : (m number : ℕ) → m ≤ number → numberUsed m number ≡ 0
+unfolding numberUsed
+used-past m number h = rw (le-ltb number m h)
+
+-- how many rooms come before room i, from k on
+unfoldable pub ahead : ℕ → ℕ → ℕ → ℕ
+ahead m k i = cond (leb k i) (i - k) (i + m - k)
+
 ahead-cases : {G : Type 0} (m k i : ℕ) → (k ≤ i → ahead m k i ≡ i - k → G) → (i < k → ahead m k i ≡ i + m - k → G) → G
 unfolding ahead
 ahead-cases {G} m k i f g = go (leb k i) refl
@@ -44,6 +51,25 @@ ahead-cases {G} m k i f g = go (leb k i) refl
 
 pub ahead-below : (m k i : ℕ) → k < m → i < m → ahead m k i < m
 ahead-below m k i h l = ahead-cases m k i (λ q e. omega (arith, e)) (λ q e. omega (arith, e))
+
+-- rooms that come before k: upward from u, or upward to the last and then from 0
+pub ahead-up : (m u i k : ℕ) → u ≤ i → i < k → ahead m u i < ahead m u k
+ahead-up m u i k a b =
+    ahead-cases m u i
+    (λ q e. ahead-cases m u k (λ r f. omega (arith, e, f)) (λ r f. absurd (omega (arith, r))))
+    (λ q e. absurd (omega (arith, q)))
+
+pub ahead-last : (m u i k : ℕ) → k < u → u ≤ i → i < m → ahead m u i < ahead m u k
+ahead-last m u i k h a b =
+    ahead-cases m u i
+    (λ q e. ahead-cases m u k (λ r f. absurd (omega (arith, r))) (λ r f. omega (arith, e, f)))
+    (λ q e. absurd (omega (arith, q)))
+
+pub ahead-zero : (m u i k : ℕ) → k < u → u < m → i < k → ahead m u i < ahead m u k
+ahead-zero m u i k h a b =
+    ahead-cases m u i
+    (λ q e. absurd (omega (arith, q)))
+    (λ q e. ahead-cases m u k (λ r f. absurd (omega (arith, r))) (λ r f. omega (arith, e, f)))
 
 ahead-here : (m k : ℕ) → ahead m k k ≡ 0
 ahead-here m k = ahead-cases m k k (λ q e. omega (arith, e)) (λ q e. omega (arith, e))
@@ -77,11 +103,11 @@ module _ (unfinished : ℕ → Bool) (m : ℕ) where
       go false e more h = more h
 
   -- for a room i, from k on: another room r was found, which comes before it, and from after r on fewer rooms are ahead of i
-  record Before (k i r : ℕ) : Type 0 where
-    inside : r < m
-    other : r ≡ i → ⊥
-    earlier : ahead m k r < ahead m k i
-    fewer : ahead m (numberAfter m r) i < ahead m k i
+  pub record Before (k i r : ℕ) : Type 0 where
+    pub inside : r < m
+    pub other : r ≡ i → ⊥
+    pub earlier : ahead m k r < ahead m k i
+    pub fewer : ahead m (numberAfter m r) i < ahead m k i
 
   -- the same from one number earlier on
   before-next : (k i r : ℕ) → k < m → i < m → (k ≡ i → ⊥) → Before (numberAfter m k) i r → Before k i r

@@ -19,7 +19,7 @@ use Rattle.rooms.specs.Turns.{Desk, deskTurn, deskTurns, roomIn, cycleOf
 use Rattle.rooms.specs.Laws.{Fit}
 use Rattle.rooms.proofs.CycleLaws.{turn-takes, turn-idle, turn-own, turn-other, turns-zero, turns-next}
 use Rattle.rooms.proofs.RoomRounds.{Round, stops, settles, goes-on, own-turn}
-use Rattle.rooms.proofs.RoomEnds.{Reads, reads-kept}
+use Rattle.rooms.proofs.RoomEnds.{Standing, reads-kept}
 use Rattle.rooms.proofs.SharesApart.{share-same, share-other, share-size, put-length}
 
 -- what is lent passes rows 19 and 12, and a list stands in each share that reads
@@ -71,15 +71,15 @@ module _ (d : Desk) (good : Good (d .lent)) where
   abbrev new-share : ℕ → List ℕ
   new-share k = shareAfter (shareOf k (x .lists)) (roundFor x k)
 
-  abbrev took-leaves : ℕ → Desk
-  took-leaves k =
+  abbrev deskAfter : ℕ → Desk
+  deskAfter k =
       record {
         lent = record { rows = set (x .rows) k (rowAfter (rowIn x k) (roundFor x k)); lists = putShare k (new-share k) (x .lists) };
         number = numberAfter m k;
         said = putRoom k (saidBy (roundFor x k)) (d .said);
       }
 
-  desk-took : (k : ℕ) → roomFor x (d .number) ≡ k → k < m → deskTurn d ≡ took-leaves k
+  desk-took : (k : ℕ) → roomFor x (d .number) ≡ k → k < m → deskTurn d ≡ deskAfter k
   unfolding deskTurn
   desk-took k e h = rw (turn-took x (d .number) (good .fit) k e h)
 
@@ -96,7 +96,7 @@ module _ (d : Desk) (good : Good (d .lent)) where
         ap length (sym (own-share d k))
         ∙ length-kept (roomIn d k) (ownTurn (roomIn d k)) (own-turn (roomIn d k) (good .reads k h)) (share-size k (x .lists) share-inside)
 
-    room-same : roomIn (took-leaves k) k ≡ ownTurn (roomIn d k)
+    room-same : roomIn (deskAfter k) k ≡ ownTurn (roomIn d k)
     unfolding ownTurn
     room-same =
         rw (
@@ -105,7 +105,7 @@ module _ (d : Desk) (good : Good (d .lent)) where
           eq-eqb k k refl,
         )
 
-    room-other : (i : ℕ) → (i ≡ k → ⊥) → roomIn (took-leaves k) i ≡ roomIn d i
+    room-other : (i : ℕ) → (i ≡ k → ⊥) → roomIn (deskAfter k) i ≡ roomIn d i
     room-other i ne =
         rw (
           getD-set-other (x .rows) k i (rowAfter (rowIn x k) (roundFor x k)) noRow ne,
@@ -122,11 +122,11 @@ module _ (d : Desk) (good : Good (d .lent)) where
     put-other : (i : ℕ) → (i ≡ k → ⊥) → put i ≡ roomIn d i
     put-other i ne = rw (ne-eqb i k ne)
 
-    each-room : (i : ℕ) → roomIn (took-leaves k) i ≡ put i
+    each-room : (i : ℕ) → roomIn (deskAfter k) i ≡ put i
     each-room i = eq-or-ne i k (λ q. rw q (room-same ∙ sym put-same)) (λ ne. room-other i ne ∙ sym (put-other i ne))
 
-    took-cycle : cycleOf (took-leaves k) ≡ record { rooms = put; number = numberAfter m k }
-    took-cycle = λ j. record { rooms = fun-ext {f = roomIn (took-leaves k)} {g = put} each-room j; number = numberAfter m k }
+    took-cycle : cycleOf (deskAfter k) ≡ record { rooms = put; number = numberAfter m k }
+    took-cycle = λ j. record { rooms = fun-ext {f = roomIn (deskAfter k)} {g = put} each-room j; number = numberAfter m k }
 
   -- a turn over what is lent is a turn of the rooms
   pub cycle-turn : cycleOf (deskTurn d) ≡ cycleTurn unfinished ownTurn m (cycleOf d)
@@ -153,17 +153,17 @@ module _ (d : Desk) (good : Good (d .lent)) where
       ap (λ (v : Desk). length (v .lent .lists)) (desk-took k refl h)
       ∙ put-length k (new-share k) (x .lists) (share-inside k h) (new-length k h))
 
-  room-turn : (i : ℕ) → roomIn (deskTurn d) i ≡ cycleTurn unfinished ownTurn m (cycleOf d) .rooms i
+  pub room-turn : (i : ℕ) → roomIn (deskTurn d) i ≡ cycleTurn unfinished ownTurn m (cycleOf d) .rooms i
   room-turn i = ap (λ (c : Cycle RoomState). c .rooms i) cycle-turn
 
-  reads-turn : (i : ℕ) → i < m → Reads (roomIn (deskTurn d) i)
+  reads-turn : (i : ℕ) → i < m → Standing (roomIn (deskTurn d) i)
   reads-turn i h =
       let s = roomIn d i in
       eq-or-ne (roomFor x (d .number)) i
       (λ own.
-      subst Reads (sym (room-turn i ∙ turn-own unfinished ownTurn m (cycleOf d) i h own))
+      subst Standing (sym (room-turn i ∙ turn-own unfinished ownTurn m (cycleOf d) i h own))
       (reads-kept s (ownTurn s) (own-turn s (good .reads i h)) (good .reads i h)))
-      (λ other. subst Reads (sym (room-turn i ∙ turn-other unfinished ownTurn m (cycleOf d) i other)) (good .reads i h))
+      (λ other. subst Standing (sym (room-turn i ∙ turn-other unfinished ownTurn m (cycleOf d) i other)) (good .reads i h))
 
   good-turn : Good (deskTurn d .lent)
   good-turn =

@@ -23,7 +23,8 @@ use Rattle.rooms.specs.declared.types.Room.{Room}
 use Rattle.rooms.specs.declared.types.TurnTaken.{TurnTaken}
 use Rattle.rooms.specs.declared.types.HeldAnswer.{HeldAnswer}
 use Rattle.rooms.specs.declared.types.TurnAnswer.the-variants.{NotTurned}
-use Rattle.rooms.proofs.DeskLaws.{turn-law, turns-law}
+use Rattle.rooms.proofs.TurnLaws.{turn-law}
+use Rattle.rooms.proofs.RunLaws.{turns-law}
 use Rattle.rooms.proofs.EightRows.{eight, eight-at, first-rows, rows-again}
 
 -- a turn's answer, by the rows at their places

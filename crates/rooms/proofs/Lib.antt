@@ -8,7 +8,9 @@ mod RoomEnds
 -- The shares of one buffer, turns over what is lent as turns of the rooms, and the laws.
 mod SharesApart
 mod DeskTurns
-pub mod DeskLaws
+mod TurnFacts
+pub mod TurnLaws
+pub mod RunLaws
 -- What the code's proofs cite, case by case.
 mod RoomCases
 mod TurnCases

@@ -66,8 +66,8 @@ module _ (r : Room) (old : List ℕ) where
       reads-list : frontOf old ≡ answered (read .list)
       reads-list = by-verdict (read .list) (front .outcome) ok
 
-      pub list-formed : WellFormed (read .list)
-      list-formed = front .law .formed (read .list) reads-list
+      pub front-formed : WellFormed (read .list)
+      front-formed = front .law .formed (read .list) reads-list
 
       module _ (test : Verdict) (tested : verdictOf test ≡ firstTest (r .stage) (read .list)) where
         pub tested-with : (x : Refusal) → test ≡ Refused x → roundIn (r .stage) old ≡ refused (codeOf x)

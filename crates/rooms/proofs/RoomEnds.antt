@@ -1,7 +1,7 @@
 -- A room by its own turns alone: it is finished after one turn more than there are minutes to cut, and one that was fresh ends with the
 -- answer that it would have alone.
 -- Assumes nothing.
-use mathlib.Core.Path.{_≡_, refl, sym, ap, _∙_}
+use mathlib.Core.Path.{_≡_, refl, sym, ap, _∙_, subst}
 use mathlib.Core.Bool.{Bool, true, false, cond}
 use mathlib.Core.List.{List}
 use Prim.Native.Nat.{ℕ, zero, suc, _+_, _-_, _<_, _≤_}
@@ -24,16 +24,16 @@ use Rattle.shares.proofs.StandingLists.{Stands, share-back, share-form}
 use Rattle.shares.proofs.FrontLaws.{front-stands}
 use Rattle.rooms.specs.Cycles.{alone}
 use Rattle.rooms.specs.Rooms.{isUnfinished, mostCounted, RoomState, stageAfter, ownTurn, unfinished, answerAlone, slackRead, slackOf}
-use Rattle.rooms.specs.Laws.{FreshRoom, FewCounts, Ends}
+use Rattle.rooms.specs.Runs.{FreshRoom, FewCounts, Ends}
 use Rattle.rooms.specs.declared.types.Stage.the-variants.{Fresh, Begun}
-use Rattle.rooms.proofs.CycleLaws.{alone-next, alone-finished}
+use Rattle.rooms.proofs.CycleLaws.{alone-next, alone-finished, alone-add}
 use Rattle.rooms.proofs.RoomRounds.{count-below, restRead, restOf, Round, stops, settles, goes-on, own-turn}
 
 -- what stands in the share, if it reads
-abbrev pub Reads : RoomState → Type 0
-Reads s = Says Stands Anything (frontOf (s .share))
+abbrev pub Standing : RoomState → Type 0
+Standing s = Says Stands Anything (frontOf (s .share))
 
-pub reads-kept : (s x : RoomState) → Round s x → Reads s → Reads x
+pub reads-kept : (s x : RoomState) → Round s x → Standing s → Standing x
 reads-kept s x (stops k rest) reads = reads
 reads-kept s x (settles l st rest) reads = rw (share-back l (s .share) st) st
 reads-kept s x (goes-on l k st ne less rest) reads = rw (share-back l (s .share) st) st
@@ -49,7 +49,7 @@ ends-or-less s x (settles l st rest) f g = f refl
 ends-or-less s x (goes-on l k st ne less rest) f g = g (omega (arith, less, ne))
 
 -- so one turn more than there are minutes to cut finishes it
-finishes : (k : ℕ) (s : RoomState) → (b : Bool) → unfinished s ≡ b → Reads s → slackOf (s .share) < k → unfinished (alone unfinished ownTurn k s) ≡ false
+finishes : (k : ℕ) (s : RoomState) → (b : Bool) → unfinished s ≡ b → Standing s → slackOf (s .share) < k → unfinished (alone unfinished ownTurn k s) ≡ false
 finishes zero s b is reads enough = absurd (omega arith)
 finishes (suc k) s false is reads enough = ap unfinished (alone-finished unfinished ownTurn (suc k) s is) ∙ is
 finishes (suc k) s true is reads enough =
@@ -65,7 +65,7 @@ room-finishes s b = finishes (suc (slackOf (s .share))) s (unfinished s) refl (f
 -- a room that is not finished, whose rounds lead to o, and whose counts stay below 100,000
 record Runs (o : Outcome (DayList × ℕ)) (s : RoomState) : Type 0 where
   goes : unfinished s ≡ true
-  reads : Reads s
+  reads : Standing s
   rest : restOf (s .row .stage) (s .row .moves) (s .share) ≡ o
   moves : s .row .moves + slackOf (s .share) < mostCounted
   rounds : s .row .rounds + slackOf (s .share) + 1 < mostCounted
@@ -181,3 +181,12 @@ module _ (s : RoomState) (fresh : FreshRoom s) (b : Bytes (s .share)) where
 
   pub fresh-counts : (k : ℕ) → FewCounts (alone unfinished ownTurn k s)
   fresh-counts k = runs-count k (answerAlone (s .share)) s fresh-runs
+
+  -- whenever it is finished
+  pub fresh-finished : (k : ℕ) → unfinished (alone unfinished ownTurn k s) ≡ false
+      → Ends (answerAlone (s .share)) (alone unfinished ownTurn k s)
+  fresh-finished k done =
+      let more = suc (slackOf (s .share)) in
+      subst (Ends (answerAlone (s .share)))
+      (alone-add unfinished ownTurn k more s ∙ alone-finished unfinished ownTurn more (alone unfinished ownTurn k s) done)
+      (runs-end (k + more) (answerAlone (s .share)) s fresh-runs (omega arith))

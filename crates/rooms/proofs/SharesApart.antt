@@ -89,6 +89,14 @@ module _ (k : ℕ) (new lists : List ℕ) (long : k * shareBytes + shareBytes �
   byte-other j out =
       le-or-lt start j (λ h. le-or-lt end j (byte-behind j) (λ l. absurd (out (h, l)))) (byte-before j)
 
+-- a share stored where it was taken from
+pub put-back : (k : ℕ) (lists : List ℕ) → putShare k (shareOf k lists) lists ≡ lists
+put-back k lists =
+    let start = k * shareBytes in
+    ap (λ (ys : List ℕ). take start lists ++ (shareOf k lists ++ ys)) (sym (drop-drop shareBytes start lists))
+    ∙ ap (λ (ys : List ℕ). take start lists ++ ys) (take-append-drop shareBytes (drop start lists))
+    ∙ take-append-drop start lists
+
 pub share-size : (i : ℕ) (lists : List ℕ) → i * shareBytes + shareBytes ≤ length lists → length (shareOf i lists) ≡ shareBytes
 share-size i lists h = length-take-le shareBytes (drop (i * shareBytes) lists) (omega (arith, length-drop (i * shareBytes) lists))
 

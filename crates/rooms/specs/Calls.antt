@@ -6,7 +6,8 @@ use lib.ListN.{length}
 use Rattle.base.specs.Outcomes.{Outcome, answered, refused}
 use Rattle.list.specs.Refusals.{codeOf, verdictOf}
 use Rattle.rooms.specs.Turns.{Lent, noRow, eightRows, Turn, took, none-unfinished, turnOf, lentAfter}
-use Rattle.rooms.specs.Laws.{Fit, TurnLaw, TurnsLaw}
+use Rattle.rooms.specs.Laws.{Fit, TurnLaw}
+use Rattle.rooms.specs.Runs.{TurnsLaw}
 use Rattle.rooms.specs.declared.types.Room.{Room}
 use Rattle.rooms.specs.declared.types.HeldAnswer.{HeldAnswer}
 use Rattle.rooms.specs.declared.types.TurnAnswer.{TurnAnswer}

@@ -1,7 +1,7 @@
 -- Turns in cyclic order, over whatever rooms: each is unfinished until its own turns finish it, and a turn is the own turn of one of them.
-use Prim.Native.Nat.{ℕ, zero, suc, _+_, _-_}
+use Prim.Native.Nat.{ℕ, zero, suc, _+_}
 use mathlib.Core.Bool.{Bool, cond}
-use lib.Dec.{eqb, leb, ltb}
+use lib.Dec.{eqb, ltb}
 
 -- "the number after it (after the last, 0)", of m rooms
 unfoldable pub numberAfter : ℕ → ℕ → ℕ
@@ -10,10 +10,6 @@ numberAfter m k = cond (ltb (suc k) m) (suc k) 0
 -- "any number past the last counts as 0"
 unfoldable pub numberUsed : ℕ → ℕ → ℕ
 numberUsed m number = cond (ltb number m) number 0
-
--- how many rooms come before room i in cyclic order from k on
-unfoldable pub ahead : ℕ → ℕ → ℕ → ℕ
-ahead m k i = cond (leb k i) (i - k) (i + m - k)
 
 -- the first unfinished room among so many, from k on in cyclic order; m if there is none
 unfoldable pub nextFrom : (ℕ → Bool) → ℕ → ℕ → ℕ → ℕ

@@ -1,105 +1,113 @@
--- What turns promise, over all rows, buffers and numbers: `turn-law` and `turns-law` of proofs/DeskLaws.antt.
+-- What one turn promises, in facts, over all rows, buffers and numbers: `turn-law` of proofs/TurnLaws.antt.
 use Prim.Native.Nat.{ℕ, _+_, _*_, _<_, _≤_}
 use mathlib.Core.Path.{_≡_}
-use mathlib.Core.Logic.{_↔_}
 use mathlib.Core.Bool.{true, false}
+use mathlib.Core.List.{[], _∷_}
 use lib.ListN.{length, getD, take}
-use Rattle.base.specs.Outcomes.{Code, Outcome, answered, refused}
-use Rattle.list.specs.Machine.{Bytes}
+use Rattle.base.specs.Outcomes.{Code, code, Outcome, answered, refused}
 use Rattle.list.specs.declared.types.DayList.{DayList}
 use Rattle.format.specs.Writing.{bytesOf}
-use Rattle.shares.specs.Shares.{shareBytes, frontOf}
-use Rattle.rooms.specs.Cycles.{numberUsed, ahead, alone, ownTurns}
-use Rattle.rooms.specs.Rooms.{isUnfinished, mostCounted, RoomState, ownTurn, unfinished, answerAlone, slackOf}
-use Rattle.rooms.specs.Turns.{mostRooms, Lent, rowIn, shareOf, Turn, took, none-unfinished, roomFor, turnOf, lentAfter}
-use Rattle.rooms.specs.Turns.{starts, afterTurns, roomIn, cycleOf}
-use Rattle.rooms.specs.declared.types.Stage.the-variants.{Fresh, Settled, Refused}
+use Rattle.jackson.specs.Windows.{windowsOf}
+use Rattle.jackson.specs.Intervals.{overloadOf}
+use Rattle.narrow.specs.Calls.{roundOf, listed}
+use Rattle.shares.specs.Shares.{frontOf}
+use Rattle.rooms.specs.Rooms.{isUnfinished}
+use Rattle.rooms.specs.Turns.{Lent, rowIn, shareOf, Turn, took, none-unfinished, turnOf, lentAfter}
+use Rattle.rooms.specs.declared.types.Stage.the-variants.{Fresh, Begun, Settled, Refused}
 
--- what is lent passes rows 19 and 12
+-- what is lent has one to eight rooms, and 965 bytes for each
 pub record Fit (x : Lent) : Type 0 where
   pub some : 1 ≤ length (x .rows)
-  pub few : length (x .rows) ≤ mostRooms
-  pub long : length (x .rows) * shareBytes ≤ length (x .lists)
+  pub few : length (x .rows) ≤ 8
+  pub long : length (x .rows) * 965 ≤ length (x .lists)
 
--- byte j lies in the share of room k
-abbrev pub InShare : ℕ → ℕ → Type 0
-InShare k j = (k * shareBytes ≤ j) × (j < k * shareBytes + shareBytes)
-
--- room k is the next unfinished one from this number on: each room that comes before it in cyclic order is finished
+-- room k is the next unfinished one from this number on, upward, and after the last from 0 again: each room passed over is finished
 pub record IsNext (x : Lent) (number k : ℕ) : Type 0 where
   pub inside : k < length (x .rows)
   pub goes : isUnfinished (rowIn x k .stage) ≡ true
-  pub first : (i : ℕ) → i < length (x .rows)
-      → ahead (length (x .rows)) (numberUsed (length (x .rows)) number) i < ahead (length (x .rows)) (numberUsed (length (x .rows)) number) k
-      → isUnfinished (rowIn x i .stage) ≡ false
+  -- from the number up to k
+  pub upward : (i : ℕ) → number ≤ i → i < k → isUnfinished (rowIn x i .stage) ≡ false
+  -- where k is before the number: from the number up to the last, and from 0 up to k
+  pub to-last : k < number → (i : ℕ) → number ≤ i → i < length (x .rows) → isUnfinished (rowIn x i .stage) ≡ false
+  pub from-zero : k < number → (i : ℕ) → i < k → isUnfinished (rowIn x i .stage) ≡ false
+
+-- "Rounds and moves stop counting at 100,000 (a larger one handed in stays)."
+pub record CountsOn (old more new : ℕ) : Type 0 where
+  pub counts : old + more ≤ 100000 → new ≡ old + more
+  pub stops : old ≤ 100000 → 100000 ≤ old + more → new ≡ 100000
+  pub larger : 100000 ≤ old → new ≡ old
+
+-- room k made a round: its list was read, tested if the room was fresh, narrowed by one round and written in its one form
+pub record RoundMade (x : Lent) (k : ℕ) (y : Lent) : Type 0 where
+  pub given : DayList
+  pub reads : frontOf (shareOf k (x .lists)) ≡ answered given
+  pub tested : rowIn x k .stage ≡ Fresh → overloadOf (windowsOf given) ≡ answered tt
+  pub left : DayList
+  pub moved : ℕ
+  pub round : listed given (roundOf given) ≡ answered (left, moved)
+  pub last : moved ≡ 0 → rowIn y k .stage ≡ Settled
+  pub more : (moved ≡ 0 → ⊥) → rowIn y k .stage ≡ Begun
+  pub rounds : CountsOn (rowIn x k .rounds) 1 (rowIn y k .rounds)
+  pub moves : CountsOn (rowIn x k .moves) moved (rowIn y k .moves)
+  pub form : take (length (bytesOf left)) (shareOf k (y .lists)) ≡ bytesOf left
+  pub behind : (j : ℕ) → length (bytesOf left) ≤ j → getD (shareOf k (y .lists)) j 0 ≡ getD (shareOf k (x .lists)) j 0
+
+-- why the round of room k is refused: "A share that does not read, 9 or 10", and 9 of a fresh room alone
+pub data Stops (x : Lent) (k : ℕ) (c : Code) : Type 0 where
+  unread : frontOf (shareOf k (x .lists)) ≡ refused c → Stops x k c
+  overloaded : (l : DayList) → frontOf (shareOf k (x .lists)) ≡ answered l → rowIn x k .stage ≡ Fresh → overloadOf (windowsOf l) ≡ refused c
+      → Stops x k c
+  no-place : (l : DayList) → frontOf (shareOf k (x .lists)) ≡ answered l → roundOf l ≡ refused c → Stops x k c
+
+-- "makes the room refused: of all that is lent only its stage is written, its share and counts stay"
+pub record RoomRefused (x : Lent) (k : ℕ) (c : Code) (y : Lent) : Type 0 where
+  pub why : Stops x k c
+  pub stage : rowIn y k .stage ≡ Refused
+  pub rounds : rowIn y k .rounds ≡ rowIn x k .rounds
+  pub moves : rowIn y k .moves ≡ rowIn x k .moves
+  pub lists : y .lists ≡ x .lists
+
+-- what a turn leaves of the room that had it, by what it says of it
+abbrev pub OwnRound : Lent → ℕ → Outcome (Unit {0}) → Lent → Type 0
+OwnRound x k (answered t) y = RoundMade x k y
+OwnRound x k (refused c) y = RoomRefused x k c y
+
+-- byte j lies in the share of room k
+abbrev pub InShare : ℕ → ℕ → Type 0
+InShare k j = (k * 965 ≤ j) × (j < k * 965 + 965)
+
+-- a turn that took room k, said this of it, answered this number, and left y
+pub record TakesRoom (x : Lent) (number k : ℕ) (said : Outcome (Unit {0})) (next : ℕ) (y : Lent) : Type 0 where
+  pub is-next : IsNext x number k
+  pub round : OwnRound x k said y
+  -- "and touches no other row or list": every byte outside of the room's share
+  pub other-rows : (i : ℕ) → (i ≡ k → ⊥) → rowIn y i ≡ rowIn x i
+  pub other-bytes : (j : ℕ) → (InShare k j → ⊥) → getD (y .lists) j 0 ≡ getD (x .lists) j 0
+  -- "the number after it (after the last, 0)"
+  pub after : k + 1 < length (x .rows) → next ≡ k + 1
+  pub after-last : k + 1 ≡ length (x .rows) → next ≡ 0
 
 -- one turn over what is lent, from this number
 pub record TurnLaw (x : Lent) (number : ℕ) : Type 0 where
-  -- it is not refused exactly if what is lent fits, and a refusal changes nothing
+  -- "No rooms, or over eight, is refused as 19 before all else, carrying that number; a buffer too short for its rooms is 12 next,
+  -- carrying the bytes needed."
+  pub none : length (x .rows) ≡ 0 → turnOf x number ≡ refused (code 19 (0 ∷ []))
+  pub many : 8 < length (x .rows) → turnOf x number ≡ refused (code 19 (length (x .rows) ∷ []))
+  pub short : 1 ≤ length (x .rows) → length (x .rows) ≤ 8 → length (x .lists) < length (x .rows) * 965
+      → turnOf x number ≡ refused (code 12 (length (x .rows) * 965 ∷ []))
+  -- and nothing else is refused; a refusal changes nothing
   pub fits : (t : Turn) → turnOf x number ≡ answered t → Fit x
-  pub fitting : Fit x → (t : Turn) × (turnOf x number ≡ answered t)
-  pub refusal : (k : Code) → turnOf x number ≡ refused k → lentAfter x number ≡ x
-  -- "touches no other row or list": rows, and every byte outside of the room's share
-  pub other-rows : (i : ℕ) → (i ≡ roomFor x number → ⊥) → rowIn (lentAfter x number) i ≡ rowIn x i
-  pub other-bytes : (j : ℕ) → (InShare (roomFor x number) j → ⊥) → getD (lentAfter x number .lists) j 0 ≡ getD (x .lists) j 0
-  pub rows-stay : length (lentAfter x number .rows) ≡ length (x .rows)
-  pub lists-stay : length (lentAfter x number .lists) ≡ length (x .lists)
-  -- "the next unfinished room in cyclic order": a turn that is not refused takes it, if there is one
-  pub taken : (k : ℕ) (said : Outcome (Unit {0})) (next : ℕ) → turnOf x number ≡ answered (took k said next) → IsNext x number k
+  pub refusal : (c : Code) → turnOf x number ≡ refused c → lentAfter x number ≡ x
+  -- if some room is unfinished, a turn takes one
   pub some : Fit x → (i : ℕ) → i < length (x .rows) → isUnfinished (rowIn x i .stage) ≡ true
       → (k : ℕ) × (said : Outcome (Unit {0})) × (next : ℕ) × (turnOf x number ≡ answered (took k said next))
-  -- "A turn with nothing unfinished changes nothing and says so."
+  pub taken : (k : ℕ) (said : Outcome (Unit {0})) (next : ℕ) → turnOf x number ≡ answered (took k said next)
+      → TakesRoom x number k said next (lentAfter x number)
+  -- "A turn with nothing unfinished changes nothing and says so.": with the number as it was used
   pub nothing : Fit x → ((i : ℕ) → i < length (x .rows) → isUnfinished (rowIn x i .stage) ≡ false)
-      → (turnOf x number ≡ answered (none-unfinished (numberUsed (length (x .rows)) number))) × (lentAfter x number ≡ x)
-
--- "A room that was fresh with both counts 0"
-pub record FreshRoom (s : RoomState) : Type 0 where
-  pub stage : s .row .stage ≡ Fresh
-  pub rounds : s .row .rounds ≡ 0
-  pub moves : s .row .moves ≡ 0
-
--- "its counts stay below 100,000"
-pub record FewCounts (s : RoomState) : Type 0 where
-  pub rounds : s .row .rounds < mostCounted
-  pub moves : s .row .moves < mostCounted
-
--- a room that ended settled, with this list, which stands at the front of its share in its one form, and these moves
-pub record EndsSettled (x : DayList × ℕ) (s : RoomState) : Type 0 where
-  pub stage : s .row .stage ≡ Settled
-  pub list : frontOf (s .share) ≡ answered (x .0)
-  pub form : take (length (bytesOf (x .0))) (s .share) ≡ bytesOf (x .0)
-  pub moves : s .row .moves ≡ x .1
-  pub said : s .said ≡ answered tt
-
--- a room that ended refused, by k
-pub record EndsRefused (k : Code) (s : RoomState) : Type 0 where
-  pub stage : s .row .stage ≡ Refused
-  pub said : s .said ≡ refused k
-
--- a room that ended with this answer
-abbrev pub Ends : Outcome (DayList × ℕ) → RoomState → Type 0
-Ends (answered x) s = EndsSettled x s
-Ends (refused k) s = EndsRefused k s
-
--- turns over what is lent, the first from this number
-pub record TurnsLaw (x : Lent) (number : ℕ) : Type 0 where
-  -- "each of m rooms is finished within m times (1 + the sum of d - r - p over its whole entries, 0 where its share does not read) turns",
-  -- whatever its row was
-  pub finished : (i t : ℕ) → i < length (x .rows) → length (x .rows) * (1 + slackOf (shareOf i (x .lists))) ≤ t
-      → isUnfinished (rowIn (afterTurns x number t .lent) i .stage) ≡ false
-  -- "A room that was fresh with both counts 0 .. ends with the answer it would have alone": the same list and moves, or the same refusal
-  pub as-alone : (i t : ℕ) → i < length (x .rows) → FreshRoom (roomIn (starts x number) i)
-      → length (x .rows) * (1 + slackOf (shareOf i (x .lists))) ≤ t
-      → Ends (answerAlone (shareOf i (x .lists))) (roomIn (afterTurns x number t) i)
-  pub refused-exactly : (i t : ℕ) → i < length (x .rows) → FreshRoom (roomIn (starts x number) i)
-      → length (x .rows) * (1 + slackOf (shareOf i (x .lists))) ≤ t
-      → (rowIn (afterTurns x number t .lent) i .stage ≡ Refused) ↔ ((k : Code) × (answerAlone (shareOf i (x .lists)) ≡ refused k))
-  -- "and its counts stay below 100,000": after each turn
-  pub counts : (i t : ℕ) → i < length (x .rows) → FreshRoom (roomIn (starts x number) i) → FewCounts (roomIn (afterTurns x number t) i)
-  -- a room's row and share, and what was answered of it, are those of its own turns alone, so that no other room has a part in them: after
-  -- each turn, and when it is finished
-  pub own-alone : (i t : ℕ) → i < length (x .rows)
-      → roomIn (afterTurns x number t) i
-      ≡ alone unfinished ownTurn (ownTurns unfinished ownTurn (length (x .rows)) t (cycleOf (starts x number)) i) (roomIn (starts x number) i)
-  pub ends-alone : (i t : ℕ) → i < length (x .rows) → length (x .rows) * (1 + slackOf (shareOf i (x .lists))) ≤ t
-      → roomIn (afterTurns x number t) i ≡ alone unfinished ownTurn (1 + slackOf (shareOf i (x .lists))) (roomIn (starts x number) i)
+      → (used : ℕ) × (turnOf x number ≡ answered (none-unfinished used)) × (lentAfter x number ≡ x)
+      × (number < length (x .rows) → used ≡ number) × (length (x .rows) ≤ number → used ≡ 0)
+  -- "any number past the last counts as 0"
+  pub past-last : length (x .rows) ≤ number → turnOf x number ≡ turnOf x 0
+  pub rows-stay : length (lentAfter x number .rows) ≡ length (x .rows)
+  pub lists-stay : length (lentAfter x number .lists) ≡ length (x .lists)

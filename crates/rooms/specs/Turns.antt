@@ -110,7 +110,7 @@ unfoldable pub deskTurns : ℕ → Desk → Desk
 deskTurns zero d = d
 deskTurns (suc t) d = deskTurns t (deskTurn d)
 
--- before the first turn nothing was answered
+-- before the first turn no refusal was answered
 abbrev pub starts : Lent → ℕ → Desk
 starts x number = record { lent = x; number = number; said = λ _. answered tt }
 

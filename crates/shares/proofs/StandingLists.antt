@@ -3,12 +3,12 @@
 use mathlib.Core.Path.{_≡_, refl, sym, ap, _∙_}
 use mathlib.Core.Bool.{false, cond}
 use mathlib.Core.List.{List, [], _∷_, _++_, append-assoc}
-use Prim.Native.Nat.{ℕ, zero, suc, _+_, _≤_, _<_}
+use Prim.Native.Nat.{ℕ, zero, suc, _+_, _-_, _≤_, _<_}
 use native.Mathlib.Omega.{arith}
 use borrow.Author.Tests.{le-ltb}
 use lib.Dec.{ltb}
-use lib.ListN.{length, take, drop, length-append, length-drop, take-append-drop}
-use lib.Seq.{length-take-le, take-length, take-append-seam}
+use lib.ListN.{length, getD, take, drop, length-append, length-drop, take-append-drop}
+use lib.Seq.{length-take-le, take-length, take-append-seam, drop-at, getD-drop}
 use Rattle.base.specs.Outcomes.{code, Outcome, answered, refused, firstOf}
 use Rattle.base.proofs.Searches.{first-below}
 use Rattle.list.specs.DayLists.{entriesOf, dayList}
@@ -163,3 +163,16 @@ module _ (l : DayList) (old : List ℕ) where
   unfolding shareWith
   share-length w long =
       length-append (bytesOf l) (drop (length (bytesOf l)) old) ∙ omega (arith, length-drop (length (bytesOf l)) old, longest l w, long)
+
+  -- bytes after the list keep their values
+  pub share-behind : (j : ℕ) → length (bytesOf l) ≤ j → getD (shareWith l old) j 0 ≡ getD old j 0
+  unfolding shareWith
+  share-behind j h =
+      let n = length (bytesOf l) in
+      let all = bytesOf l ++ drop n old in
+      let here : j ≡ n + (j - n) = omega arith in
+      ap (λ (i : ℕ). getD all i 0) here
+      ∙ sym (getD-drop n all (j - n) 0)
+      ∙ ap (λ (xs : List ℕ). getD xs (j - n) 0) (drop-at (bytesOf l) (drop n old) n refl)
+      ∙ getD-drop n old (j - n) 0
+      ∙ ap (λ (i : ℕ). getD old i 0) (sym here)

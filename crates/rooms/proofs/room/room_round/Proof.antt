@@ -1,6 +1,6 @@
 use borrow.Author.Needs.{needs}
 use mathlib.Core.Path.{refl}
-use Rattle.rooms.proofs.RoomCases.{round-refused, unread-with, list-formed, tested-with, made-with, written-with, rounds-with}
+use Rattle.rooms.proofs.RoomCases.{round-refused, unread-with, front-formed, tested-with, made-with, written-with, rounds-with}
 use Rattle.rooms.proofs.room.room_round.Statement.{statement}
 use Rattle.rooms.proofs.room.room_round.Tie as tie
 use Rattle.rooms.proofs.room.room_round.Reads as reads
@@ -41,7 +41,7 @@ first-test-requires : tie.Need-first-test-requires
 first-test-requires c κs =
     let args = c .before .before .before .before .before .before .args in
     let read = c .before .before .before .read-front in
-    list-formed (args .row) (args .share .now) (read .result) (read .ensures) (c .before .enum-told .given .1)
+    front-formed (args .row) (args .share .now) (read .result) (read .ensures) (c .before .enum-told .given .1)
 
 enum-told-3 : tie.Need-enum-told-3
 enum-told-3 c = search needs
