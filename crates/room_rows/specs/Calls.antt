@@ -27,7 +27,8 @@ abbrev pub saidValues : Outcome (Unit {0}) → List ℕ
 saidValues (answered t) = three []
 saidValues (refused k) = three (k .carries)
 
--- the three values of a turn of m rooms that is not refused: "that room, any refusal, and the number after it"; where nothing is unfinished,
+-- the three values of a turn of m rooms that is not refused: "that room, any refusal, and the number after it"; where nothing is
+-- unfinished,
 -- m, which is no room's number, no refusal, and the number as it was used
 abbrev pub turnValues : ℕ → Turn → List ℕ
 turnValues m (took k said next) = k ∷ saidNumber said ∷ next ∷ []
@@ -60,5 +61,6 @@ pub record NumbersTurn (x : Lent) (o : Outcome Turn) (xs oldCarried : List ℕ) 
   pub back : roomsIn newRooms ≡ lentBy o x .rows
 
 -- what `turn_numbers` answers of rooms as numbers, their lists and a number, and leaves there
-abbrev pub TurnsNumbers : (xs lists : List ℕ) (number : ℕ) (carried : List ℕ) → TurnNumbers → (newRooms newLists newCarried : List ℕ) → Type 0
+abbrev pub TurnsNumbers : (xs lists : List ℕ) (number : ℕ) (carried : List ℕ) → TurnNumbers → (newRooms newLists newCarried : List ℕ)
+    → Type 0
 TurnsNumbers xs lists number carried = NumbersTurn (lentIn xs lists) (turnIn xs lists number) xs carried

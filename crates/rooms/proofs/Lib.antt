@@ -11,6 +11,7 @@ mod DeskTurns
 mod TurnFacts
 pub mod TurnLaws
 pub mod RunLaws
+mod Examples
 -- What the code's proofs cite, case by case.
 mod RoomCases
 mod TurnCases

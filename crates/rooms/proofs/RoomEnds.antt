@@ -49,7 +49,8 @@ ends-or-less s x (settles l st rest) f g = f refl
 ends-or-less s x (goes-on l k st ne less rest) f g = g (omega (arith, less, ne))
 
 -- so one turn more than there are minutes to cut finishes it
-finishes : (k : ℕ) (s : RoomState) → (b : Bool) → unfinished s ≡ b → Standing s → slackOf (s .share) < k → unfinished (alone unfinished ownTurn k s) ≡ false
+finishes : (k : ℕ) (s : RoomState) → (b : Bool) → unfinished s ≡ b → Standing s → slackOf (s .share) < k
+    → unfinished (alone unfinished ownTurn k s) ≡ false
 finishes zero s b is reads enough = absurd (omega arith)
 finishes (suc k) s false is reads enough = ap unfinished (alone-finished unfinished ownTurn (suc k) s is) ∙ is
 finishes (suc k) s true is reads enough =

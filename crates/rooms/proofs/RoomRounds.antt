@@ -134,9 +134,12 @@ module _ (s : RoomState) (l : DayList) (e : frontOf (s .share) ≡ answered l) (
   rest-next ne m =
       rest-now m
       ∙ ap (listed l)
-      (rounds-more overloadOf (wholeIn l) (windowsOf l) m (slack (wholeIn l) (windowsOf l)) v r ne (cost .keeps .formed) (omega (arith, cost .bounded, ne)))
-      ∙ sym (listed-again l (v .windows) (rounds overloadOf (wholeIn l) (suc (slack (wholeIn l) (v .windows))) (state (v .windows) (m + v .moves))))
-      ∙ sym (λ j. listed L (rounds overloadOf (whole-next j) (suc (slack (whole-next j) (windows-next j))) (state (windows-next j) (m + v .moves))))
+      (rounds-more overloadOf (wholeIn l) (windowsOf l) m (slack (wholeIn l) (windowsOf l)) v r ne (cost .keeps .formed)
+      (omega (arith, cost .bounded, ne)))
+      ∙ sym (listed-again l (v .windows) (rounds overloadOf (wholeIn l) (suc (slack (wholeIn l) (v .windows)))
+      (state (v .windows) (m + v .moves))))
+      ∙ sym (λ j. listed L (rounds overloadOf (whole-next j) (suc (slack (whole-next j) (windows-next j)))
+      (state (windows-next j) (m + v .moves))))
       ∙ sym (rest-is Begun (m + v .moves) (shareWith L (s .share)) L (share-back L (s .share) st-next) refl)
 
   turn-answered : Round s (roomAfter s (answered (L, v .moves)))
@@ -144,7 +147,8 @@ module _ (s : RoomState) (l : DayList) (e : frontOf (s .share) ≡ answered l) (
       eq-or-ne (v .moves) 0
       (λ q.
       rw q
-      (settles L st-next (λ m. rest-now m ∙ ap (listed l) (rounds-last overloadOf (wholeIn l) (windowsOf l) m (slack (wholeIn l) (windowsOf l)) v r q))))
+      (settles L st-next (λ m. rest-now m ∙ ap (listed l) (rounds-last overloadOf (wholeIn l) (windowsOf l) m
+      (slack (wholeIn l) (windowsOf l)) v r q))))
       (λ ne. goes-on L (v .moves) st-next ne (omega (arith, cost .bounded, slack-next, slack-is (s .share) l e)) (rest-next ne))
 
 -- a room's own turn
@@ -168,7 +172,8 @@ own-turn s reads = read (frontOf (s .share)) refl reads
         → Round s (ownTurn s)
     tested l e st (answered x) t = rounded l e st t (round overloadOf (wholeIn l) (unmoved (windowsOf l))) refl
     tested l e st (refused k) t =
-        turned (refused k) (overloaded (s .row .stage) 0 (s .share) l e k t .0) (stops k (λ m. overloaded (s .row .stage) m (s .share) l e k t .1))
+        turned (refused k) (overloaded (s .row .stage) 0 (s .share) l e k t .0)
+        (stops k (λ m. overloaded (s .row .stage) m (s .share) l e k t .1))
 
     read : (u : Outcome DayList) → frontOf (s .share) ≡ u → Says Stands Anything u → Round s (ownTurn s)
     read (answered l) e st = tested l e st (firstTest (s .row .stage) l) refl

@@ -112,7 +112,8 @@ room-cases d i h b f g =
     (λ other. f (turned ∙ turn-other unfinished ownTurn m (cycleOf d) i other)))
     (λ k e. f (refused-room d i k e))
 
-one-own : (k : ℕ) (s u : RoomState) → u ≡ alone unfinished ownTurn k s → unfinished u ≡ true → ownTurn u ≡ alone unfinished ownTurn (k + 1) s
+one-own : (k : ℕ) (s u : RoomState) → u ≡ alone unfinished ownTurn k s → unfinished u ≡ true
+    → ownTurn u ≡ alone unfinished ownTurn (k + 1) s
 one-own k s u e goes =
     let one : suc 0 ≡ 1 = omega arith in
     sym (alone-zero unfinished ownTurn (ownTurn u))

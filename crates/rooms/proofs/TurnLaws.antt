@@ -22,7 +22,8 @@ use Rattle.rooms.specs.Turns.{Lent, noRow, rowIn, shareOf, putShare, Tur
 use Rattle.rooms.specs.Turns.{lentBy, lentAfter, Desk, starts, cycleOf}
 use Rattle.rooms.specs.Laws.{Fit, InShare, IsNext, CountsOn, RoundMade, RoomRefused, OwnRound, TakesRoom, TurnLaw}
 use Rattle.rooms.specs.declared.types.Room.{Room}
-use Rattle.rooms.proofs.CyclicOrder.{after-cases, used-same, used-past, ahead, ahead-up, ahead-last, ahead-zero, next-some, next-first}
+use Rattle.rooms.proofs.CyclicOrder.{after-cases, used-same, used-past, ahead, ahead-up, ahead-last, ahead-zero, next-some}
+use Rattle.rooms.proofs.CyclicOrder.{next-first}
 use Rattle.rooms.proofs.CycleLaws.{taken-unfinished}
 use Rattle.rooms.proofs.SharesApart.{share-is-bytes, share-same, byte-other, put-length, put-back}
 use Rattle.rooms.proofs.DeskTurns.{Good, turn-took, turn-nothing, share-inside, new-length}
@@ -85,10 +86,12 @@ module _ (x : Lent) (b : Bytes (x .lists)) where
       where
         passed : (i : ℕ) → i < m → ahead m (numberUsed m number) i < ahead m (numberUsed m number) k → goes i ≡ false
         passed i l before =
-            next-first goes m number i l (subst (λ (j : ℕ). ahead m (numberUsed m number) i < ahead m (numberUsed m number) j) (sym is) before)
+            next-first goes m number i l (subst (λ (j : ℕ). ahead m (numberUsed m number) i < ahead m (numberUsed m number) j) (sym is)
+                before)
 
     -- a turn that took room k
-    module _ (k : ℕ) (said : Outcome (Unit {0})) (next : ℕ) (e : turnOf x number ≡ answered (took k said next)) (fit : Fit x) (h : k < m) where
+    module _ (k : ℕ) (said : Outcome (Unit {0})) (next : ℕ) (e : turnOf x number ≡ answered (took k said next)) (fit : Fit x) (h : k < m)
+        where
       row : Room
       row = rowAfter (rowIn x k) (roundFor x k)
 
@@ -166,7 +169,8 @@ module _ (x : Lent) (b : Bytes (x .lists)) where
             after-last = λ l. after-cases m k (λ g z. absurd (omega (arith, g, l))) (λ _ z. sym after ∙ z);
           }
 
-    taken : (k : ℕ) (said : Outcome (Unit {0})) (next : ℕ) → turnOf x number ≡ answered (took k said next) → TakesRoom x number k said next y
+    taken : (k : ℕ) (said : Outcome (Unit {0})) (next : ℕ) → turnOf x number ≡ answered (took k said next)
+        → TakesRoom x number k said next y
     taken k said next e =
         rows-passed x number
         (λ fit. le-or-lt m (roomFor x number)

@@ -4,4 +4,5 @@ pub mod Turns
 pub mod Laws
 pub mod Runs
 pub mod Calls
+pub mod Examples
 pub mod Internal

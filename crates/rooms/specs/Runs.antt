@@ -76,7 +76,8 @@ pub record TurnsLaw (x : Lent) (number : ℕ) : Type 0 where
   -- after each turn a room is as so many of its own turns alone leave it, as many as were its own
   pub own-alone : (i t : ℕ) → i < length (x .rows)
       → roomIn (afterTurns x number t) i
-      ≡ alone unfinished ownTurn (ownTurns unfinished ownTurn (length (x .rows)) t (cycleOf (starts x number)) i) (roomIn (starts x number) i)
+      ≡ alone unfinished ownTurn (ownTurns unfinished ownTurn (length (x .rows)) t (cycleOf (starts x number)) i)
+      (roomIn (starts x number) i)
   -- and once it is finished no other room has a part in its row, its share and what was answered of it
   pub ends-alone : (i t : ℕ) → i < length (x .rows) → length (x .rows) * (1 + slackOf (shareOf i (x .lists))) ≤ t
       → roomIn (afterTurns x number t) i ≡ alone unfinished ownTurn (1 + slackOf (shareOf i (x .lists))) (roomIn (starts x number) i)

@@ -27,7 +27,8 @@ end-verdict : (v : Verdict) (l : DayList) (len : ℕ) → endAt (outcomeOf v l) 
 end-verdict Accepted l len = refl
 end-verdict (Refused x) l len = refl
 
-pub reader-end : (bs : List ℕ) (a : ReadAnswer) (e : ℕ) → Bytes bs → Reads bs a → e ≡ endAt (verdictOf (a .verdict)) (length bs) → EndsAt bs e
+pub reader-end : (bs : List ℕ) (a : ReadAnswer) (e : ℕ) → Bytes bs → Reads bs a → e ≡ endAt (verdictOf (a .verdict)) (length bs)
+    → EndsAt bs e
 reader-end bs a e b reads is =
     let z : e ≡ endAt (readOf bs) (length bs) =
     is ∙ sym (end-verdict (a .verdict) (a .list) (length bs)) ∙ ap (λ (o : Outcome DayList). endAt o (length bs)) (reads .outcome) in

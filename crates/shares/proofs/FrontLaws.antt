@@ -111,4 +111,5 @@ module _ (bs : List ℕ) (b : Bytes bs) where
     where
       whole : (o : Outcome DayList) → frontOf bs ≡ o → Says Read NotEight o → readOf bs ≡ frontOf bs → EndsAt bs (endAt o (length bs))
       whole (answered l) e p same = record { inside = omega arith; read = ap readOf (take-length bs) ∙ same }
-      whole (refused k) e not same = rw (ne-eqb (k .number) 8 not) (record { inside = omega arith; read = ap readOf (take-length bs) ∙ same })
+      whole (refused k) e not same = rw (ne-eqb (k .number) 8 not) (record
+          { inside = omega arith; read = ap readOf (take-length bs) ∙ same })

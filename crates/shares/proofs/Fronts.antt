@@ -116,7 +116,8 @@ module _ (bs : List ℕ) where
     unfolding bytesOf
     one-form =
         let body : bytesOfEntries f (x .0) ++ taken .rest ≡ drop from bs = sym (taken .form (bytes-drop bs from b)) in
-        rw (kept, taken .count) (append-assoc (headerBytes f n) (bytesOfEntries f (x .0)) (taken .rest) ∙ rw body (sym (header-stands bs zero b long)))
+        rw (kept, taken .count) (append-assoc (headerBytes f n) (bytesOfEntries f (x .0)) (taken .rest) ∙ rw body
+        (sym (header-stands bs zero b long)))
 
     stood : Front x
     stood =

@@ -3,5 +3,6 @@ mod NotEight
 pub mod StandingLists
 pub mod Fronts
 pub mod FrontLaws
+mod Examples
 -- What the code's proofs cite, case by case.
 mod FrontCases

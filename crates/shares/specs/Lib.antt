@@ -1,4 +1,5 @@
 pub mod Shares
 pub mod Laws
 pub mod Calls
+pub mod Examples
 pub mod Internal

@@ -25,7 +25,8 @@ returns-2 : tie.Need-returns-2
 returns-2 c =
     let args = c .before .before .before .before .before .before .args in
     let code = c .before .before .numbers-of in
-    end-eight (args .verdict) _ (code .result) (args .len) (c .before .before .before .before .verdict .given .1) (code .ensures) (c .before .if1 .taken)
+    end-eight (args .verdict) _ (code .result) (args .len) (c .before .before .before .before .verdict .given .1) (code .ensures)
+    (c .before .if1 .taken)
 
 returns-3 : tie.Need-returns-3
 returns-3 c =
