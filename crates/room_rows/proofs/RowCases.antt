@@ -1,22 +1,21 @@
 -- Rooms and numbers, case by case.
 -- Assumes nothing.
-use mathlib.Core.Path.{_≡_, refl, sym, ap, _∙_}
+use mathlib.Core.Path.{_≡_, ap, _∙_}
 use mathlib.Core.List.{List, [], _∷_}
-use Prim.Native.Nat.{ℕ, _+_, _-_, _*_, _/_, _%_, _<_, _≤_}
+use Prim.Native.Nat.{ℕ, _+_, _-_, _*_, _/_, _%_, _<_}
 use borrow.Author.Tests.{eq-eqb, ne-eqb}
 use lib.ListN.{length, getD}
-use Rattle.base.specs.Outcomes.{code, Outcome, answered, refused}
+use Rattle.base.specs.Outcomes.{code, answered, refused}
 use Rattle.list.specs.Refusals.{codeOf, verdictOf}
 use Rattle.list.specs.declared.types.Refusal.{Refusal}
 use Rattle.list.specs.declared.types.Verdict.{Verdict}
 use Rattle.list.specs.declared.types.Verdict.the-variants.{Accepted, Refused}
-use Rattle.codes.specs.Codes.{numbersOf, three}
+use Rattle.codes.specs.Codes.{numbersOf}
 use Rattle.codes.specs.declared.RefusalCode.{RefusalCode}
 use Rattle.rooms.specs.Turns.{noRow}
 use Rattle.rooms.specs.declared.types.Stage.{Stage}
 use Rattle.rooms.specs.declared.types.Stage.the-variants.{Fresh, Begun, Settled, Refused as RefusedStage}
-use Rattle.rooms.specs.declared.types.Room.{Room}
-use Rattle.room_rows.specs.RoomRows.{roomNumbers, stageOf, roomAt, roomsIn, roomsFault}
+use Rattle.room_rows.specs.RoomRows.{roomNumbers, stageOf, roomsIn, roomsFault}
 use Rattle.room_rows.specs.Calls.{saidNumber, saidValues}
 use Rattle.room_rows.proofs.RoomTrip.{room-inside}
 

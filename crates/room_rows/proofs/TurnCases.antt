@@ -1,10 +1,10 @@
 -- A turn over rows of numbers, case by case.
 -- Assumes nothing.
-use mathlib.Core.Path.{_≡_, refl, sym, ap, _∙_, subst}
+use mathlib.Core.Path.{_≡_, sym, ap, _∙_, subst}
 use mathlib.Core.List.{List, [], _∷_}
 use Prim.Native.Nat.{ℕ, _+_, _*_, _/_, _<_, _≤_}
 use native.Mathlib.Omega.{arith}
-use lib.ListN.{length, getD, set}
+use lib.ListN.{length, getD}
 use lib.Seq.{sets, getD-set-same}
 use Rattle.base.specs.Outcomes.{Outcome, answered, refused}
 use Rattle.list.specs.Refusals.{codeOf, verdictOf}
@@ -14,7 +14,7 @@ use Rattle.list.specs.declared.types.Verdict.the-variants.{Accepted, Refused}
 use Rattle.list.proofs.Verdicts.{by-accepted, by-refused}
 use Rattle.codes.specs.Codes.{three}
 use Rattle.rooms.specs.Rooms.{rowAfter}
-use Rattle.rooms.specs.Turns.{mostRooms, Lent, noRow, rowIn, eightRows, Turn, took, none-unfinished, roundFor, turnOf, lentBy, lentAfter}
+use Rattle.rooms.specs.Turns.{mostRooms, Lent, noRow, rowIn, eightRows, Turn, took, roundFor, turnOf, lentBy, lentAfter}
 use Rattle.rooms.specs.Calls.{turnAnswerOf, Turns, TurnsHeld}
 use Rattle.rooms.specs.declared.types.Room.{Room}
 use Rattle.rooms.specs.declared.types.HeldAnswer.{HeldAnswer}
@@ -22,7 +22,7 @@ use Rattle.rooms.specs.declared.types.TurnAnswer.{TurnAnswer}
 use Rattle.rooms.specs.declared.types.TurnAnswer.the-variants.{NotTurned, NoneUnfinished, Turned}
 use Rattle.rooms.proofs.EightRows.{eight-at}
 use Rattle.room_rows.specs.RoomRows.{roomNumbers, roomsIn, roomRow, roomsFault}
-use Rattle.room_rows.specs.Calls.{lentIn, turnIn, saidNumber, saidValues, numbersBy, roomsBy, carriedBy, NumbersTurn, TurnsNumbers}
+use Rattle.room_rows.specs.Calls.{lentIn, turnIn, saidNumber, saidValues, NumbersTurn, TurnsNumbers}
 use Rattle.room_rows.specs.Internal.{TurnsRooms}
 use Rattle.room_rows.specs.declared.turn.TurnNumbers.{TurnNumbers}
 use Rattle.room_rows.proofs.RoomTrip.{rooms-count, rooms-stored}

@@ -1,5 +1,5 @@
 -- A turn over rows of numbers: what it answers, and what it leaves in all that is lent.
-use Prim.Native.Nat.{ℕ, _*_, _/_}
+use Prim.Native.Nat.{ℕ, _*_}
 use mathlib.Core.Path.{_≡_}
 use mathlib.Core.List.{List, [], _∷_}
 use lib.ListN.{length}
@@ -28,8 +28,7 @@ saidValues (answered t) = three []
 saidValues (refused k) = three (k .carries)
 
 -- the three values of a turn of m rooms that is not refused: "that room, any refusal, and the number after it"; where nothing is
--- unfinished,
--- m, which is no room's number, no refusal, and the number as it was used
+-- unfinished, m, which is no room's number, no refusal, and the number as it was used
 abbrev pub turnValues : ℕ → Turn → List ℕ
 turnValues m (took k said next) = k ∷ saidNumber said ∷ next ∷ []
 turnValues m (none-unfinished used) = m ∷ 0 ∷ used ∷ []

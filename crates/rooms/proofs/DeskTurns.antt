@@ -48,8 +48,13 @@ module _ (x : Lent) (number : ℕ) (fit : Fit x) where
       → turnOf x number ≡ answered (took k (saidBy (roundFor x k)) (numberAfter rooms k))
   unfolding turnOf
   turn-took k e h =
-      rw (ne-eqb rooms 0 some-rooms, le-ltb _ _ (fit .few), le-ltb (length (x .lists)) (rooms * shareBytes) (fit .long), e, lt-ltb k rooms
-      h)
+      rw (
+        ne-eqb rooms 0 some-rooms,
+        le-ltb _ _ (fit .few),
+        le-ltb (length (x .lists)) (rooms * shareBytes) (fit .long),
+        e,
+        lt-ltb k rooms h,
+      )
 
   pub turn-nothing : rooms ≤ roomFor x number → turnOf x number ≡ answered (none-unfinished (numberUsed rooms number))
   unfolding turnOf

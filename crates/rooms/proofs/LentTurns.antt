@@ -143,7 +143,7 @@ module _ (held : List Room) (n number : ℕ) (old : List ℕ) where
             let lent : take n held ≡ rows = (λ j. take (sym count j) (first j)) ∙ first-rows rows room in
             let turned : Turns (record { rows = rows; lists = old }) number (a .answer) (record { rows = front .first; lists = new }) =
             subst (λ (ys : List Room). Turns (record { rows = ys; lists = old }) number (a .answer)
-                (record { rows = front .first; lists = new }))
+            (record { rows = front .first; lists = new }))
             lent (front .turned) in
             let same : length (front .first) ≡ length rows =
             ap (λ (y : Lent). length (y .rows)) (turned .lent) ∙ turned .law .rows-stay in (

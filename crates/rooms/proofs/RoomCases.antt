@@ -1,13 +1,13 @@
 -- One round of a room, case by case.
 -- Assumes nothing.
-use mathlib.Core.Path.{_≡_, refl, sym, ap, _∙_}
+use mathlib.Core.Path.{_≡_, sym, ap, _∙_}
 use mathlib.Core.List.{List}
 use Prim.Native.Nat.{ℕ, _+_, _≤_, _<_}
 use native.Mathlib.Omega.{arith}
 use borrow.Author.Tests.{le-leb, lt-leb}
 use lib.ListN.{length}
-use Rattle.base.specs.Outcomes.{Outcome, answered, refused}
-use Rattle.list.specs.Refusals.{codeOf, verdictOf, outcomeOf}
+use Rattle.base.specs.Outcomes.{answered, refused}
+use Rattle.list.specs.Refusals.{codeOf, verdictOf}
 use Rattle.list.specs.Checks.{WellFormed}
 use Rattle.list.specs.declared.types.DayList.{DayList}
 use Rattle.list.specs.declared.types.ReadAnswer.{ReadAnswer}

@@ -7,7 +7,7 @@ use mathlib.Core.List.{List}
 use Prim.Native.Nat.{ℕ, zero, suc, _+_, _-_, _<_, _≤_}
 use native.Mathlib.Omega.{arith}
 use borrow.Author.Tests.{ne-eqb}
-use Rattle.base.specs.Outcomes.{Code, Outcome, answered, refused, andThen}
+use Rattle.base.specs.Outcomes.{Outcome, answered, refused, andThen}
 use Rattle.base.proofs.Inversion.{Says, Anything}
 use Rattle.base.proofs.Sums.{sum-most}
 use Rattle.list.specs.Machine.{Bytes}

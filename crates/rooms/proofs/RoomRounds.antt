@@ -126,29 +126,32 @@ module _ (s : RoomState) (l : DayList) (e : frontOf (s .share) ≡ answered l) (
   slack-next : slackOf (shareWith L (s .share)) ≡ slack (wholeIn l) (v .windows)
   slack-next = slack-is (shareWith L (s .share)) L (share-back L (s .share) st-next) ∙ (λ j. slack (whole-next j) (windows-next j))
 
-  rest-now : (m : ℕ) → restOf (s .row .stage) m (s .share)
-      ≡ listed l (rounds overloadOf (wholeIn l) (suc (slack (wholeIn l) (windowsOf l))) (state (windowsOf l) m))
+  -- the rounds of the list from windows w on, with moves made before
+  abbrev rounds-from : Windows → ℕ → Outcome Narrowed
+  rounds-from w n = rounds overloadOf (wholeIn l) (suc (slack (wholeIn l) w)) (state w n)
+
+  abbrev spare : ℕ
+  spare = slack (wholeIn l) (windowsOf l)
+
+  rest-now : (m : ℕ) → restOf (s .row .stage) m (s .share) ≡ listed l (rounds-from (windowsOf l) m)
   rest-now m = rest-is (s .row .stage) m (s .share) l e t
 
   rest-next : (v .moves ≡ 0 → ⊥) → (m : ℕ) → restOf (s .row .stage) m (s .share) ≡ restOf Begun (m + v .moves) (shareWith L (s .share))
   rest-next ne m =
+      let more = m + v .moves in
+      let less : slack (wholeIn l) (v .windows) < spare = omega (arith, cost .bounded, ne) in
       rest-now m
-      ∙ ap (listed l)
-      (rounds-more overloadOf (wholeIn l) (windowsOf l) m (slack (wholeIn l) (windowsOf l)) v r ne (cost .keeps .formed)
-      (omega (arith, cost .bounded, ne)))
-      ∙ sym (listed-again l (v .windows) (rounds overloadOf (wholeIn l) (suc (slack (wholeIn l) (v .windows)))
-      (state (v .windows) (m + v .moves))))
-      ∙ sym (λ j. listed L (rounds overloadOf (whole-next j) (suc (slack (whole-next j) (windows-next j)))
-      (state (windows-next j) (m + v .moves))))
-      ∙ sym (rest-is Begun (m + v .moves) (shareWith L (s .share)) L (share-back L (s .share) st-next) refl)
+      ∙ ap (listed l) (rounds-more overloadOf (wholeIn l) (windowsOf l) m spare v r ne (cost .keeps .formed) less)
+      ∙ sym (listed-again l (v .windows) (rounds-from (v .windows) more))
+      ∙ sym (λ j. listed L
+      (rounds overloadOf (whole-next j) (suc (slack (whole-next j) (windows-next j))) (state (windows-next j) more)))
+      ∙ sym (rest-is Begun more (shareWith L (s .share)) L (share-back L (s .share) st-next) refl)
 
   turn-answered : Round s (roomAfter s (answered (L, v .moves)))
   turn-answered =
       eq-or-ne (v .moves) 0
-      (λ q.
-      rw q
-      (settles L st-next (λ m. rest-now m ∙ ap (listed l) (rounds-last overloadOf (wholeIn l) (windowsOf l) m
-      (slack (wholeIn l) (windowsOf l)) v r q))))
+      (λ q. rw q
+      (settles L st-next (λ m. rest-now m ∙ ap (listed l) (rounds-last overloadOf (wholeIn l) (windowsOf l) m spare v r q))))
       (λ ne. goes-on L (v .moves) st-next ne (omega (arith, cost .bounded, slack-next, slack-is (s .share) l e)) (rest-next ne))
 
 -- a room's own turn

@@ -109,9 +109,9 @@ module _ (rows : List Room) (n number : ℕ) (lists : List ℕ) where
           (take (k * shareBytes) lists ++ (new ++ drop ((k * shareBytes + shareBytes) - k * shareBytes) (drop (k * shareBytes) lists)))
       takes-room part new out next made is z =
           let size : (k * shareBytes + shareBytes) - k * shareBytes ≡ shareBytes = omega arith in
-          let rest : drop ((k * shareBytes + shareBytes) - k * shareBytes) (drop (k * shareBytes) lists) ≡ drop
-          (k * shareBytes + shareBytes) lists =
-          ap (λ (y : ℕ). drop y (drop (k * shareBytes) lists)) size ∙ drop-drop shareBytes (k * shareBytes) lists in
+          let at = k * shareBytes in
+          let rest : drop ((at + shareBytes) - at) (drop at lists) ≡ drop (at + shareBytes) lists =
+          ap (λ (y : ℕ). drop y (drop at lists)) size ∙ drop-drop shareBytes at lists in
           record {
             answer = (λ i. answered (took k ((made .said ∙ ap (λ (p : List ℕ). saidBy (roundOn p)) is) i) (z i))) ∙ sym e;
             at = rw e;

@@ -3,7 +3,7 @@
 use mathlib.Core.Path.{_≡_, refl, sym, ap, _∙_, subst}
 use mathlib.Core.Bool.{Bool, true, false, true≢false}
 use mathlib.Core.List.{List}
-use Prim.Native.Nat.{ℕ, _+_, _<_, _≤_}
+use Prim.Native.Nat.{ℕ, _<_, _≤_}
 use native.Mathlib.Omega.{arith}
 use borrow.Author.Tests.{eq-eqb, ne-eqb}
 use lib.ListN.{length, getD, length-set, take}
@@ -20,10 +20,10 @@ use Rattle.rooms.specs.Cycles.{numberAfter, numberUsed}
 use Rattle.rooms.specs.Rooms.{isUnfinished, rowAfter, shareAfter, saidBy, ownTurn, unfinished}
 use Rattle.rooms.specs.Turns.{Lent, noRow, rowIn, shareOf, putShare, Turn, took, none-unfinished, roomFor, roundFor, turnOf}
 use Rattle.rooms.specs.Turns.{lentBy, lentAfter, Desk, starts, cycleOf}
-use Rattle.rooms.specs.Laws.{Fit, InShare, IsNext, CountsOn, RoundMade, RoomRefused, OwnRound, TakesRoom, TurnLaw}
+use Rattle.rooms.specs.Laws.{Fit, IsNext, CountsOn, RoundMade, RoomRefused, OwnRound, TakesRoom, TurnLaw}
 use Rattle.rooms.specs.declared.types.Room.{Room}
-use Rattle.rooms.proofs.CyclicOrder.{after-cases, used-same, used-past, ahead, ahead-up, ahead-last, ahead-zero, next-some}
-use Rattle.rooms.proofs.CyclicOrder.{next-first}
+use Rattle.rooms.proofs.CyclicOrder.{after-cases, used-same, used-past, ahead, ahead-up, ahead-last, ahead-zero}
+use Rattle.rooms.proofs.CyclicOrder.{next-some, next-first}
 use Rattle.rooms.proofs.CycleLaws.{taken-unfinished}
 use Rattle.rooms.proofs.SharesApart.{share-is-bytes, share-same, byte-other, put-length, put-back}
 use Rattle.rooms.proofs.DeskTurns.{Good, turn-took, turn-nothing, share-inside, new-length}
@@ -86,12 +86,12 @@ module _ (x : Lent) (b : Bytes (x .lists)) where
       where
         passed : (i : ℕ) → i < m → ahead m (numberUsed m number) i < ahead m (numberUsed m number) k → goes i ≡ false
         passed i l before =
-            next-first goes m number i l (subst (λ (j : ℕ). ahead m (numberUsed m number) i < ahead m (numberUsed m number) j) (sym is)
-                before)
+            let used = numberUsed m number in
+            next-first goes m number i l (subst (λ (j : ℕ). ahead m used i < ahead m used j) (sym is) before)
 
     -- a turn that took room k
-    module _ (k : ℕ) (said : Outcome (Unit {0})) (next : ℕ) (e : turnOf x number ≡ answered (took k said next)) (fit : Fit x) (h : k < m)
-        where
+    module _ (k : ℕ) (said : Outcome (Unit {0})) (next : ℕ) (e : turnOf x number ≡ answered (took k said next)) (fit : Fit x)
+        (h : k < m) where
       row : Room
       row = rowAfter (rowIn x k) (roundFor x k)
 

@@ -8,7 +8,6 @@ use list::types::Refusal;
 use shares::SHARE_BYTES;
 ghost use mathlib.Core.Path.{_≡_};
 ghost use Prim.Native.Nat.{_<_, _≤_};
-ghost use lib.ListN.{length};
 ghost use Rattle.rooms.specs.Cycles.{numberAfter, numberUsed, nextUnfinished};
 ghost use Rattle.rooms.specs.Rooms.{isUnfinished};
 ghost use Rattle.rooms.specs.Turns.{mostRooms, noRow};

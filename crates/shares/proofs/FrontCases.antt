@@ -17,7 +17,6 @@ use Rattle.format.specs.Reading.{readOf, listOr}
 use Rattle.format.specs.Calls.{Reads}
 use Rattle.codes.specs.Codes.{numbersOf}
 use Rattle.codes.specs.declared.RefusalCode.{RefusalCode}
-use Rattle.shares.specs.Shares.{frontOf}
 use Rattle.shares.specs.Calls.{ReadsFront}
 use Rattle.shares.specs.Internal.{endAt}
 use Rattle.shares.proofs.FrontLaws.{EndsAt, ends-at, front-law}

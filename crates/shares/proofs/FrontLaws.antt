@@ -1,7 +1,7 @@
 -- What reading the front of bytes says, against reading all of them.
 -- Assumes nothing.
 use mathlib.Core.Path.{_≡_, refl, sym, ap, _∙_, subst}
-use mathlib.Core.Bool.{Bool, true, false, cond}
+use mathlib.Core.Bool.{Bool, true, false}
 use mathlib.Core.List.{List, [], _∷_, _++_}
 use Prim.Native.Nat.{ℕ, _≤_, _<_}
 use native.Mathlib.Omega.{arith}
@@ -10,11 +10,10 @@ use lib.Dec.{ltb}
 use lib.ListN.{length, getD, take}
 use lib.Seq.{take-length}
 use Rattle.base.specs.Outcomes.{Code, code, Outcome, answered, refused}
-use Rattle.base.proofs.Inversion.{Says, by-row, answered-same, answered-refused, refused-same}
+use Rattle.base.proofs.Inversion.{Says, by-row, refused-same}
 use Rattle.list.specs.Machine.{Bytes}
 use Rattle.list.specs.DayLists.{entriesOf, dayList}
 use Rattle.list.specs.Clashes.{firstClash}
-use Rattle.list.specs.Checks.{WellFormed}
 use Rattle.list.specs.declared.types.Entry.{Entry}
 use Rattle.list.specs.declared.types.DayList.{DayList}
 use Rattle.list.proofs.ClashFacts.{apart}
@@ -111,5 +110,5 @@ module _ (bs : List ℕ) (b : Bytes bs) where
     where
       whole : (o : Outcome DayList) → frontOf bs ≡ o → Says Read NotEight o → readOf bs ≡ frontOf bs → EndsAt bs (endAt o (length bs))
       whole (answered l) e p same = record { inside = omega arith; read = ap readOf (take-length bs) ∙ same }
-      whole (refused k) e not same = rw (ne-eqb (k .number) 8 not) (record
-          { inside = omega arith; read = ap readOf (take-length bs) ∙ same })
+      whole (refused k) e not same =
+          rw (ne-eqb (k .number) 8 not) (record { inside = omega arith; read = ap readOf (take-length bs) ∙ same })

@@ -10,7 +10,7 @@ use lib.Dec.{ltb}
 use lib.ListN.{length, take, drop, length-append, length-drop}
 use lib.Seq.{take-append-seam, take-at}
 use Rattle.base.specs.Outcomes.{Code, code, Outcome, answered, refused, andThen}
-use Rattle.base.proofs.Inversion.{Says, by-row, by-step, says-which}
+use Rattle.base.proofs.Inversion.{Says, by-row, by-step}
 use Rattle.list.specs.Machine.{Bytes}
 use Rattle.list.specs.DayLists.{entriesOf, dayList}
 use Rattle.list.specs.Checks.{headerFault, openingFault}
@@ -116,8 +116,8 @@ module _ (bs : List ℕ) where
     unfolding bytesOf
     one-form =
         let body : bytesOfEntries f (x .0) ++ taken .rest ≡ drop from bs = sym (taken .form (bytes-drop bs from b)) in
-        rw (kept, taken .count) (append-assoc (headerBytes f n) (bytesOfEntries f (x .0)) (taken .rest) ∙ rw body
-        (sym (header-stands bs zero b long)))
+        rw (kept, taken .count)
+        (append-assoc (headerBytes f n) (bytesOfEntries f (x .0)) (taken .rest) ∙ rw body (sym (header-stands bs zero b long)))
 
     stood : Front x
     stood =

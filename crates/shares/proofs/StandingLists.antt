@@ -135,8 +135,8 @@ module _ (l : DayList) (r : Readable l) (rest : List ℕ) where
   front-form =
       let same : dayList (frameOf bs) es ≡ l = ap (λ (g : Frame). dayList g es) (sym (back .frame)) ∙ r .blank-after in
       rw front-entries
-      (λ j. cond (ltb (firstClash es) (length es)) (refused (code 14 (places (firstClash es) (clash-within es) j ∷ [])))
-      (answered (same j)))
+      (λ j. cond (ltb (firstClash es) (length es))
+      (refused (code 14 (places (firstClash es) (clash-within es) j ∷ []))) (answered (same j)))
 
 -- if no two entries clash, as the list
 pub apart-read : (l : DayList) → WellFormed l → orClash l ≡ answered l

@@ -1,9 +1,8 @@
+-- Eight rooms, one after the other.
+-- Assumes nothing.
 use borrow.Author.Needs.{needs}
 use Rattle.room_rows.proofs.rows.eight_rooms.Statement.{statement}
 use Rattle.room_rows.proofs.rows.eight_rooms.Tie as tie
-use Rattle.room_rows.proofs.rows.eight_rooms.Reads as reads
-use Rattle.room_rows.proofs.rows.eight_rooms.Lts as lts
-use Rattle.room_rows.proofs.rows.room_or.Reads as room-or-reads
 
 room-or-requires : tie.Need-room-or-requires
 room-or-requires c κs = search needs

@@ -1,12 +1,11 @@
+-- Three stores, one after the other.
+-- Assumes nothing.
 use borrow.Author.Needs.{needs}
 use native.Mathlib.Numerals.{towards-suc}
 use native.Mathlib.Omega.{arith}
 use lib.ListN.{length-set}
 use Rattle.room_rows.proofs.rows.put_room.Statement.{statement}
 use Rattle.room_rows.proofs.rows.put_room.Tie as tie
-use Rattle.room_rows.proofs.rows.put_room.Reads as reads
-use Rattle.room_rows.proofs.rows.put_room.Lts as lts
-use Rattle.room_rows.proofs.rows.stage_number.Reads as stage-number-reads
 
 mul-at : tie.Need-mul-at
 mul-at c = search needs

@@ -1,13 +1,11 @@
+-- A room as its numbers say it.
+-- Assumes nothing.
 use borrow.Author.Needs.{needs}
 use mathlib.Core.Path.{_∙_}
 use Rattle.room_rows.proofs.RoomTrip.{room-past}
 use Rattle.room_rows.proofs.RowCases.{room-read}
 use Rattle.room_rows.proofs.rows.room_or.Statement.{statement}
 use Rattle.room_rows.proofs.rows.room_or.Tie as tie
-use Rattle.room_rows.proofs.rows.room_or.Reads as reads
-use Rattle.room_rows.proofs.rows.room_or.Lts as lts
-use Rattle.room_rows.proofs.rows.stage_of.Reads as stage-of-reads
-use Rattle.rooms.proofs.no_row.Reads as no-row-reads
 
 mul-at : tie.Need-mul-at
 mul-at c = search needs

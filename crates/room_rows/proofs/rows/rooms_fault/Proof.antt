@@ -1,9 +1,9 @@
+-- Row 100.
+-- Assumes nothing.
 use borrow.Author.Needs.{needs}
 use Rattle.room_rows.proofs.RowCases.{fault-none, fault-over}
 use Rattle.room_rows.proofs.rows.rooms_fault.Statement.{statement}
 use Rattle.room_rows.proofs.rows.rooms_fault.Tie as tie
-use Rattle.room_rows.proofs.rows.rooms_fault.Reads as reads
-use Rattle.room_rows.proofs.rows.rooms_fault.Lts as lts
 
 sub-t5 : tie.Need-sub-t5
 sub-t5 c = search needs

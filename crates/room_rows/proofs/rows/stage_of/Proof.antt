@@ -1,8 +1,8 @@
+-- The stage that a number says.
+-- Assumes nothing.
 use Rattle.room_rows.proofs.RowCases.{stage-fresh, stage-begun, stage-settled, stage-refused}
 use Rattle.room_rows.proofs.rows.stage_of.Statement.{statement}
 use Rattle.room_rows.proofs.rows.stage_of.Tie as tie
-use Rattle.room_rows.proofs.rows.stage_of.Reads as reads
-use Rattle.room_rows.proofs.rows.stage_of.Lts as lts
 
 returns : tie.Need-returns
 returns c = stage-fresh _ (c .if1 .taken)

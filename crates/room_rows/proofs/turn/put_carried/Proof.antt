@@ -1,11 +1,10 @@
+-- A room's refusal as numbers.
+-- Assumes nothing.
 use borrow.Author.Needs.{needs}
 use mathlib.Core.Path.{refl}
 use Rattle.room_rows.proofs.RowCases.{carried-none, carried-some}
 use Rattle.room_rows.proofs.turn.put_carried.Statement.{statement}
 use Rattle.room_rows.proofs.turn.put_carried.Tie as tie
-use Rattle.room_rows.proofs.turn.put_carried.Reads as reads
-use Rattle.room_rows.proofs.turn.put_carried.Lts as lts
-use Rattle.codes.proofs.numbers_of.Reads as numbers-of-reads
 
 enum-told : tie.Need-enum-told
 enum-told c = search needs

@@ -1,9 +1,8 @@
+-- The turn's own refusal as numbers.
+-- Assumes nothing.
 use borrow.Author.Needs.{needs}
 use Rattle.room_rows.proofs.turn.refused_as.Statement.{statement}
 use Rattle.room_rows.proofs.turn.refused_as.Tie as tie
-use Rattle.room_rows.proofs.turn.refused_as.Reads as reads
-use Rattle.room_rows.proofs.turn.refused_as.Lts as lts
-use Rattle.codes.proofs.numbers_of.Reads as numbers-of-reads
 
 numbers-of-requires : tie.Need-numbers-of-requires
 numbers-of-requires c κs = search needs

@@ -1,16 +1,11 @@
+-- A turn over rows of three numbers: refused, nothing unfinished, or a room had it.
+-- Assumes nothing.
 use mathlib.Core.Path.{refl}
 use native.Mathlib.Omega.{arith}
 use borrow.Author.Needs.{needs}
 use Rattle.room_rows.proofs.TurnCases.{turn-refused, turn-nothing, in-eight, inside, turn-taken}
 use Rattle.room_rows.proofs.turn.take_numbers.Statement.{statement}
 use Rattle.room_rows.proofs.turn.take_numbers.Tie as tie
-use Rattle.room_rows.proofs.turn.take_numbers.Reads as reads
-use Rattle.room_rows.proofs.turn.take_numbers.Lts as lts
-use Rattle.room_rows.proofs.rows.eight_rooms.Reads as eight-rooms-reads
-use Rattle.room_rows.proofs.rows.put_room.Reads as put-room-reads
-use Rattle.room_rows.proofs.turn.put_carried.Reads as put-carried-reads
-use Rattle.room_rows.proofs.turn.refused_as.Reads as refused-as-reads
-use Rattle.rooms.proofs.turn_held.Reads as turn-held-reads
 
 eight-rooms-requires : tie.Need-eight-rooms-requires
 eight-rooms-requires c κs = search needs

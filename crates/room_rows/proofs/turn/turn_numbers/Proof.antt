@@ -1,12 +1,9 @@
+-- Row 100, then the turn.
+-- Assumes nothing.
 use borrow.Author.Needs.{needs}
 use Rattle.room_rows.proofs.TurnCases.{numbers-turned, numbers-no-rows}
 use Rattle.room_rows.proofs.turn.turn_numbers.Statement.{statement}
 use Rattle.room_rows.proofs.turn.turn_numbers.Tie as tie
-use Rattle.room_rows.proofs.turn.turn_numbers.Reads as reads
-use Rattle.room_rows.proofs.turn.turn_numbers.Lts as lts
-use Rattle.room_rows.proofs.rows.rooms_fault.Reads as rooms-fault-reads
-use Rattle.room_rows.proofs.turn.refused_as.Reads as refused-as-reads
-use Rattle.room_rows.proofs.turn.take_numbers.Reads as take-numbers-reads
 
 rooms-fault-requires : tie.Need-rooms-fault-requires
 rooms-fault-requires c κs = search needs

@@ -1,3 +1,5 @@
+-- The search for the next unfinished room: what is left of it finds what all of it finds.
+-- Assumes nothing.
 use mathlib.Core.Path.{_≡_, sym, _∙_, subst}
 use Prim.Native.Nat.{ℕ, _<_}
 use borrow.Author.Needs.{needs}
@@ -7,11 +9,6 @@ use Rattle.rooms.proofs.CyclicOrder.{used-below, after-below}
 use Rattle.rooms.proofs.TurnCases.{search-found, search-passed, search-ended, search-starts}
 use Rattle.rooms.proofs.desk.next_unfinished.Statement.{statement}
 use Rattle.rooms.proofs.desk.next_unfinished.Tie as tie
-use Rattle.rooms.proofs.desk.next_unfinished.Reads as reads
-use Rattle.rooms.proofs.desk.next_unfinished.Lts as lts
-use Rattle.rooms.proofs.desk.is_unfinished.Reads as is-unfinished-reads
-use Rattle.rooms.proofs.desk.number_after.Reads as number-after-reads
-use Rattle.rooms.proofs.desk.number_used.Reads as number-used-reads
 
 abbrev Inv-loop : tie.InvT-loop
 Inv-loop n number rows at₀ left₀ at left =

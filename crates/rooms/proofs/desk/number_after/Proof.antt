@@ -1,9 +1,9 @@
+-- The number after one.
+-- Assumes nothing.
 use borrow.Author.Needs.{needs}
 use Rattle.rooms.proofs.TurnCases.{after-more, after-zero}
 use Rattle.rooms.proofs.desk.number_after.Statement.{statement}
 use Rattle.rooms.proofs.desk.number_after.Tie as tie
-use Rattle.rooms.proofs.desk.number_after.Reads as reads
-use Rattle.rooms.proofs.desk.number_after.Lts as lts
 
 add-if1 : tie.Need-add-if1
 add-if1 c = search needs

@@ -1,8 +1,8 @@
+-- The number as it is used.
+-- Assumes nothing.
 use Rattle.rooms.proofs.TurnCases.{used-same, used-zero}
 use Rattle.rooms.proofs.desk.number_used.Statement.{statement}
 use Rattle.rooms.proofs.desk.number_used.Tie as tie
-use Rattle.rooms.proofs.desk.number_used.Reads as reads
-use Rattle.rooms.proofs.desk.number_used.Lts as lts
 
 returns : tie.Need-returns
 returns c = used-same _ _ (c .if1 .taken)

@@ -1,15 +1,10 @@
+-- Rows 19 and 12, then a room has the turn, or nothing is unfinished.
+-- Assumes nothing.
 use borrow.Author.Needs.{needs}
 use Rattle.rooms.proofs.TurnCases.{answer-none, answer-many, answer-short, answer-took, answer-nothing}
 use Rattle.rooms.proofs.TurnCases.{takes-refused, takes-nothing, takes-room, share-lent}
 use Rattle.rooms.proofs.desk.take_turn.Statement.{statement}
 use Rattle.rooms.proofs.desk.take_turn.Tie as tie
-use Rattle.rooms.proofs.desk.take_turn.Reads as reads
-use Rattle.rooms.proofs.desk.take_turn.Lts as lts
-use Rattle.rooms.proofs.desk.next_unfinished.Reads as next-unfinished-reads
-use Rattle.rooms.proofs.desk.not_taken.Reads as not-taken-reads
-use Rattle.rooms.proofs.desk.number_after.Reads as number-after-reads
-use Rattle.rooms.proofs.desk.number_used.Reads as number-used-reads
-use Rattle.rooms.proofs.room.room_round.Reads as room-round-reads
 
 not-taken-requires : tie.Need-not-taken-requires
 not-taken-requires c κs = search needs

@@ -1,11 +1,10 @@
+-- More than eight rooms, or `turn` over those held.
+-- Assumes nothing.
 use mathlib.Core.Path.{refl}
 use borrow.Author.Needs.{needs}
 use Rattle.rooms.proofs.LentTurns.{held-many, held-front}
 use Rattle.rooms.proofs.held.turn_held.Statement.{statement}
 use Rattle.rooms.proofs.held.turn_held.Tie as tie
-use Rattle.rooms.proofs.held.turn_held.Reads as reads
-use Rattle.rooms.proofs.held.turn_held.Lts as lts
-use Rattle.rooms.proofs.lent.turn_front.Reads as turn-front-reads
 
 returns : tie.Need-returns
 returns c = held-many _ _ _ _ (λ i. c .before .slice-known .given i .fits) (c .if1 .taken) _ refl

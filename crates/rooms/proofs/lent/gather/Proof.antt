@@ -1,7 +1,7 @@
 -- `rooms::gather` meets its contract: a walk of its MIR, by hand. Each row is read by `row_or`, of which all that is known is that it meets
 -- its contract; the slice is a `&`, which is Copy, so each call is passed a copy (`reads`).
 -- Assumes nothing.
-use mathlib.Core.Path.{_≡_, refl, sym, ap, subst}
+use mathlib.Core.Path.{_≡_, refl, subst}
 use Prim.Native.Nat.{ℕ, _<_, _^_}
 use mathlib.Core.List.{List, [], _∷_}
 use lib.Dec.{T as Holds, lit<}

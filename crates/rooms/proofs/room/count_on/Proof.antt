@@ -1,10 +1,10 @@
+-- A count stays, stops, or is added to.
+-- Assumes nothing.
 use borrow.Author.Needs.{needs}
 use native.Mathlib.Omega.{arith}
 use Rattle.rooms.proofs.RoomCases.{count-kept, count-full, count-sum}
 use Rattle.rooms.proofs.room.count_on.Statement.{statement}
 use Rattle.rooms.proofs.room.count_on.Tie as tie
-use Rattle.rooms.proofs.room.count_on.Reads as reads
-use Rattle.rooms.proofs.room.count_on.Lts as lts
 
 returns : tie.Need-returns
 returns c = count-kept (c .before .args .old) (c .before .args .more) (omega arith)

@@ -1,10 +1,9 @@
+-- The overload test of a fresh room.
+-- Assumes nothing.
 use borrow.Author.Needs.{needs}
 use Rattle.rooms.proofs.RoomCases.{test-fresh}
 use Rattle.rooms.proofs.room.first_test.Statement.{statement}
 use Rattle.rooms.proofs.room.first_test.Tie as tie
-use Rattle.rooms.proofs.room.first_test.Reads as reads
-use Rattle.rooms.proofs.room.first_test.Lts as lts
-use Rattle.jackson.proofs.overload.Reads as overload-reads
 
 enum-told : tie.Need-enum-told
 enum-told c = search needs

@@ -1,17 +1,10 @@
+-- A share that does not read, 9, 10, or a round that is made.
+-- Assumes nothing.
 use borrow.Author.Needs.{needs}
 use mathlib.Core.Path.{refl}
 use Rattle.rooms.proofs.RoomCases.{round-refused, unread-with, front-formed, tested-with, made-with, written-with, rounds-with}
 use Rattle.rooms.proofs.room.room_round.Statement.{statement}
 use Rattle.rooms.proofs.room.room_round.Tie as tie
-use Rattle.rooms.proofs.room.room_round.Reads as reads
-use Rattle.rooms.proofs.room.room_round.Lts as lts
-use Rattle.format.proofs.write.Reads as write-reads
-use Rattle.narrow.proofs.make_round.Reads as make-round-reads
-use Rattle.rooms.proofs.room.count_on.Reads as count-on-reads
-use Rattle.rooms.proofs.room.first_test.Reads as first-test-reads
-use Rattle.rooms.proofs.room.refused_room.Reads as refused-room-reads
-use Rattle.rooms.proofs.room.stage_after.Reads as stage-after-reads
-use Rattle.shares.proofs.read_front.Reads as read-front-reads
 
 read-front-requires : tie.Need-read-front-requires
 read-front-requires c κs = search needs

@@ -1,8 +1,8 @@
+-- A round without moves is the last.
+-- Assumes nothing.
 use borrow.Author.Tests.{eq-eqb, ne-eqb}
 use Rattle.rooms.proofs.room.stage_after.Statement.{statement}
 use Rattle.rooms.proofs.room.stage_after.Tie as tie
-use Rattle.rooms.proofs.room.stage_after.Reads as reads
-use Rattle.rooms.proofs.room.stage_after.Lts as lts
 
 returns : tie.Need-returns
 returns c = rw (eq-eqb (c .before .args .moves) 0 (c .if1 .taken))

@@ -1,10 +1,9 @@
+-- Where row 8 says that the list ends.
+-- Assumes nothing.
 use Rattle.shares.proofs.FrontCases.{end-eight, end-other}
 use borrow.Author.Needs.{needs}
 use Rattle.shares.proofs.front.end_of.Statement.{statement}
 use Rattle.shares.proofs.front.end_of.Tie as tie
-use Rattle.shares.proofs.front.end_of.Reads as reads
-use Rattle.shares.proofs.front.end_of.Lts as lts
-use Rattle.codes.proofs.numbers_of.Reads as numbers-of-reads
 
 enum-known-verdict : tie.Need-enum-known-verdict
 enum-known-verdict c = search needs

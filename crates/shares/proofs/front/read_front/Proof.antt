@@ -1,3 +1,5 @@
+-- The bytes up to there, read again.
+-- Assumes nothing.
 use mathlib.Core.Path.{sym}
 use lib.Seq.{length-take-le}
 use borrow.Author.Needs.{needs}
@@ -5,10 +7,6 @@ use Rattle.list.specs.Machine.{Bytes}
 use Rattle.shares.proofs.FrontCases.{reader-end, front-read}
 use Rattle.shares.proofs.front.read_front.Statement.{statement}
 use Rattle.shares.proofs.front.read_front.Tie as tie
-use Rattle.shares.proofs.front.read_front.Reads as reads
-use Rattle.shares.proofs.front.read_front.Lts as lts
-use Rattle.format.proofs.read.Reads as read-reads
-use Rattle.shares.proofs.front.end_of.Reads as end-of-reads
 
 read-requires : tie.Need-read-requires
 read-requires c κs = search needs
