@@ -2,6 +2,7 @@
 //! readings of document 02's tie rule, of its running sum, of its opening minute and of its control desk, and the
 //! smallest days that the tie rule changes.
 
+mod control_desk;
 mod desk_traps;
 mod format;
 mod imports;
