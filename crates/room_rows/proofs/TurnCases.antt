@@ -1,14 +1,17 @@
 -- A turn over rows of numbers, case by case.
 -- Assumes nothing.
 use mathlib.Core.Path.{_≡_, sym, ap, _∙_, subst}
-use mathlib.Core.List.{List, [], _∷_}
+use mathlib.Core.List.{List, [], _∷_, _++_}
 use Prim.Native.Nat.{ℕ, _+_, _*_, _/_, _<_, _≤_}
 use native.Mathlib.Omega.{arith}
-use lib.ListN.{length, getD}
+use lib.ListN.{length, getD, take, drop, List·getD-append}
 use lib.Seq.{sets, getD-set-same}
 use Rattle.base.specs.Outcomes.{Outcome, answered, refused}
+use Rattle.base.proofs.Sums.{le-or-lt}
+use Rattle.list.specs.Machine.{Bytes}
 use Rattle.list.specs.Refusals.{codeOf, verdictOf}
 use Rattle.list.specs.declared.types.Refusal.{Refusal}
+use Rattle.list.specs.declared.types.Refusal.the-variants.{RoomCount}
 use Rattle.list.specs.declared.types.Verdict.{Verdict}
 use Rattle.list.specs.declared.types.Verdict.the-variants.{Accepted, Refused}
 use Rattle.list.proofs.Verdicts.{by-accepted, by-refused}
@@ -20,7 +23,8 @@ use Rattle.rooms.specs.declared.types.Room.{Room}
 use Rattle.rooms.specs.declared.types.HeldAnswer.{HeldAnswer}
 use Rattle.rooms.specs.declared.types.TurnAnswer.{TurnAnswer}
 use Rattle.rooms.specs.declared.types.TurnAnswer.the-variants.{NotTurned, NoneUnfinished, Turned}
-use Rattle.rooms.proofs.EightRows.{eight-at}
+use Rattle.rooms.proofs.EightRows.{first-rows}
+use Rattle.rooms.proofs.LentTurns.{turn-many}
 use Rattle.room_rows.specs.RoomRows.{roomNumbers, roomsIn, roomRow, roomsFault}
 use Rattle.room_rows.specs.Calls.{lentIn, turnIn, saidNumber, saidValues, NumbersTurn, TurnsNumbers}
 use Rattle.room_rows.specs.Internal.{TurnsRooms}
@@ -35,21 +39,50 @@ module _ (xs lists carried : List ℕ) (o : Outcome Turn) where
   numbers-refused x a e is = record { answer = rw (e, is); rooms = rw e; lists = rw e; carried = rw e; back = rw e }
 
 module _ (xs lists : List ℕ) (number : ℕ) (old : List ℕ) (first : List Room) (eight : first ≡ eightRows (roomsIn xs) noRow)
-    (held : HeldAnswer) (new : List ℕ) (turned : TurnsHeld first (length xs / roomNumbers) lists number held new) where
+    (held : HeldAnswer) (new : List ℕ) (turned : TurnsHeld first (length xs / roomNumbers) lists number held new) (b : Bytes lists) where
   abbrev x : Lent
   x = lentIn xs lists
 
-  -- the rows after the turn, and what `turn` promises of them
-  rows : List Room
-  rows = turned .as-lent (roomsIn xs) (rooms-count xs) eight .0
+  abbrev n : ℕ
+  n = length xs / roomNumbers
 
-  turns : Turns x number (held .answer) (record { rows = rows; lists = new })
-  unfolding rows
-  turns = turned .as-lent (roomsIn xs) (rooms-count xs) eight .1
+  -- the rows after the turn, what `turn` promises of them, and where those of up to eight rooms are held
+  record OverRooms : Type 0 where
+    rows : List Room
+    turns : Turns x number (held .answer) (record { rows = rows; lists = new })
+    held-first : n ≤ mostRooms → held .rows ≡ rows ++ drop n first
 
-  held-rows : held .rows ≡ eightRows rows noRow
-  unfolding rows
-  held-rows = turned .as-lent (roomsIn xs) (rooms-count xs) eight .2
+  over-rooms : OverRooms
+  over-rooms =
+      le-or-lt n mostRooms
+      (λ few.
+      let got = turned .few few in
+      let room : length (roomsIn xs) ≤ mostRooms = omega (arith, few, rooms-count xs) in
+      let lent : take n first ≡ roomsIn xs = (λ j. take (sym (rooms-count xs) j) (eight j)) ∙ first-rows (roomsIn xs) room in
+      record {
+        rows = got .first;
+        turns = subst (λ (ys : List Room). Turns (record { rows = ys; lists = lists }) number (held .answer)
+            (record { rows = got .first; lists = new })) lent (got .turned);
+        held-first = λ _. got .rows;
+      })
+      (λ h.
+      let got = turned .many h in
+      let many : mostRooms < length (roomsIn xs) = omega (arith, h, rooms-count xs) in
+      let is : NotTurned (RoomCount (length (roomsIn xs))) ≡ held .answer =
+      ap (λ (k : ℕ). NotTurned (RoomCount k)) (rooms-count xs) ∙ sym (ap (λ (a : HeldAnswer). a .answer) (got .0)) in
+      record {
+        rows = roomsIn xs;
+        turns = subst (λ (t : TurnAnswer). Turns x number t (record { rows = roomsIn xs; lists = new })) is
+            (subst (λ (ls : List ℕ). Turns x number (NotTurned (RoomCount (length (roomsIn xs))))
+            (record { rows = roomsIn xs; lists = ls })) (sym (got .1)) (turn-many (roomsIn xs) lists number b many));
+        held-first = λ few. absurd (omega (arith, h, few));
+      })
+
+  abbrev rows : List Room
+  rows = over-rooms .rows
+
+  abbrev turns : Turns x number (held .answer) (record { rows = rows; lists = new })
+  turns = over-rooms .turns
 
   module _ (t : TurnAnswer) (is : held .answer ≡ t) where
     outcome-is : turnOf x number ≡ turnAnswerOf t
@@ -104,22 +137,19 @@ module _ (xs lists : List ℕ) (number : ℕ) (old : List ℕ) (first : List Roo
           turns .law .fits (took k (verdictOf verdict) next) o .few,
         )
 
-    few : length rows ≤ mostRooms
-    few =
-        omega (
-          arith,
-          ap (λ (y : Lent). length (y .rows)) (turns .lent),
-          turns .law .rows-stay,
-          turns .law .fits (took k (verdictOf verdict) next) o .few,
-        )
+    few : n ≤ mostRooms
+    few = omega (arith, turns .law .fits (took k (verdictOf verdict) next) o .few, rooms-count xs)
+
+    as-many : length rows ≡ n
+    as-many = ap (λ (y : Lent). length (y .rows)) (turns .lent) ∙ turns .law .rows-stay ∙ rooms-count xs
 
     abbrev after : Outcome Turn
     after = answered (took k (verdictOf verdict) next)
 
     row-is : getD (held .rows) k noRow ≡ rowIn (lentBy after x) k
     row-is =
-        ap (λ (ys : List Room). getD ys k noRow) held-rows
-        ∙ eight-at rows few k
+        ap (λ (ys : List Room). getD ys k noRow) (over-rooms .held-first few)
+        ∙ List·getD-append rows (drop n first) noRow k (omega (arith, below, as-many))
         ∙ ap (λ (ys : List Room). getD ys k noRow) (rows-are (Turned k verdict next) is)
 
     abbrev row : Room

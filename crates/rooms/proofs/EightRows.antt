@@ -1,11 +1,11 @@
 -- The first eight rows: up to eight rows stand there as they are, and behind them rows that no room has.
 -- Assumes nothing.
-use mathlib.Core.Path.{_≡_, refl, sym, ap, _∙_}
+use mathlib.Core.Path.{_≡_, refl, ap, _∙_}
 use mathlib.Core.List.{List, [], _∷_, _++_}
 use Prim.Native.Nat.{ℕ, zero, suc, _-_, _≤_}
 use native.Mathlib.Omega.{arith}
-use lib.ListN.{length, getD, take, drop, replicate}
-use lib.Seq.{take-append-seam, drop-append-seam}
+use lib.ListN.{length, getD, take, replicate}
+use lib.Seq.{take-append-seam}
 use Rattle.rooms.specs.Turns.{mostRooms, noRow, eightRows}
 use Rattle.rooms.specs.declared.types.Room.{Room}
 
@@ -47,12 +47,3 @@ eight-at rows h i = ap (λ (xs : List Room). getD xs i noRow) (eight-padded rows
 pub first-rows : (rows : List Room) → length rows ≤ mostRooms → take (length rows) (eight rows) ≡ rows
 unfolding padded
 first-rows rows h = ap (take (length rows)) (eight-padded rows h) ∙ take-append-seam rows _
-
--- and as many others in their place are the first of theirs
-pub rows-again : (rows others : List Room) → length others ≡ length rows → length rows ≤ mostRooms
-    → others ++ drop (length rows) (eight rows) ≡ eight others
-unfolding padded
-rows-again rows others same h =
-    ap (λ (xs : List Room). others ++ xs) (ap (drop (length rows)) (eight-padded rows h) ∙ drop-append-seam rows _)
-    ∙ ap (λ (k : ℕ). others ++ replicate (mostRooms - k) noRow) (sym same)
-    ∙ sym (eight-padded others (omega (arith, same)))

@@ -1,13 +1,13 @@
 -- A turn over eight rows held by value, and the row stored, is the turn over what is lent.
 -- Assumes nothing.
-use mathlib.Core.Path.{_≡_, refl, sym, ap, _∙_, fun-ext, subst}
+use mathlib.Core.Path.{_≡_, refl, sym, ap, _∙_, fun-ext}
 use mathlib.Core.Bool.{cond}
-use mathlib.Core.List.{List, [], _∷_, _++_}
+use mathlib.Core.List.{List, [], _∷_}
 use Prim.Native.Nat.{ℕ, _<_, _≤_}
 use native.Mathlib.Omega.{arith}
 use borrow.Author.Tests.{lt-ltb, ne-eqb}
 use lib.Dec.{ltb}
-use lib.ListN.{length, getD, set, take, drop}
+use lib.ListN.{length, getD, set}
 use lib.Seq.{set-out}
 use Rattle.base.specs.Outcomes.{code, Outcome, answered, refused, firstOf}
 use Rattle.base.proofs.Sums.{le-or-lt}
@@ -17,15 +17,15 @@ use Rattle.rooms.specs.Cycles.{numberAfter, numberUsed, nextUnfinished}
 use Rattle.rooms.specs.Rooms.{isUnfinished, roundIn, rowAfter, shareAfter, saidBy}
 use Rattle.rooms.specs.Turns.{mostRooms, Lent, noRow, shareOf, putShare, Turn, took, none-unfinished}
 use Rattle.rooms.specs.Turns.{turnRows, turnOf, lentBy, lentAfter}
-use Rattle.rooms.specs.Calls.{Turns, TurnsHeld}
-use Rattle.rooms.specs.Internal.{answerOf, placeBy, rowBy, listsBy, TakesTurn, TurnsFront}
+use Rattle.rooms.specs.Calls.{Turns, TurnsFirst, TurnsHeld}
+use Rattle.rooms.specs.Internal.{answerOf, placeBy, rowBy, listsBy, TakesTurn}
 use Rattle.rooms.specs.declared.types.Room.{Room}
 use Rattle.rooms.specs.declared.types.TurnTaken.{TurnTaken}
 use Rattle.rooms.specs.declared.types.HeldAnswer.{HeldAnswer}
 use Rattle.rooms.specs.declared.types.TurnAnswer.the-variants.{NotTurned}
 use Rattle.rooms.proofs.TurnLaws.{turn-law}
 use Rattle.rooms.proofs.RunLaws.{turns-law}
-use Rattle.rooms.proofs.EightRows.{eight, eight-at, first-rows, rows-again}
+use Rattle.rooms.proofs.EightRows.{eight, eight-at}
 
 -- a turn's answer, by the rows at their places
 answerBy : (ℕ → Room) → ℕ → ℕ → List ℕ → Outcome Turn
@@ -124,31 +124,11 @@ module _ (ys : List Room) (lists : List ℕ) (number : ℕ) where
           turns = turns-law x (takes .bytes) number;
         }
 
--- eight rows held by value, which are the first of those lent
+-- more than eight rooms, or the first n of eight rows held by value
 module _ (held : List Room) (n number : ℕ) (old : List ℕ) where
-  pub held-many : Bytes old → mostRooms < n → (a : HeldAnswer) → a ≡ record { rows = held; answer = NotTurned (RoomCount n) }
+  pub held-many : mostRooms < n → (a : HeldAnswer) → a ≡ record { rows = held; answer = NotTurned (RoomCount n) }
       → TurnsHeld held n old number a old
-  held-many b h a is =
-      record {
-        as-lent = λ rows count first.
-            let many : mostRooms < length rows = omega (arith, h, count) in
-            rw (is, ← count) (rows, turn-many rows old number b many, first);
-      }
+  held-many h a is = record { few = λ few. absurd (omega (arith, h, few)); many = λ _. (is, refl) }
 
-  pub held-front : n ≤ mostRooms → (a : HeldAnswer) (new : List ℕ) → TurnsFront held n old number a new → TurnsHeld held n old number a new
-  held-front few a new front =
-      record {
-        as-lent = λ rows count first.
-            let room : length rows ≤ mostRooms = omega (arith, few, count) in
-            let lent : take n held ≡ rows = (λ j. take (sym count j) (first j)) ∙ first-rows rows room in
-            let turned : Turns (record { rows = rows; lists = old }) number (a .answer) (record { rows = front .first; lists = new }) =
-            subst (λ (ys : List Room). Turns (record { rows = ys; lists = old }) number (a .answer)
-            (record { rows = front .first; lists = new }))
-            lent (front .turned) in
-            let same : length (front .first) ≡ length rows =
-            ap (λ (y : Lent). length (y .rows)) (turned .lent) ∙ turned .law .rows-stay in (
-              front .first,
-              turned,
-              front .rows ∙ (λ j. front .first ++ drop (sym count j) (first j)) ∙ rows-again rows (front .first) same room,
-            );
-      }
+  pub held-first : n ≤ mostRooms → (a : HeldAnswer) (new : List ℕ) → TurnsFirst held n old number a new → TurnsHeld held n old number a new
+  held-first few a new first = record { few = λ _. first; many = λ h. absurd (omega (arith, h, few)) }

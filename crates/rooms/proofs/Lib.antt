@@ -16,7 +16,7 @@ mod Examples
 mod RoomCases
 mod TurnCases
 pub mod EightRows
-mod LentTurns
+pub mod LentTurns
 -- A slice that is lent for a call, as the proofs that walk code by hand need it.
 mod Lending
 mod LendingFront

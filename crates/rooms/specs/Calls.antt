@@ -1,11 +1,12 @@
 -- What the public calls promise.
-use Prim.Native.Nat.{ℕ}
+use Prim.Native.Nat.{ℕ, _<_, _≤_}
 use mathlib.Core.Path.{_≡_}
-use mathlib.Core.List.{List}
-use lib.ListN.{length}
+use mathlib.Core.List.{List, _++_}
+use lib.ListN.{take, drop}
 use Rattle.base.specs.Outcomes.{Outcome, answered, refused}
 use Rattle.list.specs.Refusals.{codeOf, verdictOf}
-use Rattle.rooms.specs.Turns.{Lent, noRow, eightRows, Turn, took, none-unfinished, turnOf, lentAfter}
+use Rattle.list.specs.declared.types.Refusal.the-variants.{RoomCount}
+use Rattle.rooms.specs.Turns.{mostRooms, Lent, Turn, took, none-unfinished, turnOf, lentAfter}
 use Rattle.rooms.specs.Laws.{Fit, TurnLaw}
 use Rattle.rooms.specs.Runs.{TurnsLaw}
 use Rattle.rooms.specs.declared.types.Room.{Room}
@@ -27,9 +28,14 @@ pub record Turns (x : Lent) (number : ℕ) (a : TurnAnswer) (y : Lent) : Type 0 
   pub law : TurnLaw x number
   pub turns : Fit x → TurnsLaw x number
 
--- what `turn_held` answers of eight rows, a number of rooms, lists and a number, and leaves there: what `turn` answers and leaves of any n
--- rows of which these are the first eight
+-- what a turn over the first n of eight rows held by value answers, and leaves: `turn` over these lent, and the rows behind them as they
+-- were
+pub record TurnsFirst (held : List Room) (n : ℕ) (old : List ℕ) (number : ℕ) (a : HeldAnswer) (new : List ℕ) : Type 0 where
+  pub first : List Room
+  pub turned : Turns (record { rows = take n held; lists = old }) number (a .answer) (record { rows = first; lists = new })
+  pub rows : a .rows ≡ first ++ drop n held
+
+-- what `turn_held` answers of eight rows, a number of rooms, lists and a number, and leaves there: over eight rooms, 19 and all as it was
 pub record TurnsHeld (held : List Room) (n : ℕ) (old : List ℕ) (number : ℕ) (a : HeldAnswer) (new : List ℕ) : Type 0 where
-  pub as-lent : (rows : List Room) → length rows ≡ n → held ≡ eightRows rows noRow
-      → (y : List Room) × Turns (record { rows = rows; lists = old }) number (a .answer) (record { rows = y; lists = new })
-      × (a .rows ≡ eightRows y noRow)
+  pub few : n ≤ mostRooms → TurnsFirst held n old number a new
+  pub many : mostRooms < n → (a ≡ record { rows = held; answer = NotTurned (RoomCount n) }) × (new ≡ old)

@@ -2,8 +2,8 @@
 use Prim.Native.Nat.{ℕ}
 use mathlib.Core.Path.{_≡_}
 use mathlib.Core.Bool.{Bool, cond}
-use mathlib.Core.List.{List, _++_}
-use lib.ListN.{length, getD, take, drop}
+use mathlib.Core.List.{List}
+use lib.ListN.{length, getD}
 use lib.Dec.{ltb}
 use Rattle.base.specs.Outcomes.{Outcome, answered, refused, firstOf}
 use Rattle.list.specs.Machine.{Bytes}
@@ -12,11 +12,10 @@ use Rattle.list.specs.declared.types.DayList.{DayList}
 use Rattle.rooms.specs.Cycles.{numberAfter, numberUsed, nextUnfinished}
 use Rattle.rooms.specs.Rooms.{isUnfinished, roundIn, rowAfter, shareAfter, saidBy}
 use Rattle.rooms.specs.Turns.{noRow, shareOf, putShare, Turn, took, none-unfinished, turnRows}
-use Rattle.rooms.specs.Calls.{turnAnswerOf, Turns}
+use Rattle.rooms.specs.Calls.{turnAnswerOf}
 use Rattle.rooms.specs.declared.types.Room.{Room}
 use Rattle.rooms.specs.declared.types.RoomAnswer.{RoomAnswer}
 use Rattle.rooms.specs.declared.types.TurnTaken.{TurnTaken}
-use Rattle.rooms.specs.declared.types.HeldAnswer.{HeldAnswer}
 
 -- what `room_round` answers of a row and a share that held old, and what the share then holds
 pub record RoundsRoom (r : Room) (old : List ℕ) (a : RoomAnswer) (new : List ℕ) : Type 0 where
@@ -62,9 +61,3 @@ pub record TakesTurn (rows : List Room) (n number : ℕ) (old : List ℕ) (a : T
   pub row : a .row ≡ rowBy (answerOf rows n number old) rows old
   pub lists : new ≡ listsBy (answerOf rows n number old) rows old
   pub bytes : Bytes old
-
--- what `turn_front` answers of the first n rows, and leaves: a turn over these lent, and the rows behind them as they were
-pub record TurnsFront (held : List Room) (n : ℕ) (old : List ℕ) (number : ℕ) (a : HeldAnswer) (new : List ℕ) : Type 0 where
-  pub first : List Room
-  pub turned : Turns (record { rows = take n held; lists = old }) number (a .answer) (record { rows = first; lists = new })
-  pub rows : a .rows ≡ first ++ drop n held

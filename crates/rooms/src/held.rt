@@ -7,7 +7,7 @@ use crate::types::TurnAnswer;
 use list::types::Refusal;
 ghost use Rattle.rooms.specs.Calls.{TurnsHeld};
 
-// A turn at a desk of n rooms, of which these are the first eight rows: `turn` over them, or row 19 where there are more.
+// A turn at a desk of n rooms, whose rows are the first n of these: `turn` over them, or row 19 where there are more than eight.
 pub fn turn_held(rows: [Room; MOST_ROOMS], n: usize, lists: &mut [u8], number: usize) -> HeldAnswer
     ensures { λ a. ⌜ TurnsHeld rows n (now (lists .entry)) number a (now (lists .exit)) ⌝ }
 {

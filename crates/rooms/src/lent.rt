@@ -9,8 +9,7 @@ ghost use mathlib.Core.Path.{_≡_};
 ghost use Prim.Native.Nat.{_≤_};
 ghost use lib.ListN.{getD, set};
 ghost use Rattle.rooms.specs.Turns.{mostRooms, eightRows};
-ghost use Rattle.rooms.specs.Internal.{TurnsFront};
-ghost use Rattle.rooms.specs.Calls.{Turns};
+ghost use Rattle.rooms.specs.Calls.{Turns, TurnsFirst};
 
 // Row i, or d where there is none.
 fn row_or(rooms: &[Room], i: usize, d: Room) -> Room
@@ -61,7 +60,7 @@ pub fn turn(rooms: &mut [Room], lists: &mut [u8], number: usize) -> TurnAnswer
 // A turn at a desk whose n rows are the first of these: they are lent to `turn`.
 pub(crate) fn turn_front(rows: [Room; 8], n: usize, lists: &mut [u8], number: usize) -> HeldAnswer
     requires { ⌜ n ≤ mostRooms ⌝ }
-    ensures { λ a. ⌜ TurnsFront rows n (now (lists .entry)) number a (now (lists .exit)) ⌝ }
+    ensures { λ a. ⌜ TurnsFirst rows n (now (lists .entry)) number a (now (lists .exit)) ⌝ }
 {
     let mut mine = rows;
     let answer = turn(&mut mine[..n], lists, number);

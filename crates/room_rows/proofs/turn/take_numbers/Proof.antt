@@ -3,6 +3,7 @@
 use mathlib.Core.Path.{refl}
 use native.Mathlib.Omega.{arith}
 use borrow.Author.Needs.{needs}
+use Rattle.list.specs.Machine.{Bytes}
 use Rattle.room_rows.proofs.TurnCases.{turn-refused, turn-nothing, in-eight, inside, turn-taken}
 use Rattle.room_rows.proofs.turn.take_numbers.Statement.{statement}
 use Rattle.room_rows.proofs.turn.take_numbers.Tie as tie
@@ -29,27 +30,33 @@ mul-row : tie.Need-mul-row
 mul-row c =
     let told = c .before in
     let held = told .before .before .before .before .before in
-    let args = held .before .before .before .before .before .before .args in
+    let known = held .before .before .before .before in
+    let args = known .before .before .args in
+    let bytes : Bytes (args .lists .now) = λ i. known .slice-known2 .given i .fits in
     let few =
     in-eight (args .numbers .now) (args .lists .now) (args .number) (args .carried .now) _ (held .before .before .eight-rooms .ensures)
-    (held .turn-held .result) _ (held .turn-held .ensures) _ _ _ (told .answer3 .given .1) in
+    (held .turn-held .result) _ (held .turn-held .ensures) bytes _ _ _ (told .answer3 .given .1) in
     omega (arith, few)
 
 array-copy-out-row : tie.Need-array-copy-out-row
 array-copy-out-row c =
     let told = c .before in
     let held = told .before .before .before .before .before in
-    let args = held .before .before .before .before .before .before .args in
+    let known = held .before .before .before .before in
+    let args = known .before .before .args in
+    let bytes : Bytes (args .lists .now) = λ i. known .slice-known2 .given i .fits in
     in-eight (args .numbers .now) (args .lists .now) (args .number) (args .carried .now) _ (held .before .before .eight-rooms .ensures)
-    (held .turn-held .result) _ (held .turn-held .ensures) _ _ _ (told .answer3 .given .1)
+    (held .turn-held .result) _ (held .turn-held .ensures) bytes _ _ _ (told .answer3 .given .1)
 
 put-room-requires : tie.Need-put-room-requires
 put-room-requires c κs =
     let told = c .before .before .before in
     let held = told .before .before .before .before .before in
-    let args = held .before .before .before .before .before .before .args in
+    let known = held .before .before .before .before in
+    let args = known .before .before .args in
+    let bytes : Bytes (args .lists .now) = λ i. known .slice-known2 .given i .fits in
     inside (args .numbers .now) (args .lists .now) (args .number) (args .carried .now) _ (held .before .before .eight-rooms .ensures)
-    (held .turn-held .result) _ (held .turn-held .ensures) _ _ _ (told .answer3 .given .1)
+    (held .turn-held .result) _ (held .turn-held .ensures) bytes _ _ _ (told .answer3 .given .1)
 
 put-carried-requires : tie.Need-put-carried-requires
 put-carried-requires c κs = search needs
@@ -64,9 +71,11 @@ returns : tie.Need-returns
 returns c =
     let told = c .before .before in
     let held = told .before .before .before .before .before in
-    let args = held .before .before .before .before .before .before .args in
+    let known = held .before .before .before .before in
+    let args = known .before .before .args in
+    let bytes : Bytes (args .lists .now) = λ i. known .slice-known2 .given i .fits in
     turn-refused (args .numbers .now) (args .lists .now) (args .number) (args .carried .now) _ (held .before .before .eight-rooms .ensures)
-    (held .turn-held .result) _ (held .turn-held .ensures) _ (c .refused-as .result) (told .answer .given .1) (c .refused-as .ensures)
+    (held .turn-held .result) _ (held .turn-held .ensures) bytes _ (c .refused-as .result) (told .answer .given .1) (c .refused-as .ensures)
 
 same-length-3 : tie.Need-same-length-3
 same-length-3 c = search needs
@@ -78,9 +87,11 @@ returns-2 : tie.Need-returns-2
 returns-2 c =
     let told = c .before in
     let held = told .before .before .before .before .before in
-    let args = held .before .before .before .before .before .before .args in
+    let known = held .before .before .before .before in
+    let args = known .before .before .args in
+    let bytes : Bytes (args .lists .now) = λ i. known .slice-known2 .given i .fits in
     turn-nothing (args .numbers .now) (args .lists .now) (args .number) (args .carried .now) _ (held .before .before .eight-rooms .ensures)
-    (held .turn-held .result) _ (held .turn-held .ensures) _ (told .answer2 .given .1)
+    (held .turn-held .result) _ (held .turn-held .ensures) bytes _ (told .answer2 .given .1)
 
 same-length-5 : tie.Need-same-length-5
 same-length-5 c = search needs
@@ -93,9 +104,11 @@ returns-3 c =
     let put = c .before .before .before .before in
     let told = put .before .before .before .before in
     let held = told .before .before .before .before .before in
-    let args = held .before .before .before .before .before .before .args in
+    let known = held .before .before .before .before in
+    let args = known .before .before .args in
+    let bytes : Bytes (args .lists .now) = λ i. known .slice-known2 .given i .fits in
     turn-taken (args .numbers .now) (args .lists .now) (args .number) (args .carried .now) _ (held .before .before .eight-rooms .ensures)
-    (held .turn-held .result) _ (held .turn-held .ensures) _ _ _ (told .answer3 .given .1) _ _ _ _ refl
+    (held .turn-held .result) _ (held .turn-held .ensures) bytes _ _ _ (told .answer3 .given .1) _ _ _ _ refl
     (put .put-room .ensures) (c .put-carried .ensures .0) (c .put-carried .ensures .1)
 
 pub take-numbers-spec : {M : Type 1} → statement M
