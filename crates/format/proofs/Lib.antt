@@ -1,7 +1,7 @@
 -- What reading says of an input, and the round trips, with what they rest on: map bytes, the places of fields, of map bytes and those that
 -- refusals carry; the longest one form; and that the first 966 bytes decide how an input is read. The crates above may cite what is public.
 mod MapBytes
-mod Places
+pub mod Places
 mod CarriedPlaces
 pub mod FieldTrip
 pub mod HeaderTrip

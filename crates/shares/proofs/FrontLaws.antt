@@ -24,14 +24,14 @@ use Rattle.format.specs.Writing.{bytesOf}
 use Rattle.shares.specs.Shares.{frontEntries, frontOf}
 use Rattle.shares.specs.Laws.{FrontLaw}
 use Rattle.shares.specs.Internal.{endAt}
-use Rattle.shares.proofs.NotEight.{NotEight}
 use Rattle.shares.proofs.StandingLists.{Readable, orClash, Stands, stands-read}
-use Rattle.shares.proofs.Fronts.{Front, front-says, front-refused, front-or-clash, front-alone, read-refused, read-left, read-ended}
+use Rattle.shares.proofs.Fronts.{Front, Told, front-says, front-refused, front-or-clash, front-alone, read-refused, read-left, read-ended}
 
 -- a list that bytes can say stands there, or 14 is given
-or-clash-says : (l : DayList) → Readable l → Says (λ x. Stands x × (x ≡ l)) NotEight (orClash l)
-or-clash-says l r =
-    by-row (λ x. Stands x × (x ≡ l)) NotEight (ltb (firstClash (entriesOf l)) (length (entriesOf l))) _ _ (λ _. omega arith)
+or-clash-says : (bs : List ℕ) (l : DayList) → Readable l → Says (λ x. Stands x × (x ≡ l)) (Told bs) (orClash l)
+or-clash-says bs l r =
+    by-row (λ x. Stands x × (x ≡ l)) (Told bs) (ltb (firstClash (entriesOf l)) (length (entriesOf l))) _ _
+    (λ _. (omega arith, λ _. omega arith))
     (λ t. (record { formed = well-formed l (r .sound) (apart (entriesOf l) (ltb-false _ _ t)); readable = r }, refl))
 
 -- the reader is to be given the bytes up to e
@@ -44,25 +44,25 @@ module _ (bs : List ℕ) (b : Bytes bs) where
   abbrev Read : DayList → Type 0
   Read l = Stands l × ((rest : List ℕ) × (bytesOf l ++ rest ≡ bs))
 
-  read-says : Says Read NotEight (frontOf bs)
+  read-says : Says Read (Told bs) (frontOf bs)
   read-says = go (frontEntries bs) refl (front-says bs b)
     where
-      found : (x : List Entry × ℕ) → Front bs x → (o : Outcome DayList) → orClash (dayList (frameOf bs) (x .0)) ≡ o → Says Read NotEight o
+      found : (x : List Entry × ℕ) → Front bs x → (o : Outcome DayList) → orClash (dayList (frameOf bs) (x .0)) ≡ o → Says Read (Told bs) o
       found x front o e =
-          turn o (subst (Says (λ y. Stands y × (y ≡ dayList (frameOf bs) (x .0))) NotEight) e (or-clash-says _ (front .readable)))
+          turn o (subst (Says (λ y. Stands y × (y ≡ dayList (frameOf bs) (x .0))) (Told bs)) e (or-clash-says bs _ (front .readable)))
         where
-          turn : (o : Outcome DayList) → Says (λ y. Stands y × (y ≡ dayList (frameOf bs) (x .0))) NotEight o → Says Read NotEight o
+          turn : (o : Outcome DayList) → Says (λ y. Stands y × (y ≡ dayList (frameOf bs) (x .0))) (Told bs) o → Says Read (Told bs) o
           turn (answered y) p = (p .0, (front .rest, ap (λ (z : DayList). bytesOf z ++ front .rest) (p .1) ∙ front .form))
           turn (refused k) p = p
 
-      go : (o : Outcome (List Entry × ℕ)) → frontEntries bs ≡ o → Says (Front bs) NotEight o → Says Read NotEight (frontOf bs)
+      go : (o : Outcome (List Entry × ℕ)) → frontEntries bs ≡ o → Says (Front bs) (Told bs) o → Says Read (Told bs) (frontOf bs)
       go (answered x) e front = rw (front-or-clash bs x front) (found x front _ refl)
       go (refused k) e not = rw (front-refused bs k e) not
 
   pub front-stands : Says (λ l. Stands l) (λ _. Unit {0}) (frontOf bs)
   front-stands = turn (frontOf bs) read-says
     where
-      turn : (o : Outcome DayList) → Says Read NotEight o → Says (λ l. Stands l) (λ _. Unit {0}) o
+      turn : (o : Outcome DayList) → Says Read (Told bs) o → Says (λ l. Stands l) (λ _. Unit {0}) o
       turn (answered l) p = p .0
       turn (refused k) p = tt
 
@@ -73,7 +73,7 @@ module _ (bs : List ℕ) (b : Bytes bs) where
       → G
   eight-cases {G} same left = go (frontEntries bs) refl (front-says bs b)
     where
-      go : (o : Outcome (List Entry × ℕ)) → frontEntries bs ≡ o → Says (Front bs) NotEight o → G
+      go : (o : Outcome (List Entry × ℕ)) → frontEntries bs ≡ o → Says (Front bs) (Told bs) o → G
       go (refused k) e not = same (read-refused bs k e ∙ sym (front-refused bs k e))
       go (answered x) e front = split (ltb (x .1) (length bs)) refl
         where
@@ -84,7 +84,7 @@ module _ (bs : List ℕ) (b : Bytes bs) where
           split false t = same (read-ended bs x e (ltb-false _ _ t))
 
   untested : (k : Code) → frontOf bs ≡ refused k → k .number ≡ 8 → ⊥
-  untested k e = let not : NotEight k = rw e at read-says in not
+  untested k e = let told : Told bs k = rw e at read-says in told .0
 
   pub front-law : FrontLaw bs
   front-law =
@@ -97,6 +97,7 @@ module _ (bs : List ℕ) (b : Bytes bs) where
             alone ∙ ap (λ (i : ℕ). readOf (take i bs)) here);
         none-left = λ none. eight-cases sym (λ k h r alone. absurd (none k r));
         untested = untested;
+        long-enough = λ enough k e. let told : Told bs k = rw e at read-says in told .1 enough;
         formed = λ l e. let read : Read l = rw e at read-says in read .0 .formed;
         form = λ l e. let read : Read l = rw e at read-says in read .1;
         whatever-follows = λ l e rest. let read : Read l = rw e at read-says in stands-read l (read .0) rest;
@@ -108,7 +109,7 @@ module _ (bs : List ℕ) (b : Bytes bs) where
       (λ same. rw same (whole (frontOf bs) refl read-says same))
       (λ at h r alone. rw r (record { inside = omega arith; read = sym alone }))
     where
-      whole : (o : Outcome DayList) → frontOf bs ≡ o → Says Read NotEight o → readOf bs ≡ frontOf bs → EndsAt bs (endAt o (length bs))
+      whole : (o : Outcome DayList) → frontOf bs ≡ o → Says Read (Told bs) o → readOf bs ≡ frontOf bs → EndsAt bs (endAt o (length bs))
       whole (answered l) e p same = record { inside = omega arith; read = ap readOf (take-length bs) ∙ same }
       whole (refused k) e not same =
-          rw (ne-eqb (k .number) 8 not) (record { inside = omega arith; read = ap readOf (take-length bs) ∙ same })
+          rw (ne-eqb (k .number) 8 (not .0)) (record { inside = omega arith; read = ap readOf (take-length bs) ∙ same })

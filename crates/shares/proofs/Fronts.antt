@@ -3,14 +3,14 @@
 use mathlib.Core.Path.{_≡_, refl, sym, ap, _∙_, fun-ext}
 use mathlib.Core.Bool.{Bool, true, false, cond}
 use mathlib.Core.List.{List, [], _∷_, _++_, append-assoc, append-nil}
-use Prim.Native.Nat.{ℕ, _+_, _-_, _≤_, _<_}
+use Prim.Native.Nat.{ℕ, _+_, _*_, _≤_, _<_}
 use native.Mathlib.Omega.{arith}
-use borrow.Author.Tests.{ltb-false, le-ltb, lt-ltb}
+use borrow.Author.Tests.{ltb-true, ltb-false, le-ltb, lt-ltb}
 use lib.Dec.{ltb}
 use lib.ListN.{length, take, drop, length-append, length-drop}
 use lib.Seq.{take-append-seam, take-at}
 use Rattle.base.specs.Outcomes.{Code, code, Outcome, answered, refused, andThen}
-use Rattle.base.proofs.Inversion.{Says, by-row, by-step}
+use Rattle.base.proofs.Inversion.{Says, by-row, by-step, says-refusal}
 use Rattle.list.specs.Machine.{Bytes}
 use Rattle.list.specs.DayLists.{entriesOf, dayList}
 use Rattle.list.specs.Checks.{headerFault, openingFault}
@@ -18,15 +18,15 @@ use Rattle.list.specs.declared.types.Entry.{Entry}
 use Rattle.list.specs.declared.types.Frame.{Frame}
 use Rattle.list.specs.declared.types.DayList.{DayList}
 use Rattle.list.proofs.Sound.{Header, header-says, OpensIn, opening-says}
-use Rattle.format.specs.Headers.{frameOf, countOf, entriesPlace, zeroWritten, headerBytes}
+use Rattle.format.specs.Headers.{frameOf, countOf, openingWritten, entriesPlace, zeroWritten, headerBytes}
 use Rattle.format.specs.Reading.{entriesRead, bodyOf, openedOf, decodeOf, readOf}
 use Rattle.format.specs.Laws.{PlaceIn}
 use Rattle.format.specs.Writing.{bytesOfEntries, bytesOf}
 use Rattle.format.proofs.FieldTrip.{bytes-drop}
-use Rattle.format.proofs.HeaderTrip.{header-stands}
+use Rattle.format.proofs.HeaderTrip.{header-short, header-stands}
 use Rattle.format.proofs.ListTrip.{TakenEntries, entries-say}
-use Rattle.shares.specs.Shares.{frontEntries, frontOf}
-use Rattle.shares.proofs.NotEight.{NotEight, Any, entries-row}
+use Rattle.shares.specs.Shares.{shareBytes, frontEntries, frontOf}
+use Rattle.shares.proofs.RowNumbers.{Neither, Any, entries-row}
 use Rattle.shares.proofs.StandingLists.{Readable, orClash, front-entries, front-form}
 
 -- one step after another, and rows before a step
@@ -133,23 +133,32 @@ module _ (bs : List ℕ) where
           end = omega (arith, taken .left, ap length one-form, length-append (bytesOf l) (taken .rest));
         }
 
-  pub front-says : Bytes bs → Says Front NotEight (frontEntries bs)
+  -- a refusal is not by 8, and in a share not by 1
+  abbrev pub Told : Code → Type 0
+  Told = Neither (shareBytes ≤ length bs)
+
+  pub front-says : Bytes bs → Says Front Told (frontEntries bs)
   unfolding frontEntries
   front-says b =
       let entries = entriesRead bs n in
       let Taken = TakenEntries f n (drop from bs) (length bs) in
-      by-row Front NotEight (ltb (length bs) 3) _ _ (λ _. omega arith)
-      (λ _. by-step (λ _. Header (f .h) n) NotEight Front (headerFault 2 (f .h) n) _
-      (header-says 2 (f .h) n NotEight (omega arith) (omega arith))
-      (λ _ h. by-row Front NotEight (ltb (length bs) from) _ _ (λ _. omega arith)
+      let other : (k at : ℕ) → (k ≡ 8 → ⊥) → (k ≡ 1 → ⊥) → Told (code k (at ∷ [])) = λ k at a b. (a, λ _. b) in
+      by-row Front Told (ltb (length bs) 3) _ _ (λ t. (omega arith, λ e. absurd (omega (arith, ltb-true (length bs) 3 t, e))))
+      (λ _. by-step (λ _. Header (f .h) n) Told Front (headerFault 2 (f .h) n) _
+      (header-says 2 (f .h) n Told (other 2 0 (omega arith) (omega arith)) (other 3 2 (omega arith) (omega arith)))
+      (λ _ h. by-row Front Told (ltb (length bs) from) _ _
+      (λ t. (omega arith, λ e. absurd (omega (arith, ltb-true (length bs) from t, e, header-short (openingWritten bs)))))
       (λ t.
       let long : from ≤ length bs = ltb-false _ _ t in
       let rest : from + length (drop from bs) ≡ length bs = omega (arith, length-drop from bs) in
-      by-row Front NotEight (zeroWritten bs) _ _ (λ _. omega arith)
-      (λ z. by-step (λ _. OpensIn f) NotEight Front (openingFault 3 f) _ (opening-says 3 f NotEight (λ _. omega arith))
-      (λ _ o. says-both Front Any (PlaceIn (length bs)) NotEight entries
+      by-row Front Told (zeroWritten bs) _ _ (λ _. other 15 3 (omega arith) (omega arith))
+      (λ z. by-step (λ _. OpensIn f) Told Front (openingFault 3 f) _
+      (opening-says 3 f Told (λ _. other 15 3 (omega arith) (omega arith)))
+      (λ _ o. says-both Front Any (PlaceIn (length bs)) Told entries
       (says-answer Taken Front (PlaceIn (length bs)) entries (stood b long h z o) (entries-say f n from (drop from bs) (length bs) rest))
-      (entries-row f n from (drop from bs)))))))
+      (says-refusal Any (Neither (15 * n ≤ length (drop from bs))) Told entries
+      (λ k row. (row .0, λ e. row .1 (omega (arith, e, rest, header-short (openingWritten bs), h .room))))
+      (entries-row f n from (drop from bs))))))))
 
 -- the one form of a list that bytes can say, read alone
 pub form-read : (l : DayList) → Readable l → readOf (bytesOf l) ≡ orClash l

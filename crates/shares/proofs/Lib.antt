@@ -1,5 +1,5 @@
 -- What stands at the front of bytes that read, that it is read whatever follows, and what reading the front says: FrontLaws.
-mod NotEight
+mod RowNumbers
 pub mod StandingLists
 pub mod Fronts
 pub mod FrontLaws
