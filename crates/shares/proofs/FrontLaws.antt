@@ -25,7 +25,8 @@ use Rattle.shares.specs.Shares.{frontEntries, frontOf}
 use Rattle.shares.specs.Laws.{FrontLaw}
 use Rattle.shares.specs.Internal.{endAt}
 use Rattle.shares.proofs.StandingLists.{Readable, orClash, Stands, stands-read}
-use Rattle.shares.proofs.Fronts.{Front, Told, front-says, front-refused, front-or-clash, front-alone, read-refused, read-left, read-ended}
+use Rattle.shares.proofs.Fronts.{Front, Told, front-says, front-refused, front-or-clash, front-alone}
+use Rattle.shares.proofs.Fronts.{read-refused, read-left, read-ended}
 
 -- a list that bytes can say stands there, or 14 is given
 or-clash-says : (bs : List ℕ) (l : DayList) → Readable l → Says (λ x. Stands x × (x ≡ l)) (Told bs) (orClash l)
