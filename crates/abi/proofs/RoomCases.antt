@@ -22,11 +22,4 @@ same-numbers m (refused k) = refl
 
 pub turn-given : {x : Lent} {o : Outcome Turn} {xs old rooms lists carried : List ℕ} (t : TurnNumbers)
     → NumbersTurn x o xs old t rooms lists carried → TurnedCall x o xs old (answerOf t) rooms lists carried
-turn-given {x} {o} t turned =
-    record {
-      answer = ap answerOf (turned .answer) ∙ same-numbers (length (x .rows)) o;
-      rooms = turned .rooms;
-      lists = turned .lists;
-      carried = turned .carried;
-      back = turned .back;
-    }
+turn-given {x} {o} t turned = record { answer = ap answerOf (turned .answer) ∙ same-numbers (length (x .rows)) o; left = turned .left }

@@ -36,7 +36,8 @@ module _ (xs lists carried : List ℕ) (o : Outcome Turn) where
   pub numbers-refused : (x : Refusal) (a : TurnNumbers) → o ≡ refused (codeOf x)
       → a ≡ record { number = codeOf x .number; values = three (codeOf x .carries) }
       → NumbersTurn (lentIn xs lists) o xs carried a xs lists carried
-  numbers-refused x a e is = record { answer = rw (e, is); rooms = rw e; lists = rw e; carried = rw e; back = rw e }
+  numbers-refused x a e is =
+      record { answer = rw (e, is); left = record { rooms = rw e; lists = rw e; carried = rw e; back = rw e } }
 
 module _ (xs lists : List ℕ) (number : ℕ) (old : List ℕ) (first : List Room) (eight : first ≡ eightRows (roomsIn xs) noRow)
     (held : HeldAnswer) (new : List ℕ) (turned : TurnsHeld first (length xs / roomNumbers) lists number held new) (b : Bytes lists) where
@@ -112,10 +113,7 @@ module _ (xs lists : List ℕ) (number : ℕ) (old : List ℕ) (first : List Roo
       let o = outcome-is (NoneUnfinished used) is in
       record {
         answer = rw (o, rooms-count xs);
-        rooms = rw o;
-        lists = rw o (lists-are (NoneUnfinished used) is);
-        carried = rw o;
-        back = rw o;
+        left = record { rooms = rw o; lists = rw o (lists-are (NoneUnfinished used) is); carried = rw o; back = rw o };
       }
 
   -- the room that had the turn
@@ -167,11 +165,15 @@ module _ (xs lists : List ℕ) (number : ℕ) (old : List ℕ) (first : List Roo
         stored ∙ ap (λ (y : Room). sets xs (roomNumbers * k) (roomRow y)) (at ∙ row-is) in
         record {
           answer = rw (o, number-is);
-          rooms = rw o same;
-          lists = rw o (lists-are (Turned k verdict next) is);
-          carried = rw o values-are;
-          back = rw o
-              (ap roomsIn (same ∙ ap (λ (y : Room). sets xs (roomNumbers * k) (roomRow y)) stored-row) ∙ rooms-stored xs k row below);
+          left =
+              record {
+                rooms = rw o same;
+                lists = rw o (lists-are (Turned k verdict next) is);
+                carried = rw o values-are;
+                back = rw o
+                    (ap roomsIn (same ∙ ap (λ (y : Room). sets xs (roomNumbers * k) (roomRow y)) stored-row)
+                    ∙ rooms-stored xs k row below);
+              };
         }
 
 -- the numbers passed row 100

@@ -50,14 +50,18 @@ carriedBy (answered (took k said next)) old = saidValues said
 carriedBy (answered (none-unfinished used)) old = old
 carriedBy (refused k) old = old
 
--- an answer where a turn over x, whose rooms are the numbers xs, has the outcome o, and what it leaves; the numbers left say the rooms left
-pub record NumbersTurn (x : Lent) (o : Outcome Turn) (xs oldCarried : List ℕ) (a : TurnNumbers)
-    (newRooms newLists newCarried : List ℕ) : Type 0 where
-  pub answer : a ≡ numbersBy (length (x .rows)) o
+-- what a turn over x, whose rooms are the numbers xs, leaves if it has the outcome o; the numbers left say the rooms left
+pub record RoomsLeft (x : Lent) (o : Outcome Turn) (xs oldCarried newRooms newLists newCarried : List ℕ) : Type 0 where
   pub rooms : newRooms ≡ roomsBy o x xs
   pub lists : newLists ≡ lentBy o x .lists
   pub carried : newCarried ≡ carriedBy o oldCarried
   pub back : roomsIn newRooms ≡ lentBy o x .rows
+
+-- what it answers, and leaves
+pub record NumbersTurn (x : Lent) (o : Outcome Turn) (xs oldCarried : List ℕ) (a : TurnNumbers)
+    (newRooms newLists newCarried : List ℕ) : Type 0 where
+  pub answer : a ≡ numbersBy (length (x .rows)) o
+  pub left : RoomsLeft x o xs oldCarried newRooms newLists newCarried
 
 -- what `turn_numbers` answers of rooms as numbers, their lists and a number, and leaves there
 abbrev pub TurnsNumbers : (xs lists : List ℕ) (number : ℕ) (carried : List ℕ) → TurnNumbers → (newRooms newLists newCarried : List ℕ)

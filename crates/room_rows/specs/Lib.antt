@@ -1,3 +1,4 @@
 pub mod RoomRows
 pub mod Calls
+pub mod Examples
 pub mod Internal

@@ -1,0 +1,28 @@
+-- Rooms as numbers, as one statement; `row-examples` of proofs/Examples.antt proves it.
+use Prim.Native.Nat.{ℕ}
+use mathlib.Core.Path.{_≡_}
+use mathlib.Core.List.{[], _∷_}
+use Rattle.base.specs.Outcomes.{code, answered, refused}
+use Rattle.rooms.specs.Turns.{took, none-unfinished}
+use Rattle.rooms.specs.declared.types.Stage.{Stage}
+use Rattle.rooms.specs.declared.types.Stage.the-variants.{Fresh, Begun, Settled, Refused}
+use Rattle.rooms.specs.declared.types.Room.{Room}
+use Rattle.room_rows.specs.RoomRows.{roomRow, roomsIn, roomsFault}
+use Rattle.room_rows.specs.Calls.{turnValues, carriedBy}
+
+abbrev pub row : Stage → ℕ → ℕ → Room
+row stage rounds moves = record { stage = stage; rounds = rounds; moves = moves }
+
+pub record RowExamples : Type 0 where
+  -- "its stage (fresh, begun, settled, refused), rounds and moves"; a stage over 3 counts as 3
+  pub first-two : roomsIn (0 ∷ 10 ∷ 11 ∷ 1 ∷ 20 ∷ 21 ∷ []) ≡ row Fresh 10 11 ∷ row Begun 20 21 ∷ []
+  pub others : roomsIn (2 ∷ 30 ∷ 31 ∷ 3 ∷ 40 ∷ 41 ∷ 9 ∷ 50 ∷ 51 ∷ []) ≡ row Settled 30 31 ∷ row Refused 40 41 ∷ row Refused 50 51 ∷ []
+  pub stored : roomRow (row Settled 30 31) ≡ 2 ∷ 30 ∷ 31 ∷ []
+  pub no-threes : roomsFault 7 ≡ refused (code 100 (6 ∷ []))
+  pub threes : roomsFault 24 ≡ answered tt
+  -- "that room, any refusal, and the number after it"
+  pub went : turnValues 8 (took 7 (answered tt) 0) ≡ 7 ∷ 0 ∷ 0 ∷ []
+  pub room-refused : turnValues 8 (took 2 (refused (code 9 (10 ∷ 20 ∷ 11 ∷ []))) 3) ≡ 2 ∷ 9 ∷ 3 ∷ []
+  pub carried : carriedBy (answered (took 2 (refused (code 9 (10 ∷ 20 ∷ 11 ∷ []))) 3)) (7 ∷ 7 ∷ 7 ∷ []) ≡ 10 ∷ 20 ∷ 11 ∷ []
+  pub none-carried : carriedBy (answered (took 7 (answered tt) 0)) (7 ∷ 7 ∷ 7 ∷ []) ≡ 0 ∷ 0 ∷ 0 ∷ []
+  pub nothing : turnValues 8 (none-unfinished 5) ≡ 8 ∷ 0 ∷ 5 ∷ []
