@@ -1,28 +1,30 @@
 -- The laws of turns one after the other.
 -- Assumes nothing.
 use mathlib.Core.Path.{_≡_, refl, sym, ap, _∙_, subst}
-use mathlib.Core.Logic.{_↔_}
-use mathlib.Core.Bool.{true, false}
+use mathlib.Core.Logic.{_↔_, _⊎_, inl, inr}
+use mathlib.Core.Bool.{true, false, true≢false}
 use mathlib.Core.List.{List}
-use Prim.Native.Nat.{ℕ, suc, _+_, _*_, _<_, _≤_}
+use Prim.Native.Nat.{ℕ, suc, _+_, _-_, _*_, _<_, _≤_}
 use native.Mathlib.Omega.{arith}
+use borrow.Author.Tests.{eq-eqb, ne-eqb}
 use lib.ListN.{length}
 use Rattle.base.specs.Outcomes.{Code, Outcome, answered, refused}
 use Rattle.base.proofs.Inversion.{answered-refused}
-use Rattle.base.proofs.Sums.{eq-or-ne}
+use Rattle.base.proofs.Sums.{le-or-lt, eq-or-ne}
 use Rattle.list.specs.Machine.{Bytes}
 use Rattle.list.specs.declared.types.DayList.{DayList}
 use Rattle.rooms.specs.Cycles.{Cycle, cycleTurns, alone, ownTurns}
-use Rattle.rooms.specs.Rooms.{RoomState, ownTurn, unfinished, answerAlone, slackOf}
+use Rattle.rooms.specs.Rooms.{isUnfinished, RoomState, ownTurn, unfinished, answerAlone, slackOf}
 use Rattle.rooms.specs.Turns.{Lent, shareOf, roomFor, turnOf, Desk, deskTurn, starts, afterTurns, roomIn, cycleOf}
 use Rattle.rooms.specs.Laws.{Fit}
-use Rattle.rooms.specs.Runs.{FreshRoom, FewCounts, Ends, SlackLaw, TurnsLaw, LeftTo, no-turn, one-more, LeftLaw}
+use Rattle.rooms.specs.Runs.{FreshRoom, FewCounts, Ends, SlackLaw, TurnsLaw, ownBy, LeftTo, no-turn, one-more, LeftLaw}
 use Rattle.rooms.specs.declared.types.Stage.{Stage}
 use Rattle.rooms.specs.declared.types.Stage.the-variants.{Settled, Refused}
-use Rattle.rooms.proofs.CycleLaws.{taken-unfinished, turn-own, turn-other, finished, projected, alone-zero, alone-next, alone-add}
+use Rattle.rooms.proofs.CycleLaws.{taken-unfinished, turn-own, turn-other, finished, projected}
+use Rattle.rooms.proofs.CycleLaws.{alone-zero, alone-next, alone-finished, alone-add}
 use Rattle.rooms.proofs.RoomEnds.{room-finishes, fresh-ends, fresh-counts, fresh-finished}
 use Rattle.rooms.proofs.SharesApart.{share-is-bytes}
-use Rattle.rooms.proofs.DeskTurns.{room-turn, cycle-turns}
+use Rattle.rooms.proofs.DeskTurns.{turn-took, turn-nothing, room-turn, cycle-turns}
 use Rattle.rooms.proofs.TurnFacts.{rows-passed}
 use Rattle.rooms.proofs.TurnLaws.{good}
 
@@ -58,16 +60,16 @@ module _ (x : Lent) (b : Bytes (x .lists)) (number : ℕ) (fit : Fit x) where
     abbrev s : RoomState
     s = roomIn first i
 
-    abbrev spares : ℕ
-    spares = slackOf (shareOf i (x .lists))
+    abbrev minutes : ℕ
+    minutes = slackOf (shareOf i (x .lists))
 
     in-bytes : Bytes (shareOf i (x .lists))
     in-bytes = share-is-bytes i (x .lists) b
 
-    ends-alone : roomIn (afterTurns x number t) i ≡ alone unfinished ownTurn (suc spares) s
+    ends-alone : roomIn (afterTurns x number t) i ≡ alone unfinished ownTurn (suc minutes) s
     ends-alone =
         room-after t i
-        ∙ finished unfinished ownTurn m t (suc spares) (cycleOf first) i h (room-finishes s in-bytes) (omega (arith, enough))
+        ∙ finished unfinished ownTurn m t (suc minutes) (cycleOf first) i h (room-finishes s in-bytes) (omega (arith, enough))
 
     is-finished : unfinished (roomIn (afterTurns x number t) i) ≡ false
     is-finished = ap unfinished ends-alone ∙ room-finishes s in-bytes
@@ -96,43 +98,94 @@ module _ (x : Lent) (b : Bytes (x .lists)) (number : ℕ) (fit : Fit x) where
       }
 
 -- one room's row and share are left to the turns: each turn is its own, or leaves it
-refused-room : (d : Desk) (i : ℕ) (k : Code) → turnOf (d .lent) (d .number) ≡ refused k → roomIn (deskTurn d) i ≡ roomIn d i
+refused-desk : (d : Desk) (i : ℕ) (c : Code) → turnOf (d .lent) (d .number) ≡ refused c → roomIn (deskTurn d) i ≡ roomIn d i
 unfolding deskTurn
-refused-room d i k e = rw e
+refused-desk d i c e = rw e
 
-room-cases : {G : Type 0} (d : Desk) (i : ℕ) → i < length (d .lent .rows) → Bytes (d .lent .lists)
-    → (roomIn (deskTurn d) i ≡ roomIn d i → G) → (unfinished (roomIn d i) ≡ true → roomIn (deskTurn d) i ≡ ownTurn (roomIn d i) → G) → G
-room-cases d i h b f g =
-    let m = length (d .lent .rows) in
-    rows-passed (d .lent) (d .number)
+-- what a turn leaves of room i, and how many of its own turns that were
+record Left (d : Desk) (i own : ℕ) : Type 0 where
+  is : roomIn (deskTurn d) i ≡ alone unfinished ownTurn own (roomIn d i)
+
+left-as : (d : Desk) (i : ℕ) → i < length (d .lent .rows) → Bytes (d .lent .lists) → Left d i (ownBy (turnOf (d .lent) (d .number)) i)
+left-as d i h b =
+    let x = d .lent in
+    let m = length (x .rows) in
+    let s = roomIn d i in
+    let none : alone unfinished ownTurn 0 s ≡ s = alone-zero unfinished ownTurn s in
+    rows-passed x (d .number)
     (λ fit.
-    let turned = room-turn d (good (d .lent) b fit) i in
-    eq-or-ne (roomFor (d .lent) (d .number)) i
-    (λ own. g (taken-unfinished unfinished ownTurn m (cycleOf d) i own h) (turned ∙ turn-own unfinished ownTurn m (cycleOf d) i h own))
-    (λ other. f (turned ∙ turn-other unfinished ownTurn m (cycleOf d) i other)))
-    (λ k e. f (refused-room d i k e))
+    let turned = room-turn d (good x b fit) i in
+    let k = roomFor x (d .number) in
+    le-or-lt m k
+    (λ past.
+    let other : k ≡ i → ⊥ = λ e. omega (arith, e, past, h) in
+    rw (turn-nothing x (d .number) fit past) (record { is = turned ∙ turn-other unfinished ownTurn m (cycleOf d) i other ∙ sym none }))
+    (λ below. rw (turn-took x (d .number) fit k refl below)
+    (eq-or-ne k i
+    (λ own.
+    let goes = taken-unfinished unfinished ownTurn m (cycleOf d) i own h in
+    rw (eq-eqb k i own)
+    (record {
+      is = turned ∙ turn-own unfinished ownTurn m (cycleOf d) i h own
+          ∙ sym (alone-zero unfinished ownTurn (ownTurn s))
+          ∙ sym (alone-next unfinished ownTurn 0 s goes);
+    }))
+    (λ other. rw (ne-eqb k i other) (record { is = turned ∙ turn-other unfinished ownTurn m (cycleOf d) i other ∙ sym none })))))
+    (λ c e. rw e (record { is = refused-desk d i c e ∙ sym none }))
 
-one-own : (k : ℕ) (s u : RoomState) → u ≡ alone unfinished ownTurn k s → unfinished u ≡ true
-    → ownTurn u ≡ alone unfinished ownTurn (k + 1) s
-one-own k s u e goes =
-    let one : suc 0 ≡ 1 = omega arith in
-    sym (alone-zero unfinished ownTurn (ownTurn u))
-    ∙ sym (alone-next unfinished ownTurn 0 u goes)
-    ∙ ap (λ (n : ℕ). alone unfinished ownTurn n u) one
-    ∙ ap (alone unfinished ownTurn 1) e
-    ∙ sym (alone-add unfinished ownTurn k 1 s)
+-- so a room is as so many own turns alone leave it; once there was a turn, its share was of bytes
+record AsAlone (s : RoomState) (k : ℕ) (u : RoomState) : Type 0 where
+  is : u ≡ alone unfinished ownTurn k s
+  bytes : ((k ≡ 0) × (u ≡ s)) ⊎ Bytes (s .share)
 
-by-own : (i : ℕ) (s u : RoomState) → LeftTo i s u → (k : ℕ) × (u ≡ alone unfinished ownTurn k s)
-by-own i s u no-turn = (0, sym (alone-zero unfinished ownTurn s))
-by-own i s u (one-more d before h b) =
-    let p = by-own i s (roomIn d i) before in
-    room-cases d i h b (λ e. (p .0, e ∙ p .1)) (λ goes e. (p .0 + 1, e ∙ one-own (p .0) s (roomIn d i) (p .1) goes))
-
-pub left-law : (i : ℕ) (s u : RoomState) → FreshRoom s → Bytes (s .share) → LeftTo i s u → LeftLaw s u
-left-law i s u fresh b left =
-    let p = by-own i s u left in
+as-own : (s : RoomState) (k : ℕ) (u : RoomState) → LeftTo s k u → AsAlone s k u
+as-own s k u no-turn = record { is = sym (alone-zero unfinished ownTurn s); bytes = inl (refl, refl) }
+as-own s k u (one-more d i j before h b) =
+    let p = as-own s j (roomIn d i) before in
+    let own = ownBy (turnOf (d .lent) (d .number)) i in
     record {
-      counts = subst FewCounts (sym (p .1)) (fresh-counts s fresh b (p .0));
-      as-alone = λ done.
-          subst (Ends (answerAlone (s .share))) (sym (p .1)) (fresh-finished s fresh b (p .0) (ap unfinished (sym (p .1)) ∙ done));
+      is = left-as d i h b .is ∙ ap (alone unfinished ownTurn own) (p .is) ∙ sym (alone-add unfinished ownTurn j own s);
+      bytes = inr (first-bytes (p .bytes));
     }
+  where
+    first-bytes : ((j ≡ 0) × (roomIn d i ≡ s)) ⊎ Bytes (s .share) → Bytes (s .share)
+    first-bytes (inl e) = subst (λ (v : RoomState). Bytes (v .share)) (e .1) (share-is-bytes i (d .lent .lists) b)
+    first-bytes (inr z) = z
+
+module _ (s : RoomState) (fresh : FreshRoom s) where
+  goes-on : unfinished s ≡ true
+  goes-on = ap isUnfinished (fresh .stage)
+
+  pub left-law : LeftLaw s fresh
+  left-law =
+      record {
+        counts = λ k u left. let p = as-own s k u left in few k u p (p .bytes);
+        ends = λ k u left enough. let p = as-own s k u left in ended k u p (p .bytes) enough;
+        as-alone = λ k u left done. let p = as-own s k u left in alike k u p (p .bytes) done;
+      }
+    where
+      few : (k : ℕ) (u : RoomState) → AsAlone s k u → ((k ≡ 0) × (u ≡ s)) ⊎ Bytes (s .share) → FewCounts u
+      few k u p (inl e) =
+          subst FewCounts (sym (e .1)) (record { rounds = omega (arith, fresh .rounds); moves = omega (arith, fresh .moves) })
+      few k u p (inr b) = subst FewCounts (sym (p .is)) (fresh-counts s fresh b k)
+
+      ended : (k : ℕ) (u : RoomState) → AsAlone s k u → ((k ≡ 0) × (u ≡ s)) ⊎ Bytes (s .share) → 1 + slackOf (s .share) ≤ k
+          → unfinished u ≡ false
+      ended k u p (inl e) enough = absurd (omega (arith, e .0, enough))
+      ended k u p (inr b) enough =
+          let bound = suc (slackOf (s .share)) in
+          let more = k - bound in
+          let done = room-finishes s b in
+          let split : k ≡ bound + more = omega (arith, enough) in
+          ap unfinished
+          (p .is
+          ∙ ap (λ (n : ℕ). alone unfinished ownTurn n s) split
+          ∙ alone-add unfinished ownTurn bound more s
+          ∙ alone-finished unfinished ownTurn more (alone unfinished ownTurn bound s) done)
+          ∙ done
+
+      alike : (k : ℕ) (u : RoomState) → AsAlone s k u → ((k ≡ 0) × (u ≡ s)) ⊎ Bytes (s .share) → unfinished u ≡ false
+          → Ends (answerAlone (s .share)) u
+      alike k u p (inl e) done = absurd (true≢false (sym goes-on ∙ sym (ap unfinished (e .1)) ∙ done))
+      alike k u p (inr b) done =
+          subst (Ends (answerAlone (s .share))) (sym (p .is)) (fresh-finished s fresh b k (ap unfinished (sym (p .is)) ∙ done))

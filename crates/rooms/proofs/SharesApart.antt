@@ -51,8 +51,8 @@ module _ (k : ℕ) (new lists : List ℕ) (long : k * shareBytes + shareBytes �
       ∙ sym (share-front i before (drop start lists) room)
       ∙ ap (shareOf i) (take-append-drop start lists)
 
-  share-behind : (i : ℕ) → k < i → shareOf i (putShare k new lists) ≡ shareOf i lists
-  share-behind i h =
+  share-later : (i : ℕ) → k < i → shareOf i (putShare k new lists) ≡ shareOf i lists
+  share-later i h =
       let more = i * shareBytes - end in
       let at : i * shareBytes ≡ length (before ++ new) + more = omega (arith, front-length) in
       let here : i * shareBytes ≡ end + more = omega arith in
@@ -64,7 +64,7 @@ module _ (k : ℕ) (new lists : List ℕ) (long : k * shareBytes + shareBytes �
       ∙ ap (λ (n : ℕ). drop n lists) (sym here))
 
   pub share-other : (i : ℕ) → (i ≡ k → ⊥) → shareOf i (putShare k new lists) ≡ shareOf i lists
-  share-other i ne = le-or-lt k i (λ h. share-behind i (omega (arith, ne))) (λ h. share-before i h)
+  share-other i ne = le-or-lt k i (λ h. share-later i (omega (arith, ne))) (λ h. share-before i h)
 
   pub put-length : length (putShare k new lists) ≡ length lists
   put-length =

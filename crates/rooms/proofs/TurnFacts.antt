@@ -11,11 +11,17 @@ use lib.ListN.{length}
 use Rattle.base.specs.Outcomes.{Code, code, Outcome, answered, refused, andThen}
 use Rattle.base.proofs.Inversion.{answered-refused, refused-same, neither}
 use Rattle.base.proofs.Sums.{le-or-lt}
+use Rattle.list.specs.DayLists.{wholeIn}
+use Rattle.list.specs.Checks.{WellFormed}
 use Rattle.list.specs.declared.types.DayList.{DayList}
 use Rattle.jackson.specs.Windows.{windowsOf}
 use Rattle.jackson.specs.Intervals.{overloadOf}
-use Rattle.narrow.specs.Rounds.{Narrowed}
+use Rattle.jackson.proofs.ListLaws.{list-formed}
+use Rattle.narrow.specs.Rounds.{Narrowed, unmoved, round}
+use Rattle.narrow.specs.Laws.{WholeRefused}
 use Rattle.narrow.specs.Calls.{roundOf, listed, listWith}
+use Rattle.narrow.proofs.Costs.{round-refused}
+use Rattle.narrow.proofs.OverloadPlanner.{overload-planner}
 use Rattle.shares.specs.Shares.{shareBytes, frontOf}
 use Rattle.rooms.specs.Cycles.{numberUsed, nextUnfinished}
 use Rattle.rooms.specs.Rooms.{countOn, firstTest, roundIn}
@@ -89,6 +95,13 @@ counts-on old more =
 refused-as : {A B : Type 0} (c d : Code) → _≡_ {A = Outcome A} (refused c) (refused d) → _≡_ {A = Outcome B} (refused c) (refused d)
 refused-as c d e = ap refused (refused-same {a = c} {b = d} refl e)
 
+-- a round of a list that passes the value check is refused by 10, with the place of a whole entry
+ten : (l : DayList) → WellFormed l → (c : Code) → roundOf l ≡ refused c → WholeRefused (wholeIn l) (windowsOf l .n) c
+unfolding roundOf
+ten l formed c e =
+    let r : round overloadOf (wholeIn l) (unmoved (windowsOf l)) ≡ refused c = rw formed at e in
+    round-refused overloadOf (wholeIn l) (unmoved (windowsOf l)) (list-formed l formed) c r
+
 module _ (x : Lent) (k : ℕ) where
   abbrev share : List ℕ
   share = shareOf k (x .lists)
@@ -101,18 +114,21 @@ module _ (x : Lent) (k : ℕ) where
   tested-round l = andThen (firstTest stage l) (λ _. listed l (roundOf l))
 
   -- why a round is refused
-  pub stops-as : (c : Code) → roundFor x k ≡ refused c → Stops x k c
+  pub stops-as : ((l : DayList) → frontOf share ≡ answered l → WellFormed l) → (c : Code) → roundFor x k ≡ refused c → Stops x k c
   unfolding roundIn
-  stops-as c = read (frontOf share) refl
+  stops-as formed c = read (frontOf share) refl
     where
-      made : (l : DayList) → frontOf share ≡ answered l → (o : Outcome Narrowed) → roundOf l ≡ o → listed l o ≡ refused c → Stops x k c
-      made l e (answered v) q r = absurd (answered-refused {a = (listWith l (v .windows), v .moves)} refl r)
-      made l e (refused d) q r = no-place l e (q ∙ refused-as d c r)
+      made : (l : DayList) → frontOf share ≡ answered l → (stage ≡ Fresh → overloadOf (windowsOf l) ≡ answered tt)
+          → (o : Outcome Narrowed) → roundOf l ≡ o → listed l o ≡ refused c → Stops x k c
+      made l e passed (answered v) q r = absurd (answered-refused {a = (listWith l (v .windows), v .moves)} refl r)
+      made l e passed (refused d) q r = let z = q ∙ refused-as d c r in no-place l e passed z (ten l (formed l e) c z)
 
       tested : (l : DayList) → frontOf share ≡ answered l → (s : Stage) → stage ≡ s → (o : Outcome (Unit {0})) → firstTest s l ≡ o
           → andThen o (λ _. listed l (roundOf l)) ≡ refused c → Stops x k c
-      tested l e s is (answered _) t r = made l e (roundOf l) refl r
-      tested l e Fresh is (refused d) t r = overloaded l e is (t ∙ refused-as d c r)
+      tested l e s is (answered _) t r = made l e (λ fresh. ap (λ (u : Stage). firstTest u l) (sym fresh ∙ is) ∙ t) (roundOf l) refl r
+      tested l e Fresh is (refused d) t r =
+          let z = t ∙ refused-as d c r in
+          overloaded l e is z (overload-planner .shown (windowsOf l) (list-formed l (formed l e)) c z)
       tested l e Begun is (refused d) t r = absurd (answered-refused {a = tt} refl t)
       tested l e Settled is (refused d) t r = absurd (answered-refused {a = tt} refl t)
       tested l e Refused is (refused d) t r = absurd (answered-refused {a = tt} refl t)

@@ -12,10 +12,12 @@ use Rattle.base.specs.Outcomes.{Code, Outcome, answered, refused}
 use Rattle.base.proofs.Inversion.{answered-refused, answered-same, refused-same}
 use Rattle.base.proofs.Sums.{le-or-lt}
 use Rattle.list.specs.Machine.{Bytes}
+use Rattle.list.specs.Checks.{WellFormed}
 use Rattle.list.specs.declared.types.DayList.{DayList}
 use Rattle.format.specs.Writing.{bytesOf}
 use Rattle.shares.proofs.StandingLists.{share-form, share-behind}
-use Rattle.shares.proofs.FrontLaws.{front-stands}
+use Rattle.shares.specs.Shares.{frontOf}
+use Rattle.shares.proofs.FrontLaws.{front-stands, front-law}
 use Rattle.rooms.specs.Cycles.{numberAfter, numberUsed}
 use Rattle.rooms.specs.Rooms.{isUnfinished, rowAfter, shareAfter, saidBy, ownTurn, unfinished}
 use Rattle.rooms.specs.Turns.{Lent, noRow, rowIn, shareOf, putShare, Turn, took, none-unfinished, roomFor, roundFor, turnOf}
@@ -56,6 +58,9 @@ module _ (x : Lent) (b : Bytes (x .lists)) where
 
   pub good : Fit x → Good x
   good fit = record { fit = fit; reads = λ i h. front-stands (shareOf i (x .lists)) (share-is-bytes i (x .lists) b) }
+
+  front-formed : (k : ℕ) (l : DayList) → frontOf (shareOf k (x .lists)) ≡ answered l → WellFormed l
+  front-formed k = front-law (shareOf k (x .lists)) (share-is-bytes k (x .lists) b) .formed
 
   module _ (number : ℕ) where
     abbrev d : Desk
@@ -117,7 +122,7 @@ module _ (x : Lent) (b : Bytes (x .lists)) where
       refused-facts c r =
           let is = row-is ∙ ap (rowAfter (rowIn x k)) r in
           record {
-            why = stops-as x k c r;
+            why = stops-as x k (front-formed k) c r;
             stage = ap (λ (z : Room). z .stage) is;
             rounds = ap (λ (z : Room). z .rounds) is;
             moves = ap (λ (z : Room). z .moves) is;
@@ -218,9 +223,14 @@ module _ (x : Lent) (b : Bytes (x .lists)) where
     unfolding Lengths
     turn-law =
         record {
-          none = no-rooms x number;
-          many = many-rooms x number;
-          short = short-lists x number;
+          no-rooms = no-rooms x number;
+          many-rooms = many-rooms x number;
+          short-lists = short-lists x number;
+          answers = λ fit.
+              let k = roomFor x number in
+              le-or-lt m k
+              (λ h. (none-unfinished (numberUsed m number), turn-nothing x number fit h))
+              (λ h. (took k (saidBy (roundFor x k)) (numberAfter m k), turn-took x number fit k refl h));
           fits = λ t e. rows-passed x number (λ fit. fit) (λ c r. absurd (answered-refused e r));
           refusal = refused-stays;
           some = λ fit i h is.

@@ -5,10 +5,12 @@ use mathlib.Core.Bool.{true, false}
 use mathlib.Core.List.{[], _∷_}
 use lib.ListN.{length, getD, take}
 use Rattle.base.specs.Outcomes.{Code, code, Outcome, answered, refused}
+use Rattle.list.specs.DayLists.{wholeIn}
 use Rattle.list.specs.declared.types.DayList.{DayList}
 use Rattle.format.specs.Writing.{bytesOf}
 use Rattle.jackson.specs.Windows.{windowsOf}
-use Rattle.jackson.specs.Intervals.{overloadOf}
+use Rattle.jackson.specs.Intervals.{ShowsOverload, overloadOf}
+use Rattle.narrow.specs.Laws.{WholeRefused}
 use Rattle.narrow.specs.Calls.{roundOf, listed}
 use Rattle.shares.specs.Shares.{frontOf}
 use Rattle.rooms.specs.Rooms.{isUnfinished}
@@ -52,12 +54,13 @@ pub record RoundMade (x : Lent) (k : ℕ) (y : Lent) : Type 0 where
   pub form : take (length (bytesOf left)) (shareOf k (y .lists)) ≡ bytesOf left
   pub behind : (j : ℕ) → length (bytesOf left) ≤ j → getD (shareOf k (y .lists)) j 0 ≡ getD (shareOf k (x .lists)) j 0
 
--- why the round of room k is refused: "A share that does not read, 9 or 10", and 9 of a fresh room alone
+-- why the round of room k is refused: "A share that does not read, 9 or 10"; 9 only of a fresh room, whose test comes first
 pub data Stops (x : Lent) (k : ℕ) (c : Code) : Type 0 where
   unread : frontOf (shareOf k (x .lists)) ≡ refused c → Stops x k c
-  overloaded : (l : DayList) → frontOf (shareOf k (x .lists)) ≡ answered l → rowIn x k .stage ≡ Fresh → overloadOf (windowsOf l) ≡ refused c
-      → Stops x k c
-  no-place : (l : DayList) → frontOf (shareOf k (x .lists)) ≡ answered l → roundOf l ≡ refused c → Stops x k c
+  overloaded : (l : DayList) → frontOf (shareOf k (x .lists)) ≡ answered l → rowIn x k .stage ≡ Fresh
+      → overloadOf (windowsOf l) ≡ refused c → ShowsOverload (windowsOf l) c → Stops x k c
+  no-place : (l : DayList) → frontOf (shareOf k (x .lists)) ≡ answered l → (rowIn x k .stage ≡ Fresh → overloadOf (windowsOf l) ≡ answered tt)
+      → roundOf l ≡ refused c → WholeRefused (wholeIn l) (windowsOf l .n) c → Stops x k c
 
 -- "makes the room refused: of all that is lent only its stage is written, its share and counts stay"
 pub record RoomRefused (x : Lent) (k : ℕ) (c : Code) (y : Lent) : Type 0 where
@@ -91,11 +94,12 @@ pub record TakesRoom (x : Lent) (number k : ℕ) (said : Outcome (Unit {0})) (ne
 pub record TurnLaw (x : Lent) (number : ℕ) : Type 0 where
   -- "No rooms, or over eight, is refused as 19 before all else, carrying that number; a buffer too short for its rooms is 12 next,
   -- carrying the bytes needed."
-  pub none : length (x .rows) ≡ 0 → turnOf x number ≡ refused (code 19 (0 ∷ []))
-  pub many : 8 < length (x .rows) → turnOf x number ≡ refused (code 19 (length (x .rows) ∷ []))
-  pub short : 1 ≤ length (x .rows) → length (x .rows) ≤ 8 → length (x .lists) < length (x .rows) * 965
+  pub no-rooms : length (x .rows) ≡ 0 → turnOf x number ≡ refused (code 19 (0 ∷ []))
+  pub many-rooms : 8 < length (x .rows) → turnOf x number ≡ refused (code 19 (length (x .rows) ∷ []))
+  pub short-lists : 1 ≤ length (x .rows) → length (x .rows) ≤ 8 → length (x .lists) < length (x .rows) * 965
       → turnOf x number ≡ refused (code 12 (length (x .rows) * 965 ∷ []))
-  -- and nothing else is refused; a refusal changes nothing
+  -- and nothing else is refused: a turn is answered exactly if what is lent fits; a refusal changes nothing
+  pub answers : Fit x → (t : Turn) × (turnOf x number ≡ answered t)
   pub fits : (t : Turn) → turnOf x number ≡ answered t → Fit x
   pub refusal : (c : Code) → turnOf x number ≡ refused c → lentAfter x number ≡ x
   -- if some room is unfinished, a turn takes one

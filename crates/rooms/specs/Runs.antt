@@ -5,17 +5,18 @@ use mathlib.Core.Logic.{_↔_}
 use mathlib.Core.Bool.{cond, false}
 use mathlib.Core.List.{List}
 use lib.ListN.{length, getD, take}
+use lib.Dec.{eqb}
 use Rattle.base.specs.Outcomes.{Code, Outcome, answered, refused}
 use Rattle.base.specs.Counting.{sum}
 use Rattle.list.specs.Machine.{Bytes}
 use Rattle.list.specs.DayLists.{entriesOf, blank, wholeIn}
-use Rattle.list.specs.declared.types.Entry.{Entry}
 use Rattle.list.specs.declared.types.DayList.{DayList}
 use Rattle.format.specs.Writing.{bytesOf}
 use Rattle.shares.specs.Shares.{frontOf}
 use Rattle.rooms.specs.Cycles.{alone, ownTurns}
 use Rattle.rooms.specs.Rooms.{isUnfinished, RoomState, ownTurn, unfinished, answerAlone, slackOf}
-use Rattle.rooms.specs.Turns.{Lent, rowIn, shareOf, Desk, deskTurn, starts, afterTurns, roomIn, cycleOf}
+use Rattle.rooms.specs.Turns.{Lent, rowIn, shareOf, Turn, took, none-unfinished, turnOf}
+use Rattle.rooms.specs.Turns.{Desk, deskTurn, starts, afterTurns, roomIn, cycleOf}
 use Rattle.rooms.specs.declared.types.Stage.the-variants.{Fresh, Settled, Refused}
 
 -- "A room that was fresh with both counts 0"
@@ -47,14 +48,10 @@ abbrev pub Ends : Outcome (DayList × ℕ) → RoomState → Type 0
 Ends (answered x) s = EndsSettled x s
 Ends (refused k) s = EndsRefused k s
 
--- d - r - p of an entry
-abbrev pub spare : Entry → ℕ
-spare e = e .d - (e .r + e .p)
-
 -- "the sum of d - r - p over its whole entries, 0 where its share does not read"
 pub record SlackLaw (share : List ℕ) : Type 0 where
   pub read : (l : DayList) → frontOf share ≡ answered l
-      → slackOf share ≡ sum (length (entriesOf l)) (λ i. cond (wholeIn l i) (spare (getD (entriesOf l) i blank)) 0)
+      → slackOf share ≡ sum (length (entriesOf l)) (λ i. let e = getD (entriesOf l) i blank in cond (wholeIn l i) (e .d - (e .r + e .p)) 0)
   pub unread : (k : Code) → frontOf share ≡ refused k → slackOf share ≡ 0
 
 -- turns over what is lent, all of it left to them and the number handed on, the first from this number
@@ -78,18 +75,27 @@ pub record TurnsLaw (x : Lent) (number : ℕ) : Type 0 where
       → roomIn (afterTurns x number t) i
       ≡ alone unfinished ownTurn (ownTurns unfinished ownTurn (length (x .rows)) t (cycleOf (starts x number)) i)
       (roomIn (starts x number) i)
-  -- and once it is finished no other room has a part in its row, its share and what was answered of it
+  -- and after as many turns as the bound has, its row, its share and what was answered of it do not depend on the other rooms
   pub ends-alone : (i t : ℕ) → i < length (x .rows) → length (x .rows) * (1 + slackOf (shareOf i (x .lists))) ≤ t
       → roomIn (afterTurns x number t) i ≡ alone unfinished ownTurn (1 + slackOf (shareOf i (x .lists))) (roomIn (starts x number) i)
 
--- "its row and share left to the turns": room i, which was s, after turns between which the control program may write whatever it lends
--- but this row and share, lend other rows or another buffer beside them, and hand in any number
-pub data LeftTo (i : ℕ) (s : RoomState) : RoomState → Type 0 where
-  no-turn : LeftTo i s s
-  one-more : (d : Desk) → LeftTo i s (roomIn d i) → i < length (d .lent .rows) → Bytes (d .lent .lists) → LeftTo i s (roomIn (deskTurn d) i)
+-- whether a turn that answered this was room i's own
+abbrev pub ownBy : Outcome Turn → ℕ → ℕ
+ownBy (answered (took k said next)) i = cond (eqb k i) 1 0
+ownBy (answered (none-unfinished used)) i = 0
+ownBy (refused c) i = 0
 
--- what follows of a room that was fresh with both counts 0, whatever is done to the others: its counts are below 100,000 at every time, and
--- once it is finished it has the answer that it would have alone
-pub record LeftLaw (s u : RoomState) : Type 0 where
-  pub counts : FewCounts u
-  pub as-alone : unfinished u ≡ false → Ends (answerAlone (s .share)) u
+-- "its row and share left to the turns": a room that was s, after turns of which so many were its own. Between two turns the control program
+-- may write whatever it lends but this row and share, lend other rows or another buffer beside them, at other places, and hand in any number.
+pub data LeftTo (s : RoomState) : ℕ → RoomState → Type 0 where
+  no-turn : LeftTo s 0 s
+  one-more : (d : Desk) (i k : ℕ) → LeftTo s k (roomIn d i) → i < length (d .lent .rows) → Bytes (d .lent .lists)
+      → LeftTo s (k + ownBy (turnOf (d .lent) (d .number)) i) (roomIn (deskTurn d) i)
+
+-- "A room that was fresh with both counts 0, its row and share left to the turns, ends with the answer it would have alone, and its counts
+-- stay below 100,000.": whatever is done to the other rooms
+pub record LeftLaw (s : RoomState) (fresh : FreshRoom s) : Type 0 where
+  pub counts : (k : ℕ) (u : RoomState) → LeftTo s k u → FewCounts u
+  -- it ends within one own turn more than the sum, and whenever it has ended that is its answer
+  pub ends : (k : ℕ) (u : RoomState) → LeftTo s k u → 1 + slackOf (s .share) ≤ k → unfinished u ≡ false
+  pub as-alone : (k : ℕ) (u : RoomState) → LeftTo s k u → unfinished u ≡ false → Ends (answerAlone (s .share)) u
