@@ -6,7 +6,8 @@ ghost use Rattle.abi.specs.RoomCalls.{TurnCall};
 
 // Takes one turn over `rooms` and their `lists`, from the room `number` on. Not refused: the values are the room that had the turn, the
 // number of its refusal or 0, and the next number; `carried` has what its refusal carries. Nothing unfinished: the values are the number of
-// rooms, 0 and the number as it was used. Then, and refused, all that is lent keeps its values.
+// rooms, 0 and the number as it was used. Then, and refused, all that is lent keeps its values. A count of numbers that three does not
+// divide is refused as 100.
 #[no_mangle]
 pub extern "C" fn dock_turn(
     rooms: &mut [u32],

@@ -4,7 +4,8 @@
 // stamped day as one of 452, an entry as one of 7 (crate flat), the rooms of a control desk as 3 each (crate room_rows). `bytes`, `out`,
 // `plan` and `lists`, and the rows `fields`, `narrowed`, `day`, `entry` and `rooms`, come with their lengths; a row of another length is
 // refused as 100 before all else, those given before the one lent. What a call cannot check are the pointers and that they have the
-// lengths told: `bounds` has 128 numbers, `values` and `carried` 3, and no two of what is lent overlap. Uses all crates but dock.
+// lengths told: `bounds` has 128 numbers, `values` and `carried` 3, and no two of what is lent overlap. Uses all crates but order, shares
+// and dock.
 mod days;
 mod desk;
 

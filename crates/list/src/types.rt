@@ -66,7 +66,7 @@ pub enum Refusal {
     NoPlace(usize),
     // 11: a plan buffer is under H bytes; H.
     PlanBufferShort(usize),
-    // 12: the buffer for a list's one form, for a report, or for the lists of a desk's rooms, is too short; the bytes needed.
+    // 12: the buffer for a list's one form, a report, a refusal's line, or the lists of a desk's rooms is too short; the bytes needed.
     ListBufferShort(usize),
     // 13: the place asked is n or more; that place.
     UnknownPlace(usize),
@@ -82,8 +82,8 @@ pub enum Refusal {
     DayFull(u16),
     // 19: a desk has no rooms, or over eight; that number.
     RoomCount(usize),
-    // 100, which no document has: lists cross to other languages as rows of numbers, and this row has too few or too many; as many as a row
-    // has.
+    // 100, which no document has: a row of numbers for or from another language has too few or too many; how many it should have, and for
+    // rooms the largest multiple of three below.
     BadFlatLength(usize),
 }
 

@@ -10,14 +10,14 @@ use Rattle.rooms.specs.declared.types.Room.{Room}
 use Rattle.room_rows.specs.RoomRows.{roomRow, roomsIn, roomsFault}
 use Rattle.room_rows.specs.Calls.{turnValues, carriedBy}
 
-abbrev pub row : Stage → ℕ → ℕ → Room
-row stage rounds moves = record { stage = stage; rounds = rounds; moves = moves }
+abbrev pub roomWith : Stage → ℕ → ℕ → Room
+roomWith stage rounds moves = record { stage = stage; rounds = rounds; moves = moves }
 
 pub record RowExamples : Type 0 where
   -- "its stage (fresh, begun, settled, refused), rounds and moves"; a stage over 3 counts as 3
-  pub first-two : roomsIn (0 ∷ 10 ∷ 11 ∷ 1 ∷ 20 ∷ 21 ∷ []) ≡ row Fresh 10 11 ∷ row Begun 20 21 ∷ []
-  pub others : roomsIn (2 ∷ 30 ∷ 31 ∷ 3 ∷ 40 ∷ 41 ∷ 9 ∷ 50 ∷ 51 ∷ []) ≡ row Settled 30 31 ∷ row Refused 40 41 ∷ row Refused 50 51 ∷ []
-  pub stored : roomRow (row Settled 30 31) ≡ 2 ∷ 30 ∷ 31 ∷ []
+  pub first-two : roomsIn (0 ∷ 10 ∷ 11 ∷ 1 ∷ 20 ∷ 21 ∷ []) ≡ roomWith Fresh 10 11 ∷ roomWith Begun 20 21 ∷ []
+  pub others : roomsIn (2 ∷ 30 ∷ 31 ∷ 3 ∷ 40 ∷ 41 ∷ 9 ∷ 50 ∷ 51 ∷ []) ≡ roomWith Settled 30 31 ∷ roomWith Refused 40 41 ∷ roomWith Refused 50 51 ∷ []
+  pub stored : roomRow (roomWith Settled 30 31) ≡ 2 ∷ 30 ∷ 31 ∷ []
   pub no-threes : roomsFault 7 ≡ refused (code 100 (6 ∷ []))
   pub threes : roomsFault 24 ≡ answered tt
   -- "that room, any refusal, and the number after it"

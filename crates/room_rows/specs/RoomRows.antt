@@ -41,7 +41,7 @@ roomsFrom (suc k) i xs = roomAt xs (roomNumbers * i) ∷ roomsFrom k (i + 1) xs
 unfoldable pub roomsIn : List ℕ → List Room
 roomsIn xs = roomsFrom (length xs / roomNumbers) 0 xs
 
--- row 100 for numbers that are no rows of three, which carries how many would be
+-- row 100 for so many numbers, if three does not divide them; it carries the largest multiple of three below
 abbrev pub roomsFault : ℕ → Outcome (Unit {0})
 roomsFault numbers =
     firstOf (row 100 (not (eqb (numbers % roomNumbers) 0)) (numbers - numbers % roomNumbers) ∷ []) (answered tt)

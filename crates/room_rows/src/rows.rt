@@ -14,7 +14,7 @@ ghost use Rattle.room_rows.specs.RoomRows.{roomNumbers, stageOf, stageNu
 
 pub(crate) const ROOM_NUMBERS: usize = 3;
 
-// Row 100 for this many numbers, which are no rows of three.
+// Row 100 if three does not divide so many numbers.
 pub(crate) fn rooms_fault(numbers: usize) -> Verdict
     ensures { λ v. ⌜ verdictOf v ≡ roomsFault numbers ⌝ }
 {

@@ -83,7 +83,7 @@ fn take_numbers(
     }
 }
 
-// A turn over rooms that are three numbers each: row 100 for numbers that are no rows of three, then `turn`. A refused turn and one with
+// A turn over rooms that are three numbers each: row 100 if three does not divide their count, then `turn`. A refused turn and one with
 // nothing unfinished leave all that is lent; else the numbers of the room that had it, its share and `carried` are written.
 pub fn turn_numbers(
     numbers: &mut [u32],

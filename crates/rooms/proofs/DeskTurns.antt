@@ -14,7 +14,7 @@ use Rattle.shares.specs.Shares.{frontOf, shareBytes}
 use Rattle.shares.proofs.StandingLists.{Stands, share-length}
 use Rattle.rooms.specs.Cycles.{numberAfter, numberUsed, putRoom, Cycle, cycleTurn, cycleTurns}
 use Rattle.rooms.specs.Rooms.{RoomState, rowAfter, shareAfter, saidBy, ownTurn, unfinished}
-use Rattle.rooms.specs.Turns.{Lent, noRow, rowIn, shareOf, putShare, took, none-unfinished, roomFor, roundFor, turnOf}
+use Rattle.rooms.specs.Turns.{Lent, noRow, rowIn, shareOf, putShare, took, none-unfinished, roomFor, roundFor, answerOf, turnOf}
 use Rattle.rooms.specs.Turns.{Desk, deskTurn, deskTurns, roomIn, cycleOf}
 use Rattle.rooms.specs.Laws.{Fit}
 use Rattle.rooms.proofs.CycleLaws.{turn-takes, turn-idle, turn-own, turn-other, turns-zero, turns-next}
@@ -46,7 +46,7 @@ module _ (x : Lent) (number : ℕ) (fit : Fit x) where
 
   pub turn-took : (k : ℕ) → roomFor x number ≡ k → k < rooms
       → turnOf x number ≡ answered (took k (saidBy (roundFor x k)) (numberAfter rooms k))
-  unfolding turnOf
+  unfolding turnOf answerOf
   turn-took k e h =
       rw (
         ne-eqb rooms 0 some-rooms,
@@ -57,7 +57,7 @@ module _ (x : Lent) (number : ℕ) (fit : Fit x) where
       )
 
   pub turn-nothing : rooms ≤ roomFor x number → turnOf x number ≡ answered (none-unfinished (numberUsed rooms number))
-  unfolding turnOf
+  unfolding turnOf answerOf
   turn-nothing h =
       rw (
         ne-eqb rooms 0 some-rooms,

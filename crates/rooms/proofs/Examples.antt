@@ -16,7 +16,7 @@ use Rattle.narrow.specs.Rounds.{narrowSide, visit, visits, rounds, narrowing}
 use Rattle.narrow.specs.Calls.{entriesWith, listWith, roundOf, settleOf}
 use Rattle.shares.specs.Shares.{frontEntries, frontOf, shareWith}
 use Rattle.rooms.specs.Cycles.{numberAfter, numberUsed, nextFrom, nextUnfinished}
-use Rattle.rooms.specs.Turns.{turnOf, lentAfter}
+use Rattle.rooms.specs.Turns.{answerOf, turnOf, lentAfter}
 use Rattle.rooms.specs.Rooms.{countOn, roundIn, ownTurn, answerAlone, slackOf}
 use Rattle.rooms.specs.Examples.{RoomExamples}
 
@@ -25,12 +25,12 @@ unfolding sum firstBelow best listOf entryFault firstClash headerFault openingFa
     entryAt fieldsEntry entryOf entryBytes headerBytes entriesFrom mapPlace bytesOfEntries bytesOf
     work leftEnd rightEnd overloadOf failedStarts failedEnds leastStart greatestEnd narrowSide visit visits rounds narrowing
     entriesWith listWith roundOf settleOf frontEntries frontOf shareWith countOn roundIn ownTurn answerAlone slackOf
-    numberAfter numberUsed nextFrom nextUnfinished turnOf lentAfter
+    numberAfter numberUsed nextFrom nextUnfinished answerOf turnOf lentAfter
 room-examples =
     record {
       first-round = refl;
       second-round = refl;
-      bound = refl;
+      slack = refl;
       overloaded = refl;
       begun = refl;
       begun-pauses = refl;
@@ -44,8 +44,8 @@ room-examples =
       passes-over = refl;
       from-last = refl;
       second-room = refl;
-      none = refl;
-      none-past = refl;
+      nothing = refl;
+      nothing-past = refl;
       no-rooms = refl;
       nine-rooms = refl;
       short = refl;

@@ -1,24 +1,21 @@
 -- A turn over eight rows held by value, and the row stored, is the turn over what is lent.
 -- Assumes nothing.
 use mathlib.Core.Path.{_≡_, refl, sym, ap, _∙_, fun-ext}
-use mathlib.Core.Bool.{cond}
 use mathlib.Core.List.{List, [], _∷_}
 use Prim.Native.Nat.{ℕ, _<_, _≤_}
 use native.Mathlib.Omega.{arith}
 use borrow.Author.Tests.{lt-ltb, ne-eqb}
-use lib.Dec.{ltb}
 use lib.ListN.{length, getD, set}
 use lib.Seq.{set-out}
-use Rattle.base.specs.Outcomes.{code, Outcome, answered, refused, firstOf}
+use Rattle.base.specs.Outcomes.{code, Outcome, answered, refused}
 use Rattle.base.proofs.Sums.{le-or-lt}
 use Rattle.list.specs.Machine.{Bytes}
 use Rattle.list.specs.declared.types.Refusal.the-variants.{RoomCount}
-use Rattle.rooms.specs.Cycles.{numberAfter, numberUsed, nextUnfinished}
-use Rattle.rooms.specs.Rooms.{isUnfinished, roundIn, rowAfter, shareAfter, saidBy}
-use Rattle.rooms.specs.Turns.{mostRooms, Lent, noRow, shareOf, putShare, Turn, took, none-unfinished}
-use Rattle.rooms.specs.Turns.{turnRows, turnOf, lentBy, lentAfter}
+use Rattle.rooms.specs.Rooms.{roundIn, rowAfter, shareAfter}
+use Rattle.rooms.specs.Turns.{mostRooms, Lent, noRow, rowIn, shareOf, putShare, Turn, took, none-unfinished}
+use Rattle.rooms.specs.Turns.{answerOf, turnOf, lentBy, lentAfter}
 use Rattle.rooms.specs.Calls.{Turns, TurnsFirst, TurnsHeld}
-use Rattle.rooms.specs.Internal.{answerOf, placeBy, rowBy, listsBy, TakesTurn}
+use Rattle.rooms.specs.Internal.{answerHeld, placeBy, rowBy, listsBy, TakesTurn}
 use Rattle.rooms.specs.declared.types.Room.{Room}
 use Rattle.rooms.specs.declared.types.TurnTaken.{TurnTaken}
 use Rattle.rooms.specs.declared.types.HeldAnswer.{HeldAnswer}
@@ -27,19 +24,6 @@ use Rattle.rooms.proofs.TurnLaws.{turn-law}
 use Rattle.rooms.proofs.RunLaws.{turns-law}
 use Rattle.rooms.proofs.EightRows.{eight, eight-at}
 
--- a turn's answer, by the rows at their places
-answerBy : (ℕ → Room) → ℕ → ℕ → List ℕ → Outcome Turn
-answerBy at n number lists =
-    let k = nextUnfinished (λ i. isUnfinished (at i .stage)) n number in
-    firstOf (turnRows n (length lists))
-    (answered
-    (cond (ltb k n) (took k (saidBy (roundIn (at k .stage) (shareOf k lists))) (numberAfter n k)) (none-unfinished (numberUsed n number))))
-
-held-answer : (rows : List Room) (n number : ℕ) (lists : List ℕ)
-    → answerOf rows n number lists ≡ answerBy (λ i. getD rows i noRow) n number lists
-unfolding answerOf answerBy
-held-answer rows n number lists = refl
-
 module _ (ys : List Room) (lists : List ℕ) (number : ℕ) where
   abbrev x : Lent
   x = record { rows = ys; lists = lists }
@@ -47,27 +31,17 @@ module _ (ys : List Room) (lists : List ℕ) (number : ℕ) where
   abbrev n : ℕ
   n = length ys
 
-  lent-answer : turnOf x number ≡ answerBy (λ i. getD ys i noRow) n number lists
-  unfolding turnOf answerBy
-  lent-answer = refl
-
-  many : (at : ℕ → Room) → mostRooms < n → answerBy at n number lists ≡ refused (code 19 (n ∷ []))
-  unfolding answerBy
+  many : (at : ℕ → Room) → mostRooms < n → answerOf at n lists number ≡ refused (code 19 (n ∷ []))
+  unfolding answerOf
   many at h = let z : n ≡ 0 → ⊥ = omega arith in rw (ne-eqb n 0 z, lt-ltb mostRooms n h)
 
-  same-answer : answerOf (eight ys) n number lists ≡ turnOf x number
+  same-answer : answerHeld (eight ys) n number lists ≡ turnOf x number
+  unfolding answerHeld turnOf
   same-answer =
+      let held : ℕ → Room = λ i. getD (eight ys) i noRow in
       le-or-lt n mostRooms
-      (λ few.
-      held-answer (eight ys) n number lists
-      ∙ ap (λ (at : ℕ → Room). answerBy at n number lists)
-      (fun-ext {f = λ i. getD (eight ys) i noRow} {g = λ i. getD ys i noRow} (eight-at ys few))
-      ∙ sym lent-answer)
-      (λ h.
-      held-answer (eight ys) n number lists
-      ∙ many (λ i. getD (eight ys) i noRow) h
-      ∙ sym (many (λ i. getD ys i noRow) h)
-      ∙ sym lent-answer)
+      (λ few. ap (λ (at : ℕ → Room). answerOf at n lists number) (fun-ext {f = held} {g = rowIn x} (eight-at ys few)))
+      (λ h. many held h ∙ sym (many (rowIn x) h))
 
   -- the rows and lists that an answer leaves
   rows-by : n ≤ mostRooms → (o : Outcome Turn) → set ys (placeBy o n) (rowBy o (eight ys) lists) ≡ lentBy o x .rows
@@ -83,7 +57,8 @@ module _ (ys : List Room) (lists : List ℕ) (number : ℕ) where
   lists-by few (refused k) = refl
 
   too-many : mostRooms < n → turnOf x number ≡ refused (code 19 (n ∷ []))
-  too-many h = lent-answer ∙ many (λ i. getD ys i noRow) h
+  unfolding turnOf
+  too-many h = many (rowIn x) h
 
   rows-after : set ys (placeBy (turnOf x number) n) (rowBy (turnOf x number) (eight ys) lists) ≡ lentAfter x number .rows
   unfolding lentAfter

@@ -19,4 +19,4 @@ pub mod EightRows
 pub mod LentTurns
 -- A slice that is lent for a call, as the proofs that walk code by hand need it.
 mod Lending
-mod LendingFront
+mod LendingFirst

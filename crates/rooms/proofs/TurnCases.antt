@@ -16,8 +16,8 @@ use Rattle.list.specs.declared.types.Refusal.{Refusal}
 use Rattle.shares.specs.Shares.{shareBytes}
 use Rattle.rooms.specs.Cycles.{numberAfter, numberUsed, nextFrom, nextUnfinished}
 use Rattle.rooms.specs.Rooms.{roundIn, rowAfter, saidBy}
-use Rattle.rooms.specs.Turns.{mostRooms, noRow, shareOf, took, none-unfinished}
-use Rattle.rooms.specs.Internal.{RoundsRoom, unfinishedIn, roundAt, answerOf, TakesTurn}
+use Rattle.rooms.specs.Turns.{mostRooms, noRow, shareOf, took, none-unfinished, answerOf}
+use Rattle.rooms.specs.Internal.{RoundsRoom, unfinishedIn, roundAt, answerHeld, TakesTurn}
 use Rattle.rooms.specs.declared.types.Room.{Room}
 use Rattle.rooms.specs.declared.types.RoomAnswer.{RoomAnswer}
 use Rattle.rooms.specs.declared.types.TurnTaken.{TurnTaken}
@@ -64,45 +64,45 @@ module _ (unfinished : ℕ → Bool) (n : ℕ) where
 
 -- the answer
 module _ (rows : List Room) (n number : ℕ) (lists : List ℕ) where
-  pub answer-none : n ≡ 0 → answerOf rows n number lists ≡ refused (code 19 (n ∷ []))
-  unfolding answerOf
+  pub answer-none : n ≡ 0 → answerHeld rows n number lists ≡ refused (code 19 (n ∷ []))
+  unfolding answerHeld answerOf
   answer-none e = rw (eq-eqb n 0 e)
 
   module _ (some : n ≡ 0 → ⊥) where
-    pub answer-many : mostRooms < n → answerOf rows n number lists ≡ refused (code 19 (n ∷ []))
-    unfolding answerOf
+    pub answer-many : mostRooms < n → answerHeld rows n number lists ≡ refused (code 19 (n ∷ []))
+    unfolding answerHeld answerOf
     answer-many h = rw (ne-eqb n 0 some, lt-ltb mostRooms n h)
 
     module _ (few : n ≤ mostRooms) where
-      pub answer-short : length lists < n * shareBytes → answerOf rows n number lists ≡ refused (code 12 (n * shareBytes ∷ []))
-      unfolding answerOf
+      pub answer-short : length lists < n * shareBytes → answerHeld rows n number lists ≡ refused (code 12 (n * shareBytes ∷ []))
+      unfolding answerHeld answerOf
       answer-short h = rw (ne-eqb n 0 some, le-ltb mostRooms n few, lt-ltb (length lists) (n * shareBytes) h)
 
       module _ (long : n * shareBytes ≤ length lists) (k : ℕ) (is : k ≡ nextUnfinished (unfinishedIn rows) n number) where
-        pub answer-took : k < n → answerOf rows n number lists ≡ answered (took k (saidBy (roundAt rows k lists)) (numberAfter n k))
-        unfolding answerOf
+        pub answer-took : k < n → answerHeld rows n number lists ≡ answered (took k (saidBy (roundAt rows k lists)) (numberAfter n k))
+        unfolding answerHeld answerOf
         answer-took h =
             rw (ne-eqb n 0 some, le-ltb mostRooms n few, le-ltb (length lists) (n * shareBytes) long, ← is, lt-ltb k n h)
 
-        pub answer-nothing : n ≤ k → answerOf rows n number lists ≡ answered (none-unfinished (numberUsed n number))
-        unfolding answerOf
+        pub answer-nothing : n ≤ k → answerHeld rows n number lists ≡ answered (none-unfinished (numberUsed n number))
+        unfolding answerHeld answerOf
         answer-nothing h =
             rw (ne-eqb n 0 some, le-ltb mostRooms n few, le-ltb (length lists) (n * shareBytes) long, ← is, le-ltb k n h)
 
   -- what is answered
   module _ (b : Bytes lists) where
-    pub takes-refused : (x : Refusal) (a : TurnTaken) → answerOf rows n number lists ≡ refused (codeOf x)
+    pub takes-refused : (x : Refusal) (a : TurnTaken) → answerHeld rows n number lists ≡ refused (codeOf x)
         → a ≡ record { at = n; row = noRow; answer = NotTurned x }
         → TakesTurn rows n number lists a lists
     takes-refused x a e is = record { answer = rw (e, is); at = rw (e, is); row = rw (e, is); lists = rw e; bytes = b }
 
-    pub takes-nothing : (used : ℕ) (a : TurnTaken) → answerOf rows n number lists ≡ answered (none-unfinished (numberUsed n number))
+    pub takes-nothing : (used : ℕ) (a : TurnTaken) → answerHeld rows n number lists ≡ answered (none-unfinished (numberUsed n number))
         → used ≡ numberUsed n number → a ≡ record { at = n; row = noRow; answer = NoneUnfinished used }
         → TakesTurn rows n number lists a lists
     takes-nothing used a e z is =
         record { answer = rw (e, is, z); at = rw (e, is); row = rw (e, is); lists = rw e; bytes = b }
 
-    module _ (k : ℕ) (e : answerOf rows n number lists ≡ answered (took k (saidBy (roundAt rows k lists)) (numberAfter n k))) where
+    module _ (k : ℕ) (e : answerHeld rows n number lists ≡ answered (took k (saidBy (roundAt rows k lists)) (numberAfter n k))) where
       pub takes-room : (part new : List ℕ) (out : RoomAnswer) (next : ℕ) → RoundsRoom (getD rows k noRow) part out new
           → part ≡ shareOf k lists → next ≡ numberAfter n k
           → TakesTurn rows n number lists (record { at = k; row = out .row; answer = Turned k (out .verdict) next })

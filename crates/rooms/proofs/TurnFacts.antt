@@ -25,7 +25,7 @@ use Rattle.narrow.proofs.OverloadPlanner.{overload-planner}
 use Rattle.shares.specs.Shares.{shareBytes, frontOf}
 use Rattle.rooms.specs.Cycles.{numberUsed, nextUnfinished}
 use Rattle.rooms.specs.Rooms.{countOn, firstTest, roundIn}
-use Rattle.rooms.specs.Turns.{mostRooms, Lent, rowIn, shareOf, roundFor, turnOf}
+use Rattle.rooms.specs.Turns.{mostRooms, Lent, rowIn, shareOf, roundFor, answerOf, turnOf}
 use Rattle.rooms.specs.Laws.{Fit, CountsOn, Stops, unread, overloaded, no-place}
 use Rattle.rooms.specs.declared.types.Stage.{Stage}
 use Rattle.rooms.specs.declared.types.Stage.the-variants.{Fresh, Begun, Settled, Refused}
@@ -37,7 +37,7 @@ module _ (x : Lent) (number : ℕ) where
 
   -- rows 19 and 12 were passed, or one of them refuses
   pub rows-passed : {G : Type 0} → (Fit x → G) → ((c : Code) → turnOf x number ≡ refused c → G) → G
-  unfolding turnOf
+  unfolding turnOf answerOf
   rows-passed {G} f g = many (eqb m 0 || ltb mostRooms m) refl
     where
       short : (t : Bool) → ltb (length (x .lists)) (m * shareBytes) ≡ t → (eqb m 0 || ltb mostRooms m) ≡ false → G
@@ -51,15 +51,15 @@ module _ (x : Lent) (number : ℕ) where
       many false e = short (ltb (length (x .lists)) (m * shareBytes)) refl e
 
   pub no-rooms : m ≡ 0 → turnOf x number ≡ refused (code 19 (0 ∷ []))
-  unfolding turnOf
+  unfolding turnOf answerOf
   no-rooms e = rw (eq-eqb m 0 e) (ap (λ (n : ℕ). refused (code 19 (n ∷ []))) e)
 
   pub many-rooms : mostRooms < m → turnOf x number ≡ refused (code 19 (m ∷ []))
-  unfolding turnOf
+  unfolding turnOf answerOf
   many-rooms h = let z : m ≡ 0 → ⊥ = omega arith in rw (ne-eqb m 0 z, lt-ltb mostRooms m h)
 
   pub short-lists : 1 ≤ m → m ≤ mostRooms → length (x .lists) < m * shareBytes → turnOf x number ≡ refused (code 12 (m * shareBytes ∷ []))
-  unfolding turnOf
+  unfolding turnOf answerOf
   short-lists some few short =
       let z : m ≡ 0 → ⊥ = omega arith in
       rw (ne-eqb m 0 z, le-ltb mostRooms m few, lt-ltb (length (x .lists)) (m * shareBytes) short)
@@ -74,7 +74,7 @@ module _ (x : Lent) (number : ℕ) where
       go false = refl
 
   pub number-past : m ≤ number → turnOf x number ≡ turnOf x 0
-  unfolding turnOf nextUnfinished
+  unfolding turnOf answerOf nextUnfinished
   number-past h = let same : numberUsed m number ≡ numberUsed m 0 = used-past m number h ∙ sym used-zero in rw same
 
 -- counting on

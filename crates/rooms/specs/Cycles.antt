@@ -1,4 +1,4 @@
--- Turns in cyclic order, over whatever rooms: each is unfinished until its own turns finish it, and a turn is the own turn of one of them.
+-- Turns in cyclic order, over whatever rooms: each is unfinished until its own turns finish it, and a turn is the own turn of at most one.
 use Prim.Native.Nat.{ℕ, zero, suc, _+_}
 use mathlib.Core.Bool.{Bool, cond}
 use lib.Dec.{eqb, ltb}

@@ -38,11 +38,11 @@ pausesOnly = two ++ (firstMinute 0x19 1 ++ firstMinute 0x19 2)
 abbrev pub after : List ℕ
 after = 0xAA ∷ 0xBB ∷ 0xCC ∷ 0xDD ∷ []
 
-abbrev pub row : Stage → ℕ → ℕ → Room
-row stage rounds moves = record { stage = stage; rounds = rounds; moves = moves }
+abbrev pub roomWith : Stage → ℕ → ℕ → Room
+roomWith stage rounds moves = record { stage = stage; rounds = rounds; moves = moves }
 
 abbrev pub freshRoom : RoomState
-freshRoom = record { row = row Fresh 0 0; share = moving ++ after; said = answered tt }
+freshRoom = record { row = roomWith Fresh 0 0; share = moving ++ after; said = answered tt }
 
 -- its list with the window that the first round leaves: two bytes longer
 abbrev pub moved : List ℕ
@@ -54,39 +54,39 @@ share bytes = take 965 (bytes ++ replicate 965 0xEE)
 
 -- two rooms: one whose list does not read, and one with a list
 abbrev pub twoRooms : Stage → Stage → Lent
-twoRooms a b = record { rows = row a 5 6 ∷ row b 0 0 ∷ []; lists = share (0x00 ∷ []) ++ share moving }
+twoRooms a b = record { rows = roomWith a 5 6 ∷ roomWith b 0 0 ∷ []; lists = share (0x00 ∷ []) ++ share moving }
 
 pub record RoomExamples : Type 0 where
   -- a fresh room: one round with a move, which writes over two of the bytes behind the list, and one without
-  pub first-round : ownTurn freshRoom ≡ record { row = row Begun 1 1; share = moved ++ (0xCC ∷ 0xDD ∷ []); said = answered tt }
-  pub second-round : ownTurn (ownTurn freshRoom) ≡ record { row = row Settled 2 1; share = moved ++ (0xCC ∷ 0xDD ∷ []); said = answered tt }
-  -- two own turns are as many as the bound asks for: 1 + (2 - 0 - 1)
-  pub bound : slackOf (moving ++ after) ≡ 1
+  pub first-round : ownTurn freshRoom ≡ record { row = roomWith Begun 1 1; share = moved ++ (0xCC ∷ 0xDD ∷ []); said = answered tt }
+  pub second-round : ownTurn (ownTurn freshRoom) ≡ record { row = roomWith Settled 2 1; share = moved ++ (0xCC ∷ 0xDD ∷ []); said = answered tt }
+  -- the sum of d - r - p is 2 - 0 - 1, so that the bound allows two own turns, and both are needed
+  pub slack : slackOf (moving ++ after) ≡ 1
   -- "A first round starts with the overload test.": by the stage, whatever the counts
   pub overloaded : roundIn Fresh fullMinute ≡ refused (code 9 (0 ∷ 1 ∷ 2 ∷ []))
   pub begun : roundIn Begun fullMinute ≡ refused (code 10 (0 ∷ []))
-  pub begun-pauses : ownTurn (record { row = row Begun 7 8; share = pausesOnly; said = answered tt })
-      ≡ record { row = row Settled 8 8; share = pausesOnly; said = answered tt }
+  pub begun-pauses : ownTurn (record { row = roomWith Begun 7 8; share = pausesOnly; said = answered tt })
+      ≡ record { row = roomWith Settled 8 8; share = pausesOnly; said = answered tt }
   -- "of all that is lent only its stage is written, its share and counts stay"
-  pub stopped : ownTurn (record { row = row Fresh 7 8; share = fullMinute; said = answered tt })
-      ≡ record { row = row Refused 7 8; share = fullMinute; said = refused (code 9 (0 ∷ 1 ∷ 2 ∷ [])) }
+  pub stopped : ownTurn (record { row = roomWith Fresh 7 8; share = fullMinute; said = answered tt })
+      ≡ record { row = roomWith Refused 7 8; share = fullMinute; said = refused (code 9 (0 ∷ 1 ∷ 2 ∷ [])) }
   pub alone-refused : answerAlone fullMinute ≡ refused (code 9 (0 ∷ 1 ∷ 2 ∷ []))
   -- "Rounds and moves stop counting at 100,000 (a larger one handed in stays)."
   pub stops : countOn 99999 2 ≡ 100000
   pub larger : countOn 100001 2 ≡ 100001
   -- two rooms: any number past the last counts as 0, and a share that does not read refuses the room, not the turn
   pub unread : turnOf (twoRooms Fresh Fresh) 9 ≡ answered (took 0 (refused (code 2 (0 ∷ []))) 1)
-  pub unread-rows : lentAfter (twoRooms Fresh Fresh) 9 .rows ≡ row Refused 5 6 ∷ row Fresh 0 0 ∷ []
+  pub unread-rows : lentAfter (twoRooms Fresh Fresh) 9 .rows ≡ roomWith Refused 5 6 ∷ roomWith Fresh 0 0 ∷ []
   pub unread-lists : lentAfter (twoRooms Fresh Fresh) 9 .lists ≡ twoRooms Fresh Fresh .lists
   -- "the next unfinished room in cyclic order", and "the number after it (after the last, 0)"
   pub passes-over : turnOf (twoRooms Refused Fresh) 0 ≡ answered (took 1 (answered tt) 0)
   pub from-last : turnOf (twoRooms Fresh Settled) 1 ≡ answered (took 0 (refused (code 2 (0 ∷ []))) 1)
   pub second-room : lentAfter (twoRooms Refused Fresh) 0
-      ≡ record { rows = row Refused 5 6 ∷ row Begun 1 1 ∷ []; lists = share (0x00 ∷ []) ++ share moved }
+      ≡ record { rows = roomWith Refused 5 6 ∷ roomWith Begun 1 1 ∷ []; lists = share (0x00 ∷ []) ++ share moved }
   -- nothing unfinished: the number as it was used
-  pub none : turnOf (twoRooms Refused Settled) 1 ≡ answered (none-unfinished 1)
-  pub none-past : turnOf (twoRooms Refused Settled) 2 ≡ answered (none-unfinished 0)
+  pub nothing : turnOf (twoRooms Refused Settled) 1 ≡ answered (none-unfinished 1)
+  pub nothing-past : turnOf (twoRooms Refused Settled) 2 ≡ answered (none-unfinished 0)
   -- 19 before 12
   pub no-rooms : turnOf (record { rows = []; lists = [] }) 0 ≡ refused (code 19 (0 ∷ []))
-  pub nine-rooms : turnOf (record { rows = replicate 9 (row Fresh 0 0); lists = [] }) 0 ≡ refused (code 19 (9 ∷ []))
-  pub short : turnOf (record { rows = replicate 8 (row Fresh 0 0); lists = [] }) 0 ≡ refused (code 12 (7720 ∷ []))
+  pub nine-rooms : turnOf (record { rows = replicate 9 (roomWith Fresh 0 0); lists = [] }) 0 ≡ refused (code 19 (9 ∷ []))
+  pub short : turnOf (record { rows = replicate 8 (roomWith Fresh 0 0); lists = [] }) 0 ≡ refused (code 12 (7720 ∷ []))

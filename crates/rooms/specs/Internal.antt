@@ -1,17 +1,15 @@
 -- What private functions promise each other. No public promise cites these.
 use Prim.Native.Nat.{ℕ}
 use mathlib.Core.Path.{_≡_}
-use mathlib.Core.Bool.{Bool, cond}
+use mathlib.Core.Bool.{Bool}
 use mathlib.Core.List.{List}
-use lib.ListN.{length, getD}
-use lib.Dec.{ltb}
-use Rattle.base.specs.Outcomes.{Outcome, answered, refused, firstOf}
+use lib.ListN.{getD}
+use Rattle.base.specs.Outcomes.{Outcome, answered, refused}
 use Rattle.list.specs.Machine.{Bytes}
 use Rattle.list.specs.Refusals.{verdictOf}
 use Rattle.list.specs.declared.types.DayList.{DayList}
-use Rattle.rooms.specs.Cycles.{numberAfter, numberUsed, nextUnfinished}
 use Rattle.rooms.specs.Rooms.{isUnfinished, roundIn, rowAfter, shareAfter, saidBy}
-use Rattle.rooms.specs.Turns.{noRow, shareOf, putShare, Turn, took, none-unfinished, turnRows}
+use Rattle.rooms.specs.Turns.{noRow, shareOf, putShare, Turn, took, none-unfinished, answerOf}
 use Rattle.rooms.specs.Calls.{turnAnswerOf}
 use Rattle.rooms.specs.declared.types.Room.{Room}
 use Rattle.rooms.specs.declared.types.RoomAnswer.{RoomAnswer}
@@ -32,11 +30,8 @@ abbrev pub roundAt : List Room → ℕ → List ℕ → Outcome (DayList × ℕ)
 roundAt rows k lists = roundIn (getD rows k noRow .stage) (shareOf k lists)
 
 -- what a turn of the first n rows answers
-unfoldable pub answerOf : List Room → ℕ → ℕ → List ℕ → Outcome Turn
-answerOf rows n number lists =
-    let k = nextUnfinished (unfinishedIn rows) n number in
-    firstOf (turnRows n (length lists))
-    (answered (cond (ltb k n) (took k (saidBy (roundAt rows k lists)) (numberAfter n k)) (none-unfinished (numberUsed n number))))
+unfoldable pub answerHeld : List Room → ℕ → ℕ → List ℕ → Outcome Turn
+answerHeld rows n number lists = answerOf (λ i. getD rows i noRow) n lists number
 
 -- the place of the row that is to be stored, n where none is; that row; and the lists afterwards
 abbrev pub placeBy : Outcome Turn → ℕ → ℕ
@@ -56,8 +51,8 @@ listsBy (refused k) rows lists = lists
 
 -- what `take_turn` answers of the first n rows and lists, and leaves there
 pub record TakesTurn (rows : List Room) (n number : ℕ) (old : List ℕ) (a : TurnTaken) (new : List ℕ) : Type 0 where
-  pub answer : turnAnswerOf (a .answer) ≡ answerOf rows n number old
-  pub at : a .at ≡ placeBy (answerOf rows n number old) n
-  pub row : a .row ≡ rowBy (answerOf rows n number old) rows old
-  pub lists : new ≡ listsBy (answerOf rows n number old) rows old
+  pub answer : turnAnswerOf (a .answer) ≡ answerHeld rows n number old
+  pub at : a .at ≡ placeBy (answerHeld rows n number old) n
+  pub row : a .row ≡ rowBy (answerHeld rows n number old) rows old
+  pub lists : new ≡ listsBy (answerHeld rows n number old) rows old
   pub bytes : Bytes old

@@ -60,13 +60,16 @@ roomFor x number = nextUnfinished (λ i. isUnfinished (rowIn x i .stage)) (lengt
 abbrev pub roundFor : Lent → ℕ → Outcome (DayList × ℕ)
 roundFor x k = roundIn (rowIn x k .stage) (shareOf k (x .lists))
 
--- what a turn answers
+-- what a turn answers, of m rooms by their rows, lists and a number
+unfoldable pub answerOf : (ℕ → Room) → ℕ → List ℕ → ℕ → Outcome Turn
+answerOf rows m lists number =
+    let k = nextUnfinished (λ i. isUnfinished (rows i .stage)) m number in
+    let said = saidBy (roundIn (rows k .stage) (shareOf k lists)) in
+    firstOf (turnRows m (length lists))
+    (answered (cond (ltb k m) (took k said (numberAfter m k)) (none-unfinished (numberUsed m number))))
+
 unfoldable pub turnOf : Lent → ℕ → Outcome Turn
-turnOf x number =
-    let m = length (x .rows) in
-    let k = roomFor x number in
-    firstOf (turnRows m (length (x .lists)))
-    (answered (cond (ltb k m) (took k (saidBy (roundFor x k)) (numberAfter m k)) (none-unfinished (numberUsed m number))))
+turnOf x number = answerOf (rowIn x) (length (x .rows)) (x .lists) number
 
 -- what is lent, after a turn that answered this: "runs one round for the next unfinished room .. and touches no other row or list"; "A turn
 -- with nothing unfinished changes nothing", and neither does one that is refused
@@ -122,6 +125,6 @@ afterTurns x number t = deskTurns t (starts x number)
 abbrev pub roomIn : Desk → ℕ → RoomState
 roomIn d i = record { row = rowIn (d .lent) i; share = shareOf i (d .lent .lists); said = d .said i }
 
--- the desk's rooms as such, of which turns are in cyclic order
+-- the rooms and the number, as Cycles.antt takes turns over them
 abbrev pub cycleOf : Desk → Cycle RoomState
 cycleOf d = record { rooms = roomIn d; number = d .number }

@@ -89,7 +89,7 @@ fn not_taken(n: usize, answer: TurnAnswer) -> TurnTaken
     }
 }
 
-// A turn of the first n rows: rows 19 and 12, then the round of the next unfinished room on its share.
+// A turn of n rooms, whose rows are the first n of these: refusals 19 and 12, then the round of the next unfinished room on its share.
 pub(crate) fn take_turn(
     lists: &mut [u8],
     rows: [Room; MOST_ROOMS],

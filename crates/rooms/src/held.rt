@@ -1,6 +1,6 @@
 // A turn over rows held by value, for callers that cannot lend a slice of them.
 use crate::desk::MOST_ROOMS;
-use crate::lent::turn_front;
+use crate::lent::turn_first;
 use crate::types::HeldAnswer;
 use crate::types::Room;
 use crate::types::TurnAnswer;
@@ -17,5 +17,5 @@ pub fn turn_held(rows: [Room; MOST_ROOMS], n: usize, lists: &mut [u8], number: u
             answer: TurnAnswer::NotTurned(Refusal::RoomCount(n)),
         };
     }
-    turn_front(rows, n, lists, number)
+    turn_first(rows, n, lists, number)
 }

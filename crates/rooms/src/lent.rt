@@ -58,7 +58,7 @@ pub fn turn(rooms: &mut [Room], lists: &mut [u8], number: usize) -> TurnAnswer
 }
 
 // A turn at a desk whose n rows are the first of these: they are lent to `turn`.
-pub(crate) fn turn_front(rows: [Room; 8], n: usize, lists: &mut [u8], number: usize) -> HeldAnswer
+pub(crate) fn turn_first(rows: [Room; 8], n: usize, lists: &mut [u8], number: usize) -> HeldAnswer
     requires { ⌜ n ≤ mostRooms ⌝ }
     ensures { λ a. ⌜ TurnsFirst rows n (now (lists .entry)) number a (now (lists .exit)) ⌝ }
 {

@@ -37,7 +37,7 @@ pub enum TurnAnswer {
     Turned(usize, Verdict, usize),
 }
 
-// A turn of rows held by value: the place of the row to be stored, past the last where none is; that row; and the answer.
+// What `take_turn` answers: the place of the row to be stored, past the last where none is; that row; and the answer of the turn.
 pub struct TurnTaken {
     pub at: usize,
     pub row: Room,

@@ -19,7 +19,7 @@ pub record FrontExamples : Type 0 where
   pub none-follow : frontOf touchingBytes ≡ readOf touchingBytes
   -- 14 is tested, and carries its place from the first byte on
   pub clash : frontOf (clashBytes ++ others) ≡ refused (code 14 (10 ∷ []))
-  -- a list that is not all there takes the bytes after it as its own
+  -- where a list is cut short, the bytes after it are read as its entries
   pub cut-off : frontOf ((0x0A ∷ 0x00 ∷ 0x02 ∷ []) ++ (entry501 ++ others)) ≡ refused (code 4 (10 ∷ []))
   pub missing : frontOf ((0x0A ∷ 0x00 ∷ 0x02 ∷ []) ++ entry501) ≡ refused (code 1 (10 ∷ []))
   -- the rows of the header

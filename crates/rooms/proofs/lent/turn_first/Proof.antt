@@ -1,5 +1,5 @@
--- `rooms::turn_front` meets its contract: a walk of its MIR, by hand. The first n rows of a local array are lent to `turn`, of which all
--- that is known is that it meets its contract, and the array comes back (`LendingFront.antt`). `lists` is given up for good.
+-- `rooms::turn_first` meets its contract: a walk of its MIR, by hand. The first n rows of a local array are lent to `turn`, of which all
+-- that is known is that it meets its contract, and the array comes back (`LendingFirst.antt`). `lists` is given up for good.
 -- Assumes nothing.
 use mathlib.Core.Path.{_≡_, refl, sym, _∙_}
 use Prim.Native.Nat.{ℕ, _<_, _≤_, _^_}
@@ -59,17 +59,17 @@ use Rattle.rooms.proofs.types.TurnAnswer as R
 use Rattle.rooms.proofs.types.TurnAnswer.Laws as R′
 use Rattle.rooms.proofs.types.HeldAnswer as D
 use Rattle.rooms.proofs.types.HeldAnswer.Laws as D′
-use Rattle.rooms.proofs.LendingFront.{Kept, front, front-lends, front-back}
+use Rattle.rooms.proofs.LendingFirst.{Kept, front, front-lends, front-back}
 use Rattle.rooms.proofs.lent.turn as turn
 use Rattle.rooms.proofs.lent.turn.Symbol as turn-def
 use Rattle.rooms.proofs.lent.turn.Symbol.{name as #rooms·turn}
 use Rattle.rooms.proofs.lent.turn.Met as turn-thm
-use Rattle.rooms.proofs.lent.turn_front.Key.{name as #rooms·turn-front}
-use Rattle.rooms.proofs.lent.turn_front as turn-front
-use Rattle.rooms.proofs.lent.turn_front.Statement as stated
-use Rattle.rooms.proofs.lent.turn_front.Code as code
+use Rattle.rooms.proofs.lent.turn_first.Key.{name as #rooms·turn-first}
+use Rattle.rooms.proofs.lent.turn_first as turn-first
+use Rattle.rooms.proofs.lent.turn_first.Statement as stated
+use Rattle.rooms.proofs.lent.turn_first.Code as code
 
-abbrev stayed : Stays (turn-front.ended .signature .params) (turn-front.ended .kept)
+abbrev stayed : Stays (turn-first.ended .signature .params) (turn-first.ended .kept)
 stayed = (
   stay-none (λ _. Array T.the-row 8) yes,
   (
@@ -142,7 +142,7 @@ module _ {M : Type 1} (𝓤 : URA M) (H : Heap 𝓤) (A : Atoms 𝓤) (W : Given
   at w = (w ∷ [], (vint w64 n ∷ [], (s′ ∷ [], (vint w64 f ∷ [], tt))))
 
   abbrev Post : Val → Val → SProp 𝓤
-  Post w = walkOf 𝓤 H A turn-front.ended stayed (turn-front.clauses 𝓤 H A mem run) .post (((κ, tt), (q, tt), tt, a, at w), tt)
+  Post w = walkOf 𝓤 H A turn-first.ended stayed (turn-first.clauses 𝓤 H A mem run) .post (((κ, tt), (q, tt), tt, a, at w), tt)
 
   abbrev Own′ : Fml
   Own′ = MutSlice (named 0) κ u8 .own x′ (s′ ∷ [])
@@ -153,7 +153,7 @@ module _ {M : Type 1} (𝓤 : URA M) (H : Heap 𝓤) (A : Atoms 𝓤) (W : Given
       → ent 𝓤 (⋆ 𝓤 H A (‵ (flft κ q) ∷ ‵ (finally u8 γ′ ks) ∷ [])) (Post w (vstruct (vcons w₅ (vcons w₆ vnil))))
   exits w w₅ w₆ zs ks t g g₅ g₆ e l =
       qed W (‵ (flft κ q) ∷ ‵ (finally u8 γ′ ks) ∷ []) ∵
-      suffices ! _ (ends-at 𝓤 H A turn-front.ended stayed (turn-front.clauses 𝓤 H A mem run) W (((κ, tt), (q, tt), tt, a, at w), tt)
+      suffices ! _ (ends-at 𝓤 H A turn-first.ended stayed (turn-first.clauses 𝓤 H A mem run) W (((κ, tt), (q, tt), tt, a, at w), tt)
       (vstruct (vcons w₅ (vcons w₆ vnil))) (record { rows = zs ++ drop-list n rows; answer = t }) (tt, (tt, (ks, (tt, tt))))
       (tt, (tt, (l, (tt, tt))))) $
       says ! (record { first = zs; turned = e; rows = refl }) $
@@ -238,7 +238,7 @@ module _ {M : Type 1} (𝓤 : URA M) (H : Heap 𝓤) (A : Atoms 𝓤) (W : Given
           k (only (array-vals vals (zs .0 ++ drop-list n rows))) w₆ (zs .0) (zs .1 .0) t is₅ is e l′)))))))))))
 
   module _ (C : Calls 𝓤 H) (Λ : Loops 𝓤 H) (fm : FmC 𝓤 H (W .laws) C) (known : Triple 𝓤 (C #rooms·turn) (Turn 𝓤 H A mem run)) where
-    walk : (w : Val) → Rows rows w → ent 𝓤 (onEntry 𝓤 H A turn-front.signature (κ, tt) (q, tt) a (at w))
+    walk : (w : Val) → Rows rows w → ent 𝓤 (onEntry 𝓤 H A turn-first.signature (κ, tt) (q, tt) a (at w))
         (WpFn 𝓤 H C Λ code.function (w ∷ vint w64 n ∷ s′ ∷ vint w64 f ∷ []) (Post w))
     walk w g =
         qed W ((‵ (flft κ q) ⊛ ‵ ftrue) ∷ ‵ (owns (Array T.the-row 8 ∷ usize ∷ MutSlice (named 0) κ u8 ∷ usize ∷ []) a (at w)) ∷ []) ∵
@@ -288,9 +288,9 @@ module _ {M : Type 1} (𝓤 : URA M) (H : Heap 𝓤) (A : Atoms 𝓤) (W : Given
         keep ! (0 ∷ 1 ∷ []) $ by ! (exits w w₅ w₆ zs ks t g g₅ g₆ e l))))))))))))))
 
 module _ {M : Type 1} (𝓤 : URA M) (H : Heap 𝓤) (A : Atoms 𝓤) (W : Given 𝓤 H A) (mem : Memory → SProp 𝓤) (run : Routine → Fun 𝓤) where
-  turn-front-walks : (C : Calls 𝓤 H) (Λ : Loops 𝓤 H) → FmC 𝓤 H (W .laws) C → Triple 𝓤 (C #rooms·turn) (Turn 𝓤 H A mem run)
-      → Walks 𝓤 H A turn-front.ended stayed (WpFn 𝓤 H C Λ code.function) (turn-front.clauses 𝓤 H A mem run)
-  turn-front-walks C Λ fm known = walked 𝓤 H A turn-front.ended stayed (turn-front.clauses 𝓤 H A mem run) (WpFn 𝓤 H C Λ code.function)
+  turn-first-walks : (C : Calls 𝓤 H) (Λ : Loops 𝓤 H) → FmC 𝓤 H (W .laws) C → Triple 𝓤 (C #rooms·turn) (Turn 𝓤 H A mem run)
+      → Walks 𝓤 H A turn-first.ended stayed (WpFn 𝓤 H C Λ code.function) (turn-first.clauses 𝓤 H A mem run)
+  turn-first-walks C Λ fm known = walked 𝓤 H A turn-first.ended stayed (turn-first.clauses 𝓤 H A mem run) (WpFn 𝓤 H C Λ code.function)
       (λ κs. (array-vals vals, (uint-vals w64, (slice-vals, (uint-vals w64, tt)))))
       (λ κs. (
         array-tells T.the-row vals (LL.tells T.the-type T′.the-laws) 8,
@@ -301,11 +301,11 @@ module _ {M : Type 1} (𝓤 : URA M) (H : Heap 𝓤) (A : Atoms 𝓤) (W : Given
       (a .1 .1 .1 .0) (are .1 .0 .1) (are .1 .1 .1 .0 .1) (are .1 .1 .0 .0 .1) (are .0 .1 .0 .1) few C Λ fm known
       (only (array-vals vals (a .0))) (are .0)))
 
-turn-front-meets : {M : Type 1} (𝓤 : URA M) (H : Heap 𝓤) (A : Atoms 𝓤) → Given 𝓤 H A → (mem : Memory → SProp 𝓤) (run : Routine
+turn-first-meets : {M : Type 1} (𝓤 : URA M) (H : Heap 𝓤) (A : Atoms 𝓤) → Given 𝓤 H A → (mem : Memory → SProp 𝓤) (run : Routine
     → Fun 𝓤) (𝓣 : Tables 𝓤 H) → Triple 𝓤 (𝓣 .C #rooms·turn) (Turn 𝓤 H A mem run)
-    → Meets 𝓤 H A turn-front.signature (WpFn 𝓤 H (𝓣 .C) (𝓣 .Λ) code.function) (turn-front.spec 𝓤 H A mem run)
-turn-front-meets 𝓤 H A W mem run 𝓣 known =
-    walk-meets 𝓤 H A turn-front.ended stayed W (
+    → Meets 𝓤 H A turn-first.signature (WpFn 𝓤 H (𝓣 .C) (𝓣 .Λ) code.function) (turn-first.spec 𝓤 H A mem run)
+turn-first-meets 𝓤 H A W mem run 𝓣 known =
+    walk-meets 𝓤 H A turn-first.ended stayed W (
       goes-none 𝓤 H A W 1 (λ _. Array T.the-row 8) yes (λ κs x f. refl),
       (
         goes-none 𝓤 H A W 1 (λ _. usize) yes (λ κs x f. refl),
@@ -314,15 +314,15 @@ turn-front-meets 𝓤 H A W mem run 𝓣 known =
           (goes-none 𝓤 H A W 1 (λ _. usize) yes (λ κs x f. refl), tt),
         ),
       ),
-    ) (turn-front.clauses 𝓤 H A mem run)
+    ) (turn-first.clauses 𝓤 H A mem run)
     (WpFn 𝓤 H (𝓣 .C) (𝓣 .Λ) code.function) (WpFn-mono 𝓤 H (W .laws) 𝓣 code.function)
-    (turn-front-walks 𝓤 H A W mem run (𝓣 .C) (𝓣 .Λ) (fmOf 𝓤 H (W .laws) 𝓣) known)
+    (turn-first-walks 𝓤 H A W mem run (𝓣 .C) (𝓣 .Λ) (fmOf 𝓤 H (W .laws) 𝓣) known)
 
-pub turn-front-spec : {M : Type 1} → stated.statement M
+pub turn-first-spec : {M : Type 1} → stated.statement M
 unfolding code.routine tablesOf
-turn-front-spec 𝓤 H 𝓜 𝓖 𝓡 =
-    entered 𝓤 H (tripleOf 𝓤 H (𝓖 .A) turn-front.signature (turn-front.spec 𝓤 H (𝓖 .A) (𝓜 .mem) (𝓡 .run)))
-    (tables 𝓤 H 𝓜 𝓡 code.env .C) (tables 𝓤 H 𝓜 𝓡 code.env .Λ) #rooms·turn-front code.function (code.unfolded 𝓤 H 𝓜 𝓡)
-    (turn-front-meets 𝓤 H (𝓖 .A) (givenOf 𝓤 H 𝓜 𝓖) (𝓜 .mem) (𝓡 .run) (tablesOf 𝓤 H 𝓜 (tables 𝓤 H 𝓜 𝓡 code.env))
+turn-first-spec 𝓤 H 𝓜 𝓖 𝓡 =
+    entered 𝓤 H (tripleOf 𝓤 H (𝓖 .A) turn-first.signature (turn-first.spec 𝓤 H (𝓖 .A) (𝓜 .mem) (𝓡 .run)))
+    (tables 𝓤 H 𝓜 𝓡 code.env .C) (tables 𝓤 H 𝓜 𝓡 code.env .Λ) #rooms·turn-first code.function (code.unfolded 𝓤 H 𝓜 𝓡)
+    (turn-first-meets 𝓤 H (𝓖 .A) (givenOf 𝓤 H 𝓜 𝓖) (𝓜 .mem) (𝓡 .run) (tablesOf 𝓤 H 𝓜 (tables 𝓤 H 𝓜 𝓡 code.env))
     (cited 𝓤 H (Turn 𝓤 H (𝓖 .A) (𝓜 .mem) (𝓡 .run)) 𝓜 𝓡 code.env #rooms·turn turn-def.routine code.calls-rooms·lent·turn
     (turn-thm.met 𝓤 H 𝓜 𝓖 𝓡)))
