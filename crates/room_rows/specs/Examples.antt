@@ -16,7 +16,8 @@ roomWith stage rounds moves = record { stage = stage; rounds = rounds; moves = m
 pub record RowExamples : Type 0 where
   -- "its stage (fresh, begun, settled, refused), rounds and moves"; a stage over 3 counts as 3
   pub first-two : roomsIn (0 ∷ 10 ∷ 11 ∷ 1 ∷ 20 ∷ 21 ∷ []) ≡ roomWith Fresh 10 11 ∷ roomWith Begun 20 21 ∷ []
-  pub others : roomsIn (2 ∷ 30 ∷ 31 ∷ 3 ∷ 40 ∷ 41 ∷ 9 ∷ 50 ∷ 51 ∷ []) ≡ roomWith Settled 30 31 ∷ roomWith Refused 40 41 ∷ roomWith Refused 50 51 ∷ []
+  pub others : roomsIn (2 ∷ 30 ∷ 31 ∷ 3 ∷ 40 ∷ 41 ∷ 9 ∷ 50 ∷ 51 ∷ [])
+      ≡ roomWith Settled 30 31 ∷ roomWith Refused 40 41 ∷ roomWith Refused 50 51 ∷ []
   pub stored : roomRow (roomWith Settled 30 31) ≡ 2 ∷ 30 ∷ 31 ∷ []
   pub no-threes : roomsFault 7 ≡ refused (code 100 (6 ∷ []))
   pub threes : roomsFault 24 ≡ answered tt

@@ -59,7 +59,8 @@ twoRooms a b = record { rows = roomWith a 5 6 ∷ roomWith b 0 0 ∷ []; lists =
 pub record RoomExamples : Type 0 where
   -- a fresh room: one round with a move, which writes over two of the bytes behind the list, and one without
   pub first-round : ownTurn freshRoom ≡ record { row = roomWith Begun 1 1; share = moved ++ (0xCC ∷ 0xDD ∷ []); said = answered tt }
-  pub second-round : ownTurn (ownTurn freshRoom) ≡ record { row = roomWith Settled 2 1; share = moved ++ (0xCC ∷ 0xDD ∷ []); said = answered tt }
+  pub second-round : ownTurn (ownTurn freshRoom)
+      ≡ record { row = roomWith Settled 2 1; share = moved ++ (0xCC ∷ 0xDD ∷ []); said = answered tt }
   -- the sum of d - r - p is 2 - 0 - 1, so that the bound allows two own turns, and both are needed
   pub slack : slackOf (moving ++ after) ≡ 1
   -- "A first round starts with the overload test.": by the stage, whatever the counts

@@ -59,8 +59,9 @@ pub data Stops (x : Lent) (k : ℕ) (c : Code) : Type 0 where
   unread : frontOf (shareOf k (x .lists)) ≡ refused c → Stops x k c
   overloaded : (l : DayList) → frontOf (shareOf k (x .lists)) ≡ answered l → rowIn x k .stage ≡ Fresh
       → overloadOf (windowsOf l) ≡ refused c → ShowsOverload (windowsOf l) c → Stops x k c
-  no-place : (l : DayList) → frontOf (shareOf k (x .lists)) ≡ answered l → (rowIn x k .stage ≡ Fresh → overloadOf (windowsOf l) ≡ answered tt)
-      → roundOf l ≡ refused c → WholeRefused (wholeIn l) (windowsOf l .n) c → Stops x k c
+  no-place : (l : DayList) → frontOf (shareOf k (x .lists)) ≡ answered l
+      → (rowIn x k .stage ≡ Fresh → overloadOf (windowsOf l) ≡ answered tt) → roundOf l ≡ refused c
+      → WholeRefused (wholeIn l) (windowsOf l .n) c → Stops x k c
 
 -- "makes the room refused: of all that is lent only its stage is written, its share and counts stay"
 pub record RoomRefused (x : Lent) (k : ℕ) (c : Code) (y : Lent) : Type 0 where

@@ -85,8 +85,9 @@ ownBy (answered (took k said next)) i = cond (eqb k i) 1 0
 ownBy (answered (none-unfinished used)) i = 0
 ownBy (refused c) i = 0
 
--- "its row and share left to the turns": a room that was s, after turns of which so many were its own. Between two turns the control program
--- may write whatever it lends but this row and share, lend other rows or another buffer beside them, at other places, and hand in any number.
+-- "its row and share left to the turns": a room that was s, after turns of which so many were its own. Between two turns the control
+-- program may write whatever it lends but this row and share, lend other rows or another buffer beside them, at other places, and hand in
+-- any number.
 pub data LeftTo (s : RoomState) : ℕ → RoomState → Type 0 where
   no-turn : LeftTo s 0 s
   one-more : (d : Desk) (i k : ℕ) → LeftTo s k (roomIn d i) → i < length (d .lent .rows) → Bytes (d .lent .lists)
