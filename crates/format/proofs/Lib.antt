@@ -16,6 +16,6 @@ pub mod Examples
 -- What the code's proofs cite, case by case. The round trips cite some of it too.
 mod EntryCases
 mod ReadCases
-mod FormCases
+pub mod FormCases
 pub mod WriteCases
 mod CallCases

@@ -68,9 +68,9 @@ restRead stage m l =
 unfoldable pub restOf : Stage → ℕ → List ℕ → Outcome (DayList × ℕ)
 restOf stage m share = andThen (frontOf share) (restRead stage m)
 
-advance-as : (s : RoomState) (o : Outcome (DayList × ℕ)) → roundIn (s .row .stage) (s .share) ≡ o → ownTurn s ≡ roomAfter s o
+own-turn-as : (s : RoomState) (o : Outcome (DayList × ℕ)) → roundIn (s .row .stage) (s .share) ≡ o → ownTurn s ≡ roomAfter s o
 unfolding ownTurn
-advance-as s o e = ap (roomAfter s) e
+own-turn-as s o e = ap (roomAfter s) e
 
 module _ (stage : Stage) (m : ℕ) (share : List ℕ) where
   unread : (k : Code) → frontOf share ≡ refused k → (roundIn stage share ≡ refused k) × (restOf stage m share ≡ refused k)
@@ -159,7 +159,7 @@ pub own-turn : (s : RoomState) → Says Stands Anything (frontOf (s .share)) →
 own-turn s reads = read (frontOf (s .share)) refl reads
   where
     turned : (o : Outcome (DayList × ℕ)) → roundIn (s .row .stage) (s .share) ≡ o → Round s (roomAfter s o) → Round s (ownTurn s)
-    turned o e turn = rw (advance-as s o e) turn
+    turned o e turn = rw (own-turn-as s o e) turn
 
     rounded : (l : DayList) (e : frontOf (s .share) ≡ answered l) (st : Stands l) (t : firstTest (s .row .stage) l ≡ answered tt)
         (u : Outcome Narrowed) → round overloadOf (wholeIn l) (unmoved (windowsOf l)) ≡ u → Round s (ownTurn s)

@@ -12,9 +12,16 @@ use Rattle.base.specs.Outcomes.{Code, Outcome, answered, refused}
 use Rattle.base.proofs.Inversion.{answered-refused, answered-same, refused-same}
 use Rattle.base.proofs.Sums.{le-or-lt}
 use Rattle.list.specs.Machine.{Bytes}
+use Rattle.list.specs.DayLists.{wholeIn}
 use Rattle.list.specs.Checks.{WellFormed}
 use Rattle.list.specs.declared.types.DayList.{DayList}
 use Rattle.format.specs.Writing.{bytesOf}
+use Rattle.jackson.specs.Windows.{windowsOf}
+use Rattle.jackson.specs.Intervals.{overloadOf}
+use Rattle.jackson.proofs.ListLaws.{list-formed}
+use Rattle.narrow.specs.Rounds.{Narrowed, unmoved, round}
+use Rattle.narrow.specs.Calls.{listWith, listed, roundOf}
+use Rattle.narrow.proofs.Costs.{round-cost}
 use Rattle.shares.proofs.StandingLists.{share-form, share-behind}
 use Rattle.shares.specs.Shares.{frontOf}
 use Rattle.shares.proofs.FrontLaws.{front-stands, front-law}
@@ -27,6 +34,7 @@ use Rattle.rooms.specs.declared.types.Room.{Room}
 use Rattle.rooms.proofs.CyclicOrder.{after-cases, used-same, used-past, ahead, ahead-up, ahead-last, ahead-zero}
 use Rattle.rooms.proofs.CyclicOrder.{next-some, next-first}
 use Rattle.rooms.proofs.CycleLaws.{taken-unfinished}
+use Rattle.rooms.proofs.NarrowedLists.{form-grows}
 use Rattle.rooms.proofs.SharesApart.{share-is-bytes, share-same, byte-other, put-length, put-back}
 use Rattle.rooms.proofs.DeskTurns.{Good, turn-took, turn-nothing, share-inside, new-length}
 use Rattle.rooms.proofs.TurnFacts.{rows-passed, no-rooms, many-rooms, short-lists, number-past, counts-on, stops-as, made-as}
@@ -34,6 +42,20 @@ use Rattle.rooms.proofs.TurnFacts.{rows-passed, no-rooms, many-rooms, s
 lent-is : (x : Lent) (number : ℕ) (o : Outcome Turn) → turnOf x number ≡ o → lentAfter x number ≡ lentBy o x
 unfolding lentAfter
 lent-is x number o e = rw e
+
+-- a round leaves a list whose one form is at least as long
+round-grows : (l : DayList) → WellFormed l → (left : DayList) (moved : ℕ) → listed l (roundOf l) ≡ answered (left, moved)
+    → length (bytesOf l) ≤ length (bytesOf left)
+unfolding roundOf
+round-grows l formed left moved e = go (round overloadOf (wholeIn l) (unmoved (windowsOf l))) refl (rw formed at e)
+  where
+    go : (o : Outcome Narrowed) → round overloadOf (wholeIn l) (unmoved (windowsOf l)) ≡ o → listed l o ≡ answered (left, moved)
+        → length (bytesOf l) ≤ length (bytesOf left)
+    go (answered v) r q =
+        let is : listWith l (v .windows) ≡ left = ap (λ (x : DayList × ℕ). x .0) (answered-same refl q) in
+        let cost = round-cost overloadOf (wholeIn l) (unmoved (windowsOf l)) (list-formed l formed) v r in
+        subst (λ (x : DayList). length (bytesOf l) ≤ length (bytesOf x)) is (form-grows l (v .windows) formed (cost .keeps))
+    go (refused c) r q = absurd (answered-refused q refl)
 
 -- the parts of an answer that takes a room
 abbrev takes : Turn → Bool
@@ -150,6 +172,7 @@ module _ (x : Lent) (b : Bytes (x .lists)) where
             rounds = subst (CountsOn (rowIn x k .rounds) 1) (sym (ap (λ (q : Room). q .rounds) is)) (counts-on (rowIn x k .rounds) 1);
             moves = subst (CountsOn (rowIn x k .moves) moved) (sym (ap (λ (q : Room). q .moves) is)) (counts-on (rowIn x k .moves) moved);
             form = ap (take (length (bytesOf left))) new ∙ share-form left (shareOf k (x .lists));
+            grows = round-grows (by .given) (front-formed k (by .given) (by .reads)) left moved (by .round);
             behind = λ j q. ap (λ (z : List ℕ). getD z j 0) new ∙ share-behind left (shareOf k (x .lists)) j q;
           }
 

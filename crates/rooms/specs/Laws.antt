@@ -52,6 +52,8 @@ pub record RoundMade (x : Lent) (k : ℕ) (y : Lent) : Type 0 where
   pub rounds : CountsOn (rowIn x k .rounds) 1 (rowIn y k .rounds)
   pub moves : CountsOn (rowIn x k .moves) moved (rowIn y k .moves)
   pub form : take (length (bytesOf left)) (shareOf k (y .lists)) ≡ bytesOf left
+  -- the one form is at least as long as before, so that of the list given no byte is left behind it; other bytes behind it stay
+  pub grows : length (bytesOf given) ≤ length (bytesOf left)
   pub behind : (j : ℕ) → length (bytesOf left) ≤ j → getD (shareOf k (y .lists)) j 0 ≡ getD (shareOf k (x .lists)) j 0
 
 -- why the round of room k is refused: "A share that does not read, 9 or 10"; 9 only of a fresh room, whose test comes first
