@@ -42,10 +42,12 @@ module _ (R : RattleType) (κ′ : Lft) (b o n : ℕ) (xs : List (R .Denot)) whe
   abbrev pub front : GName → RefT (List (R .Denot))
   front δ = record { ptr = (b, o); name = δ; now = take n xs }
 
+  abbrev FrontOwn : Lifetime → GName → Fml
+  FrontOwn ℓ′ δ = MutSlice ℓ′ κ′ R .own (front δ) (sliceVal (b, o) (length (take n xs)) ∷ [])
+
   module _ {M : Type 1} (𝓤 : URA M) (H : Heap 𝓤) (A : Atoms 𝓤) (W : Given 𝓤 H A) (m : ℕ) where
     pub front-lends : Single (R .mir) → (ℓ′ : Lifetime) → Room R m → ent 𝓤 (sem 𝓤 H A (partAt (Array R m) fullShare xs b o))
-        (H .⇛ (ex 𝓤 (λ (γ₁ : GName). sep 𝓤 (sem 𝓤 H A (MutSlice ℓ′ κ′ R .own (front γ₁) (sliceVal (b, o) (length (take n xs)) ∷ [])))
-        (sem 𝓤 H A (Kept γ₁)))))
+        (H .⇛ (ex 𝓤 (λ (γ₁ : GName). sep 𝓤 (sem 𝓤 H A (FrontOwn ℓ′ γ₁)) (sem 𝓤 H A (Kept γ₁)))))
     front-lends one ℓ′ room =
         qed W (‵ (partAt (Array R m) fullShare xs b o) ∷ []) ∵ updating ! $
         use1 W (‵ (arr-parts (shares R) m .part fullShare xs b o)) (array-apart 𝓤 H A W R fullShare one m xs b o) $ fsplit ! $ feqL ! (λ l.
@@ -53,17 +55,17 @@ module _ (R : RattleType) (κ′ : Lft) (b o n : ℕ) (xs : List (R .Denot)) whe
         rewrite ! 0 (λ (ys : List (R .Denot)). ‵ (cells (mem R) ys b o)) (sym (take-append-drop n xs)) refl $
         use1 W (‵ (cells (mem R) (take n xs) b o) ⊛ ‵ (cells (mem R) (drop-list n xs) b (at o (mem R .size) (length (take n xs)))))
         (cut-app 𝓤 H A (mem R) (take n xs) (drop-list n xs) b o) $ split ! $
-        use1 W (later (some (λ (γ₁ : GName). ‵ (MutSlice ℓ′ κ′ R .own (front γ₁) (sliceVal (b, o) (length (take n xs)) ∷ [])) ⊛ ‵
+        use1 W (later (some (λ (γ₁ : GName). ‵ (FrontOwn ℓ′ γ₁) ⊛ ‵
         (flent κ′ (Held R (length (take n xs)) b o γ₁))))) (lends-slice 𝓤 H A W R ℓ′ κ′ (take n xs) b o (room-take R m n xs l room)) $
-        await ! tt $ pick ! (λ γ₁. split ! $
-        at-once ! $ show ! (λ (γ′ : GName). sep 𝓤 (sem 𝓤 H A (MutSlice ℓ′ κ′ R .own (front γ′) (sliceVal (b, o) (length (take n xs)) ∷ [])))
-        (sem 𝓤 H A (Kept γ′))) γ₁ $ frame ! $ fjoin ! $ done !))
+        await ! tt $ pick ! (λ γ₁. split ! $ at-once ! $
+        show ! (λ (γ′ : GName). sep 𝓤 (sem 𝓤 H A (FrontOwn ℓ′ γ′)) (sem 𝓤 H A (Kept γ′))) γ₁ $ frame ! $ fjoin ! $ done !))
 
     pub front-back : (γ₁ : GName) (zs : List (R .Denot)) → length xs ≡ m → length zs ≡ length (take n xs)
         → ent 𝓤 (sep 𝓤 (A .dead κ′) (sep 𝓤 (sem 𝓤 H A (Kept γ₁)) (sem 𝓤 H A (finally R γ₁ zs))))
         (H .⇛ (sem 𝓤 H A (partAt (Array R m) fullShare (zs ++ drop-list n xs) b o)))
     front-back γ₁ zs l e =
-        qed W (‵ (fdead κ′) ∷ ‵ (Kept γ₁) ∷ ‵ (finally R γ₁ zs) ∷ []) ∵ updating ! $ move ! (1 ∷ []) $ fsplit ! $ move ! (2 ∷ 0 ∷ 3 ∷ []) $
+        qed W (‵ (fdead κ′) ∷ ‵ (Kept γ₁) ∷ ‵ (finally R γ₁ zs) ∷ []) ∵ updating ! $
+        move ! (1 ∷ []) $ fsplit ! $ move ! (2 ∷ 0 ∷ 3 ∷ []) $
         use3 W (later (‵ (Arr (mem R) (length (take n xs)) .lies zs b o))) (slice-back 𝓤 H A W R κ′ γ₁ zs (length (take n xs)) b o) $
         await ! tt $ fsplit ! $ drop ! $
         rewrite ! 1 (λ (k : ℕ). ‵ (cells (mem R) (drop-list n xs) b (at o (mem R .size) k))) (sym e) refl $

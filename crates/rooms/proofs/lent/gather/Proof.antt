@@ -108,7 +108,8 @@ module _ {M : Type 1} (𝓤 : URA M) (H : Heap 𝓤) (A : Atoms 𝓤) (W : Given
   typed : (r : Room) (w : Val) → Is T.the-row r (w ∷ []) → Holds (hasTy T′.mir w) × WT w
   typed r w is = LL.lawful T.the-type T′.the-laws 𝓤 H A W .typed r (w ∷ []) is .0
 
-  exits : (w : Val) → Is (Array T.the-row 8) (eightRows ys d) (w ∷ []) → ent 𝓤 (⋆ 𝓤 H A ((‵ (flft κ q) ⊛ ‵ ftrue) ∷ ‵ Own ∷ [])) (Post w)
+  exits : (w : Val) → Is (Array T.the-row 8) (eightRows ys d) (w ∷ [])
+      → ent 𝓤 (⋆ 𝓤 H A ((‵ (flft κ q) ⊛ ‵ ftrue) ∷ ‵ Own ∷ [])) (Post w)
   exits w g =
       qed W ((‵ (flft κ q) ⊛ ‵ ftrue) ∷ ‵ Own ∷ []) ∵
       suffices ! _ (ends-at 𝓤 H A gather.ended stayed (gather.clauses 𝓤 H A mem run) W (((κ, tt), (q, tt), tt, a, at), tt) w
@@ -145,7 +146,7 @@ module _ {M : Type 1} (𝓤 : URA M) (H : Heap 𝓤) (A : Atoms 𝓤) (W : Given
         (λ l₄. alloc1 ! (λ l₅. alloc1 ! (λ l₆. alloc1 ! (λ l₇. alloc1 ! (λ l₈. alloc1 ! (λ l₉. alloc1 ! (λ l₁₀. alloc0 ! $ params1 ! $
         pass1 ! (init ! 18 refl (tt, (tt, (record { fits = room .0 }, tt)))) $ pass1 ! (init ! 16 refl (typed d mach gd)) $ pass0 ! $
         move ! (22 ∷ 23 ∷ []) $
-        -- [the token; what rooms owns; _10; …; _9; …; _8; …; _7; …; _6; …; _5; …; _4; …; _3; …; _2; …; _1; …; room for _0; …; what d owns]
+        -- [the token; what rooms owns; _10; …; … _1; …; room for _0; …; what d owns]: local i stands at 22 - 2 i
         reads 0 (lit< tt) (and-then ! (load ! (from ! (stop !)) (look ! 20 refl))
         (and-then ! (lit ! tt) (and-then ! (load ! (from ! (stop !)) (look ! 18 refl)) (no-more !))))
         (λ w₀ is₀. land ! (from ! (stop !)) (init ! 16 refl (typed (getD ys 0 d) w₀ is₀)) $
@@ -170,8 +171,9 @@ module _ {M : Type 1} (𝓤 : URA M) (H : Heap 𝓤) (A : Atoms 𝓤) (W : Given
         reads 7 (lit< tt) (and-then ! (load ! (from ! (stop !)) (look ! 20 refl))
         (and-then ! (lit ! tt) (and-then ! (load ! (from ! (stop !)) (look ! 18 refl)) (no-more !))))
         (λ w₇ is₇. land ! (from ! (stop !)) (init ! 2 refl (typed (getD ys 7 d) w₇ is₇)) $
-        let made : Is (Array T.the-row 8) (eightRows ys d) (arrayVal (w₀ ∷ w₁ ∷ w₂ ∷ w₃ ∷ w₄ ∷ w₅ ∷ w₆ ∷ w₇ ∷ []) ∷ []) =
-        (w₀ ∷ w₁ ∷ w₂ ∷ w₃ ∷ w₄ ∷ w₅ ∷ w₆ ∷ w₇ ∷ [], ((refl, refl), (is₀, (is₁, (is₂, (is₃, (is₄, (is₅, (is₆, (is₇, tt)))))))))) in
+        let ws = w₀ ∷ w₁ ∷ w₂ ∷ w₃ ∷ w₄ ∷ w₅ ∷ w₆ ∷ w₇ ∷ [] in
+        let made : Is (Array T.the-row 8) (eightRows ys d) (arrayVal ws ∷ []) =
+        (ws, ((refl, refl), (is₀, (is₁, (is₂, (is₃, (is₄, (is₅, (is₆, (is₇, tt)))))))))) in
         assigns ! (agg ! (and-then ! (load ! (from ! (stop !)) (look ! 16 refl))
         (and-then ! (load ! (from ! (stop !)) (look ! 14 refl)) (and-then ! (load ! (from ! (stop !)) (look ! 12 refl))
         (and-then ! (load ! (from ! (stop !)) (look ! 10 refl)) (and-then ! (load ! (from ! (stop !)) (look ! 8 refl))
@@ -184,7 +186,7 @@ module _ {M : Type 1} (𝓤 : URA M) (H : Heap 𝓤) (A : Atoms 𝓤) (W : Given
         free1 ! $ move ! (14 ∷ 15 ∷ []) $ free1 ! $ move ! (12 ∷ 13 ∷ []) $ free1 ! $ move ! (10 ∷ 11 ∷ []) $ free1 ! $
         move ! (8 ∷ 9 ∷ []) $ free1 ! $ move ! (6 ∷ 7 ∷ []) $ free1 ! $ move ! (4 ∷ 5 ∷ []) $ free1 ! $ move ! (2 ∷ 3 ∷ []) $ free1 ! $
         free0 ! $
-        Kit.keep ! (0 ∷ 1 ∷ []) $ by ! (exits (arrayVal (w₀ ∷ w₁ ∷ w₂ ∷ w₃ ∷ w₄ ∷ w₅ ∷ w₆ ∷ w₇ ∷ [])) made))))))))))))))))))))
+        Kit.keep ! (0 ∷ 1 ∷ []) $ by ! (exits (arrayVal ws) made))))))))))))))))))))
 
 module _ {M : Type 1} (𝓤 : URA M) (H : Heap 𝓤) (A : Atoms 𝓤) (W : Given 𝓤 H A) (mem : Memory → SProp 𝓤) (run : Routine → Fun 𝓤) where
   gather-walks : (C : Calls 𝓤 H) (Λ : Loops 𝓤 H) → FmC 𝓤 H (W .laws) C → Triple 𝓤 (C #rooms·row-or) (RowOr 𝓤 H A mem run)

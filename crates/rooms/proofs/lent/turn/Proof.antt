@@ -312,14 +312,15 @@ module _ {M : Type 1} (𝓤 : URA M) (H : Heap 𝓤) (A : Atoms 𝓤) (W : Given
     walk : ent 𝓤 (onEntry 𝓤 H A turn.signature (κ, (κ′, tt)) (q, (q′, tt)) a vals)
         (WpFn 𝓤 H C Λ code.function (s ∷ s′ ∷ vint w64 f ∷ []) Post)
     walk =
-        qed W ((‵ (flft κ q) ⊛ ‵ (flft κ′ q′) ⊛ ‵ ftrue) ∷ ‵ (owns (MutSlice (named 0) κ T.the-row ∷ MutSlice (named 1) κ′ u8 ∷ usize ∷ [])
-        a vals) ∷ []) ∵
+        qed W ((‵ (flft κ q) ⊛ ‵ (flft κ′ q′) ⊛ ‵ ftrue)
+        ∷ ‵ (owns (MutSlice (named 0) κ T.the-row ∷ MutSlice (named 1) κ′ u8 ∷ usize ∷ []) a vals) ∷ []) ∵
         split ! $ move ! (1 ∷ []) $ split ! $ move ! (3 ∷ []) $ fsplit ! $ move ! (1 ∷ []) $ fsplit ! $ move ! (5 ∷ 2 ∷ 3 ∷ 0 ∷ []) $
         -- [κ's token; what rooms owns; κ′'s token; what lists owns; …]
         enter ! C Λ code.function (s ∷ s′ ∷ vint w64 f ∷ []) _ $
         alloc1 ! (λ l₀. alloc1 ! (λ l₁. alloc1 ! (λ l₂. alloc1 ! (λ l₃. alloc1 !
         (λ l₄. alloc1 ! (λ l₅. alloc1 ! (λ l₆. alloc1 ! (λ l₇. alloc1 !
-        (λ l₈. alloc1 ! (λ l₉. alloc1 ! (λ l₁₀. alloc1 ! (λ l₁₁. alloc1 ! (λ l₁₂. alloc1 ! (λ l₁₃. alloc1 ! (λ l₁₄. alloc0 ! $ params1 ! $
+        (λ l₈. alloc1 ! (λ l₉. alloc1 ! (λ l₁₀. alloc1 ! (λ l₁₁. alloc1 !
+        (λ l₁₂. alloc1 ! (λ l₁₃. alloc1 ! (λ l₁₄. alloc0 ! $ params1 ! $
         pass1 ! (init ! 26 refl (tt, (tt, (record { fits = room .0 }, tt)))) $
         pass1 ! (init ! 24 refl (tt, (tt, (record { fits = room′ .0 }, tt)))) $
         pass1 ! (init ! 22 refl (tt, record { fits = f-fits })) $ pass0 ! $
@@ -387,7 +388,8 @@ module _ {M : Type 1} (𝓤 : URA M) (H : Heap 𝓤) (A : Atoms 𝓤) (W : Given
       known-gather known-take-turn known-put-or))
 
 turn-meets : {M : Type 1} (𝓤 : URA M) (H : Heap 𝓤) (A : Atoms 𝓤) → Given 𝓤 H A → (mem : Memory → SProp 𝓤) (run : Routine
-    → Fun 𝓤) (𝓣 : Tables 𝓤 H) → Triple 𝓤 (𝓣 .C #rooms·no-row) (NoRow 𝓤 H A mem run) → Triple 𝓤 (𝓣 .C #rooms·gather) (Gather 𝓤 H A mem run)
+    → Fun 𝓤) (𝓣 : Tables 𝓤 H) → Triple 𝓤 (𝓣 .C #rooms·no-row) (NoRow 𝓤 H A mem run)
+    → Triple 𝓤 (𝓣 .C #rooms·gather) (Gather 𝓤 H A mem run)
     → Triple 𝓤 (𝓣 .C #rooms·take-turn) (TakeTurn 𝓤 H A mem run) → Triple 𝓤 (𝓣 .C #rooms·put-or) (PutOr 𝓤 H A mem run)
     → Meets 𝓤 H A turn.signature (WpFn 𝓤 H (𝓣 .C) (𝓣 .Λ) code.function) (turn.spec 𝓤 H A mem run)
 turn-meets 𝓤 H A W mem run 𝓣 known-no-row known-gather known-take-turn known-put-or =
@@ -409,7 +411,7 @@ turn-spec 𝓤 H 𝓜 𝓖 𝓡 =
     (no-row-thm.met 𝓤 H 𝓜 𝓖 𝓡))
     (cited 𝓤 H (Gather 𝓤 H (𝓖 .A) (𝓜 .mem) (𝓡 .run)) 𝓜 𝓡 code.env #rooms·gather gather-def.routine code.calls-rooms·lent·gather
     (gather-thm.met 𝓤 H 𝓜 𝓖 𝓡))
-    (cited 𝓤 H (TakeTurn 𝓤 H (𝓖 .A) (𝓜 .mem) (𝓡 .run)) 𝓜 𝓡 code.env #rooms·take-turn take-turn-def.routine code.calls-rooms·desk·take-turn
-    (take-turn-thm.met 𝓤 H 𝓜 𝓖 𝓡))
+    (cited 𝓤 H (TakeTurn 𝓤 H (𝓖 .A) (𝓜 .mem) (𝓡 .run)) 𝓜 𝓡 code.env #rooms·take-turn take-turn-def.routine
+    code.calls-rooms·desk·take-turn (take-turn-thm.met 𝓤 H 𝓜 𝓖 𝓡))
     (cited 𝓤 H (PutOr 𝓤 H (𝓖 .A) (𝓜 .mem) (𝓡 .run)) 𝓜 𝓡 code.env #rooms·put-or put-or-def.routine code.calls-rooms·lent·put-or
     (put-or-thm.met 𝓤 H 𝓜 𝓖 𝓡)))

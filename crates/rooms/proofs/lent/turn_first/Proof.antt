@@ -182,10 +182,14 @@ module _ {M : Type 1} (𝓤 : URA M) (H : Heap 𝓤) (A : Atoms 𝓤) (W : Given
     abbrev Lent : ℕ → GName → Fml
     Lent ν δ = MutSlice (named 0) (ν ∷ []) T.the-row .own (front T.the-row (ν ∷ []) l₅ 0 n rows δ) (sliceVal (l₅, 0) (length fr) ∷ [])
 
+    abbrev Rest : ℕ → GName → Fml
+    Rest ν δ = Kept T.the-row (ν ∷ []) l₅ 0 n rows δ
+
     asks : (ν : ℕ) (δ : GName) → ent 𝓤 (sep 𝓤 (sep 𝓤 (A .lft (ν ∷ []) fullShare) (A .lft κ q))
         (sep 𝓤 (sem 𝓤 H A (Lent ν δ)) (sem 𝓤 H A (MutSlice (named 1) κ u8 .own x′ (s′ ∷ []))))) (Turn 𝓤 H A mem run .pre (to-turn ν δ))
     asks ν δ =
-        qed W ((‵ (flft (ν ∷ []) fullShare) ⊛ ‵ (flft κ q)) ∷ ‵ (Lent ν δ) ∷ ‵ (MutSlice (named 1) κ u8 .own x′ (s′ ∷ [])) ∷ []) ∵
+        qed W ((‵ (flft (ν ∷ []) fullShare) ⊛ ‵ (flft κ q)) ∷ ‵ (Lent ν δ)
+        ∷ ‵ (MutSlice (named 1) κ u8 .own x′ (s′ ∷ [])) ∷ []) ∵
         nothing ! $ owned ! usize (Is usize) (uint-makes 𝓤 H A W w64) f _ (refl, f-fits) $ fjoin ! $ move ! (3 ∷ 0 ∷ []) $ fjoin ! $
         move ! (2 ∷ 0 ∷ []) $ fjoin ! $ move ! (1 ∷ []) $ split ! $
         -- [ν's token; κ's token; what is passed]
@@ -193,11 +197,12 @@ module _ {M : Type 1} (𝓤 : URA M) (H : Heap 𝓤) (A : Atoms 𝓤) (W : Given
 
     module _ (C : Calls 𝓤 H) (Λ : Loops 𝓤 H) (fm : FmC 𝓤 H (W .laws) C) (known : Triple 𝓤 (C #rooms·turn) (Turn 𝓤 H A mem run)) where
       turns : {Γ : List (Item 𝓤)} {E : Env 𝓤 H} {P : Kit.Post 𝓤 H} {xs : List Operand} {dst : Place} {rest : Body} (w : Val) → Rows rows w
-          → ((ν : ℕ) (δ : GName) → Opds Go W (raw (Turn 𝓤 H A mem run .pre (to-turn ν δ)) ∷ ‵ (Kept T.the-row (ν ∷ []) l₅ 0 n rows δ) ∷ Γ) E
+          → ((ν : ℕ) (δ : GName) → Opds Go W (raw (Turn 𝓤 H A mem run .pre (to-turn ν δ)) ∷ ‵ (Rest ν δ) ∷ Γ) E
           xs (sliceVal (l₅, 0) (length fr) ∷ s′ ∷ vint w64 f ∷ []))
           → ((w₅ w₆ : Val) (zs : List Room) (ks : List ℕ) (t : TurnAnswer) → Rows (zs ++ drop-list n rows) w₅ → Is R.the-row t (w₆ ∷ [])
           → Turns (record { rows = fr; lists = ls }) f t (record { rows = zs; lists = ks }) → length ks ≡ length ls
-          → Sq W (‵ (fat fullShare (tyArray T′.mir 8) l₅ 0 w₅) ∷ ‵ (flft κ q) ∷ ‵ (finally u8 γ′ ks) ∷ Γ) (lands C Λ E dst w₆ rest P))
+          → Sq W (‵ (fat fullShare (tyArray T′.mir 8) l₅ 0 w₅) ∷ ‵ (flft κ q) ∷ ‵ (finally u8 γ′ ks) ∷ Γ)
+          (lands C Λ E dst w₆ rest P))
           → Sq W (‵ (fat fullShare (tyArray T′.mir 8) l₅ 0 w) ∷ ‵ (flft κ q) ∷ ‵ Own′ ∷ Γ)
           (runs C Λ E (seq (call #rooms·turn xs dst) rest) P)
       unfolding partOf
@@ -207,12 +212,13 @@ module _ {M : Type 1} (𝓤 : URA M) (H : Heap 𝓤) (A : Atoms 𝓤) (W : Given
           rows (w ∷ []) g $ move ! (1 ∷ 0 ∷ []) $ fjoin ! $
           fpack ! (List Val) (λ vs. fsep (cellAt fullShare (Array T.the-row 8 .mir) vs l₅ 0) (Array T.the-row 8 .own rows vs)) (w ∷ []) $
           lft-new ! tt (λ ν. move ! (1 ∷ []) $
-          use1 W (later (some (λ (δ : GName). ‵ (Lent ν δ) ⊛ ‵ (Kept T.the-row (ν ∷ []) l₅ 0 n rows δ))))
+          use1 W (later (some (λ (δ : GName). ‵ (Lent ν δ) ⊛ ‵ (Rest ν δ))))
           (front-lends T.the-row (ν ∷ []) l₅ 0 n rows 𝓤 H A W 8 tt (named 0) (lit< tt, lit< tt)) $ await ! tt $ pick ! (λ δ. split ! $
           -- [what is lent; what is kept; ν's token; κ's token; what lists owns; …]
           move ! (2 ∷ 3 ∷ 0 ∷ 4 ∷ []) $ join ! $ use3 W (raw (Turn 𝓤 H A mem run .pre (to-turn ν δ))) (asks ν δ) $
           calls-at ! fm (Turn 𝓤 H A mem run) known (to-turn ν δ) (os ν δ) (λ w₆.
-          use1 W (later (some (λ (r : TurnAnswer). ((‵ (flft (ν ∷ []) fullShare) ⊛ ‵ (flft κ q) ⊛ ‵ ftrue) ⊛ ‵ (R.the-row .own r (w₆ ∷ [])))
+          use1 W (later (some (λ (r : TurnAnswer).
+          ((‵ (flft (ν ∷ []) fullShare) ⊛ ‵ (flft κ q) ⊛ ‵ ftrue) ⊛ ‵ (R.the-row .own r (w₆ ∷ [])))
           ⊛ raw (ensured 𝓤 H A turn.ended (turn.clauses 𝓤 H A mem run) (ν ∷ [], (κ, tt)) (to-turn ν δ .0 .3) tt r)))) (id⊢ 𝓤 _) $
           await ! tt $ pick ! (λ t.
           split ! $ move ! (1 ∷ []) $ use1 W (some (λ (zs : List Room × (List ℕ × (Unit {0} × Unit {0}))). ‵
@@ -246,8 +252,8 @@ module _ {M : Type 1} (𝓤 : URA M) (H : Heap 𝓤) (A : Atoms 𝓤) (W : Given
         -- [κ's token; what lists owns; …]
         enter ! C Λ code.function (w ∷ vint w64 n ∷ s′ ∷ vint w64 f ∷ []) _ $
         alloc1 ! (λ l₀. alloc1 ! (λ l₁. alloc1 ! (λ l₂. alloc1 ! (λ l₃. alloc1 !
-        (λ l₄. alloc1 ! (λ l₅. alloc1 ! (λ l₆. alloc1 ! (λ l₇. alloc1 ! (λ l₈. alloc1 ! (λ l₉. alloc1 ! (λ l₁₀. alloc1 ! (λ l₁₁. alloc0 ! $
-        params1 ! $
+        (λ l₄. alloc1 ! (λ l₅. alloc1 ! (λ l₆. alloc1 ! (λ l₇. alloc1 !
+        (λ l₈. alloc1 ! (λ l₉. alloc1 ! (λ l₁₀. alloc1 ! (λ l₁₁. alloc0 ! $ params1 ! $
         pass1 ! (init ! 20 refl (array-lawful 𝓤 H A W T.the-row (LL.lawful T.the-type T′.the-laws 𝓤 H A W) 8 .typed rows _ g .0)) $
         pass1 ! (init ! 18 refl (tt, record { fits = n-fits })) $ pass1 ! (init ! 16 refl (tt, (tt, (record { fits = room′ .0 }, tt))))
         $ pass1 ! (init ! 14 refl (tt, record { fits = f-fits })) $ pass0 ! $
