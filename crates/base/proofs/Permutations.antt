@@ -65,7 +65,7 @@ module _ (n : ℕ) (o : ℕ → ℕ) (once : EachOnce n o) where
       ∙ sum-cong n _ _ (λ i below. sum-marked n (f i) (λ x. eqb (o x) i) (once i below)))
 
 -- two functions that differ at k alone
-sum-apart : (n k : ℕ) (f g : ℕ → ℕ) → k < n → ((i : ℕ) → i < n → (i ≡ k → ⊥) → f i ≡ g i) → sum n f + g k ≡ sum n g + f k
+pub sum-apart : (n k : ℕ) (f g : ℕ → ℕ) → k < n → ((i : ℕ) → i < n → (i ≡ k → ⊥) → f i ≡ g i) → sum n f + g k ≡ sum n g + f k
 unfolding sum
 sum-apart zero k f g below alike = absurd (omega arith)
 sum-apart (suc n) k f g below alike =

@@ -17,56 +17,79 @@ use Rattle.jackson.proofs.IntervalWork.{inInterval, in-interval-is, in-
 pub fits-none : (w : Windows) → Fits w → NoOverload w
 fits-none w fits a b o = omega (arith, fits a b, o .exceeds)
 
-module _ (w : Windows) (room : (i : ℕ) → i < w .n → 1 ≤ w .p i → w .r i + w .p i ≤ w .d i) where
-  module _ (a b : ℕ) where
-    -- whether the entry at place i adds to the work of [a, b)
-    abbrev adds : ℕ → Bool
-    adds i = ltb 0 (inInterval w a b i)
+-- a wider interval has no less work
+pub work-wider : (w : Windows) (a b x y : ℕ) → x ≤ a → b ≤ y → work w a b ≤ work w x y
+unfolding work
+work-wider w a b x y left right =
+    work-under w a b (inInterval w x y) (λ i below r d. omega (arith, in-interval-is w x y i (omega arith) (omega arith)))
 
-    -- j and k have the least r and the largest d among those that do
-    module _ (j k : ℕ) (first : Best (w .n) adds (smaller (w .r)) j) (last : Best (w .n) adds (larger (w .d)) k) where
-      spanned : (i : ℕ) → i < w .n → 1 ≤ inInterval w a b i → (w .r j ≤ w .r i) × (w .d i ≤ w .d k)
-      spanned i l some =
-          let z = lt-ltb 0 (inInterval w a b i) some in
-          (best-smallest (w .n) adds (w .r) j first i l z, best-largest (w .n) adds (w .d) k last i l z)
+-- two entries in [a, b), of which the one's r and the other's d have all its work between them
+pub record Spans (w : Windows) (a b i j : ℕ) : Type 0 where
+  pub first : i < w .n
+  pub last : j < w .n
+  pub needs : 1 ≤ w .p i
+  pub from : a ≤ w .r i
+  pub due : w .d j ≤ b
+  pub holds-first : w .d i ≤ w .d j
+  pub no-less : work w a b ≤ work w (w .r i) (w .d j)
 
-      -- no work is lost
-      no-less : work w a b ≤ work w (w .r j) (w .d k)
-      unfolding work
-      no-less = work-under w a b (inInterval w (w .r j) (w .d k)) each
-        where
-          each : (i : ℕ) → i < w .n → a ≤ w .r i → w .d i ≤ b → w .p i ≤ inInterval w (w .r j) (w .d k) i
-          each i l r d =
-              le-or-lt 1 (w .p i)
-              (λ h.
-              let z = spanned i l (omega (arith, in-interval-is w a b i r d)) in
-              omega (arith, in-interval-is w (w .r j) (w .d k) i (z .0) (z .1)))
-              (λ h. omega arith)
+module _ (w : Windows) (a b : ℕ) where
+  -- whether the entry at place i adds to the work of [a, b)
+  abbrev adds : ℕ → Bool
+  adds i = ltb 0 (inInterval w a b i)
 
-      shrunk : b - a < work w a b → Overloaded w (w .r j) (w .d k)
-      shrunk more =
-          let some : 1 ≤ inInterval w a b j = ltb-true _ _ (first .passes) in
-          let u = in-interval-in w a b j some in
-          let v = in-interval-in w a b k (ltb-true _ _ (last .passes)) in
-          let needs : 1 ≤ w .p j = omega (arith, in-interval-le w a b j (w .p j) (λ r d. omega arith)) in
-          let filled : w .r j < w .d j = omega (arith, room j (first .below) needs) in
-          record {
-            earliest = (j, first .below, refl);
-            latest = (k, last .below, refl);
-            interval = omega (arith, spanned j (first .below) some);
-            exceeds = omega (arith, no-less);
-          }
+  -- i and j have the least r and the largest d among those that do
+  module _ (i j : ℕ) (first : Best (w .n) adds (smaller (w .r)) i) (last : Best (w .n) adds (larger (w .d)) j) where
+    spanned : (x : ℕ) → x < w .n → 1 ≤ inInterval w a b x → (w .r i ≤ w .r x) × (w .d x ≤ w .d j)
+    spanned x l some =
+        let z = lt-ltb 0 (inInterval w a b x) some in
+        (best-smallest (w .n) adds (w .r) i first x l z, best-largest (w .n) adds (w .d) j last x l z)
 
-    -- if [a, b) has more work than minutes, an interval between an earliest and a latest minute is overloaded
-    some-overloaded : b - a < work w a b → (x : ℕ) × (y : ℕ) × Overloaded w x y
+    -- no work is lost
+    each : (x : ℕ) → x < w .n → a ≤ w .r x → w .d x ≤ b → w .p x ≤ inInterval w (w .r i) (w .d j) x
+    each x l r d =
+        le-or-lt 1 (w .p x)
+        (λ h.
+        let z = spanned x l (omega (arith, in-interval-is w a b x r d)) in
+        omega (arith, in-interval-is w (w .r i) (w .d j) x (z .0) (z .1)))
+        (λ h. omega arith)
+
+    best-spans : Spans w a b i j
     unfolding work
-    some-overloaded more =
-        let z = some-term (w .n) (inInterval w a b) (omega arith) in
-        let t : adds (z .0) ≡ true = lt-ltb _ _ (z .2) in
-        let first = best-some (w .n) adds _ (smaller-ranks (w .r)) (w .n) (omega arith) (z .0) (z .1) t in
-        let last = best-some (w .n) adds _ (larger-ranks (w .d)) (w .n) (omega arith) (z .0) (z .1) t in
-        (_, _, shrunk _ _ first last more)
+    best-spans =
+        let some : 1 ≤ inInterval w a b i = ltb-true _ _ (first .passes) in
+        record {
+          first = first .below;
+          last = last .below;
+          needs = omega (arith, in-interval-le w a b i (w .p i) (λ r d. omega arith));
+          from = in-interval-in w a b i some .0;
+          due = in-interval-in w a b j (ltb-true _ _ (last .passes)) .1;
+          holds-first = spanned i (first .below) some .1;
+          no-less = work-under w a b (inInterval w (w .r i) (w .d j)) each;
+        }
+
+  -- work has two such entries
+  pub work-spans : 1 ≤ work w a b → (i : ℕ) × (j : ℕ) × Spans w a b i j
+  unfolding work
+  work-spans some =
+      let z = some-term (w .n) (inInterval w a b) some in
+      let t : adds (z .0) ≡ true = lt-ltb _ _ (z .2) in
+      let first = best-some (w .n) adds _ (smaller-ranks (w .r)) (w .n) (omega arith) (z .0) (z .1) t in
+      let last = best-some (w .n) adds _ (larger-ranks (w .d)) (w .n) (omega arith) (z .0) (z .1) t in
+      (_, _, best-spans _ _ first last)
+
+module _ (w : Windows) (room : (i : ℕ) → i < w .n → 1 ≤ w .p i → w .r i + w .p i ≤ w .d i) where
+  -- if [a, b) has more work than minutes, the interval between them is overloaded
+  shrunk : (a b i j : ℕ) → Spans w a b i j → b - a < work w a b → Overloaded w (w .r i) (w .d j)
+  shrunk a b i j spans more =
+      record {
+        earliest = (i, spans .first, refl);
+        latest = (j, spans .last, refl);
+        interval = omega (arith, room i (spans .first) (spans .needs), spans .holds-first, spans .needs);
+        exceeds = omega (arith, spans .no-less, spans .from, spans .due);
+      }
 
   pub none-fits : NoOverload w → Fits w
   none-fits none a b =
-      le-or-lt (work w a b) (b - a) (λ h. h) (λ more. let z = some-overloaded a b more in absurd (none (z .0) (z .1) (z .2)))
+      le-or-lt (work w a b) (b - a) (λ h. h)
+      (λ more. let z = work-spans w a b (omega arith) in absurd (none _ _ (shrunk a b (z .0) (z .1) (z .2) more)))

@@ -11,11 +11,11 @@ pub mod MirrorMinutes
 pub mod StoredPlans
 -- The law that a plan exists exactly without overload: its steps, its form for windows and its form for lists. The crates above are to
 -- cite Law and ListLaws, OneSchedule, and RunningDays and Schedules for days that are running.
-mod IntervalWork
+pub mod IntervalWork
 mod OneMinute
 mod PlanWork
 pub mod RunningDays
-mod Endpoints
+pub mod Endpoints
 pub mod Choices
 pub mod ShownInterval
 pub mod Schedules

@@ -1,0 +1,2 @@
+-- The work of an entry in another window, and of the others.
+pub mod OtherWork
