@@ -1,16 +1,16 @@
 -- The search for an entry's least start by edge-finding (source documents 002 and 004), over windows alone: it asks for no plan. That it
 -- finds the least start that has one is `StartLaw` of Laws.antt.
 use Prim.Native.Nat.{ℕ, zero, suc, _+_, _-_, min}
-use mathlib.Core.Bool.{cond, _&&_}
+use mathlib.Core.Bool.{Bool, true, cond, _&&_}
 use lib.Dec.{eqb, leb, ltb}
-use Rattle.jackson.specs.Windows.{Windows, withLeft, put}
+use Rattle.jackson.specs.Windows.{Windows, put}
 use Rattle.jackson.specs.RunningSums.{entered}
 use Rattle.edges.specs.declared.types.Found.{Found}
 use Rattle.edges.specs.declared.types.Found.the-variants.{Minute, NoMinute}
 
--- the windows in which entry k needs no minutes: their work is that of the others
+-- the windows in which entry k needs no minutes: their work is that of the others. Work and intervals ask for no H.
 abbrev pub others : Windows → ℕ → Windows
-others w k = withLeft w (put k 0 (w .p))
+others w k = record { h = 0; n = w .n; r = w .r; d = w .d; p = put k 0 (w .p) }
 
 -- One left end a of a right end b, where the others have so much work in [a, b): if that work and p minutes more, from a or from the
 -- start s on, do not end by b, then the p minutes begin when the work is done, at a + work or later.
@@ -24,29 +24,30 @@ raised v o b p (suc x) s =
     let t = raised v o b p x s in
     cond (leb (v .d (o x)) b) (jumped b p (v .r (o x)) (entered v o b (v .p) (suc x)) t) t
 
--- One pass: the start after the right ends of the first j places, of those above the start and below the limit.
-unfoldable pub passed : Windows → (ℕ → ℕ) → ℕ → ℕ → ℕ → ℕ → ℕ
-passed v o p limit zero s = s
-passed v o p limit (suc j) s =
-    let t = passed v o p limit j s in
-    let b = v .d j in
-    cond (ltb t b && ltb b limit) (raised v o b p (v .n) t) t
+-- Whether the right end b is asked for an entry with this d: as long as the start is its r only those before d, since the windows as they
+-- stand have room for the entry there.
+abbrev pub asks : Bool → ℕ → ℕ → Bool
+asks unmoved d b = cond unmoved (ltb b d) true
 
--- From its r an entry need not ask right ends from its d on: the windows as they stand have room for it there. All right ends have 16 bits.
-abbrev pub limitAt : ℕ → ℕ → ℕ → ℕ
-limitAt r d s = cond (eqb s r) d 65536
+-- One pass: the start after the right ends of the first j places, as far as they are above the start and asked.
+unfoldable pub passed : Windows → (ℕ → ℕ) → ℕ → Bool → ℕ → ℕ → ℕ → ℕ
+passed v o p unmoved d zero s = s
+passed v o p unmoved d (suc j) s =
+    let t = passed v o p unmoved d j s in
+    let b = v .d j in
+    cond (ltb t b && asks unmoved d b) (raised v o b p (v .n) t) t
 
 -- Passes from the start s on, until one changes nothing or the window [r, d) is used up. A pass that changes the start passes one at
 -- least, so one pass more than there are starts is enough.
-unfoldable pub search : Windows → (ℕ → ℕ) → ℕ → ℕ → ℕ → ℕ → ℕ → Found
-search v o r d p zero s = NoMinute
-search v o r d p (suc fuel) s =
+unfoldable pub startFrom : Windows → (ℕ → ℕ) → ℕ → ℕ → ℕ → ℕ → ℕ → Found
+startFrom v o r d p zero s = NoMinute
+startFrom v o r d p (suc fuel) s =
     cond (ltb d (s + p)) NoMinute
-    (let t = passed v o p (limitAt r d s) (v .n) s in
-    cond (eqb t s) (Minute s) (search v o r d p fuel t))
+    (let t = passed v o p (eqb s r) d (v .n) s in
+    cond (eqb t s) (Minute s) (startFrom v o r d p fuel t))
 
 -- the search for entry k of the windows w, in this order of the places; a place that is n or more has no start
 unfoldable pub startByJumps : Windows → (ℕ → ℕ) → ℕ → Found
 startByJumps w o k =
     let fuel = suc (suc (w .d k) - (w .r k + w .p k)) in
-    cond (ltb k (w .n)) (search (others w k) o (w .r k) (w .d k) (w .p k) fuel (w .r k)) NoMinute
+    cond (ltb k (w .n)) (startFrom (others w k) o (w .r k) (w .d k) (w .p k) fuel (w .r k)) NoMinute

@@ -1,0 +1,88 @@
+-- The loop's invariant is the pass so far; the measure is what is left of the right ends.
+-- Assumes nothing.
+use borrow.Author.Needs.{needs}
+use Prim.Native.Nat.{_-_}
+use native.Mathlib.Omega.{arith}
+use Rattle.order.specs.Orders.{valueAt}
+use Rattle.edges.specs.Internal.{entriesIn}
+use borrow.Author.Tests.{not-true, not-false}
+use Rattle.edges.proofs.StartCases.{Passing, passing-none, passing-low, passing-not, passing-row, passed-all}
+use Rattle.edges.proofs.starts.pass.Statement.{statement}
+use Rattle.edges.proofs.starts.pass.Tie as tie
+
+abbrev Inv-loop : tie.InvT-loop
+Inv-loop count r d minutes order p unmoved last start s₀ j₀ s j =
+    Passing (entriesIn count r d minutes) (valueAt order) p unmoved last start j s
+
+abbrev μ-loop : tie.MeasureT-loop
+μ-loop count r d minutes order p unmoved last start s₀ j₀ s j = count - j
+
+loop-holds : tie.Need-loop-holds Inv-loop μ-loop
+loop-holds c = passing-none _ _ _ _ _ _
+
+mul-b : tie.Need-mul-b Inv-loop μ-loop
+mul-b c = search needs
+
+element-copy-out-b : tie.Need-element-copy-out-b Inv-loop μ-loop
+element-copy-out-b c = search needs
+
+add-j : tie.Need-add-j Inv-loop μ-loop
+add-j c = search needs
+
+wide-requires : tie.Need-wide-requires Inv-loop μ-loop
+wide-requires c κs = search needs
+
+loop-less : tie.Need-loop-less Inv-loop μ-loop
+loop-less c = search needs
+
+loop-again : tie.Need-loop-again Inv-loop μ-loop
+loop-again c =
+    passing-low _ _ _ _ _ _ _ _ (c .before .before .before .before .loop .inv) (c .before .before .before .loop-test .taken) (omega (arith, c .if1 .taken, c .before .wide .ensures))
+
+is-asked-requires : tie.Need-is-asked-requires Inv-loop μ-loop
+is-asked-requires c κs = search needs
+
+loop-less-2 : tie.Need-loop-less-2 Inv-loop μ-loop
+loop-less-2 c = search needs
+
+loop-again-2 : tie.Need-loop-again-2 Inv-loop μ-loop
+loop-again-2 c =
+    passing-not _ _ _ _ _ _ _ _ (c .before .before .before .before .before .before .loop .inv) (c .before .before .before .before .before .loop-test .taken)
+    (omega (arith, c .before .before .if1 .left, c .before .before .before .wide .ensures)) _ (c .before .is-asked .ensures)
+    (not-true _ (c .if2 .taken))
+
+raise-requires : tie.Need-raise-requires Inv-loop μ-loop
+raise-requires c κs = search needs
+
+loop-less-3 : tie.Need-loop-less-3 Inv-loop μ-loop
+loop-less-3 c = search needs
+
+loop-again-3 : tie.Need-loop-again-3 Inv-loop μ-loop
+loop-again-3 c =
+    rw (c .raise .ensures)
+    (passing-row _ _ _ _ _ _ _ _ (c .before .before .before .before .before .before .before .loop .inv) (c .before .before .before .before .before .before .loop-test .taken)
+    (omega (arith, c .before .before .before .if1 .left, c .before .before .before .before .wide .ensures)) _ (c .before .before .is-asked .ensures) (not-false _ (c .before .if2 .left)))
+
+returns : tie.Need-returns Inv-loop μ-loop
+returns c = passed-all _ _ _ _ _ _ _ _ (c .before .loop .inv) (c .loop-test .left)
+
+pub pass-spec : {M : Type 1} → statement M
+pass-spec =
+    tie.close
+    (tie.spec
+    Inv-loop
+    μ-loop
+    loop-holds
+    mul-b
+    element-copy-out-b
+    add-j
+    wide-requires
+    loop-less
+    loop-again
+    is-asked-requires
+    loop-less-2
+    loop-again-2
+    raise-requires
+    loop-less-3
+    loop-again-3
+    returns)

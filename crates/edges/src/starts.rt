@@ -1,0 +1,185 @@
+// The search for an entry's least start by jumps.
+use crate::types::Found;
+use jackson::types::WindowSet;
+use list::places_held;
+use list::types::ENTRIES;
+use order::largest_first;
+ghost use mathlib.Core.Path.{_≡_};
+ghost use Prim.Native.Nat.{_+_, _<_, _≤_, min};
+ghost use lib.Dec.{eqb, ltb};
+ghost use Rattle.list.specs.DayLists.{mostEntries};
+ghost use Rattle.order.specs.Orders.{valueAt};
+ghost use Rattle.jackson.specs.Windows.{windowsIn};
+ghost use Rattle.edges.specs.Starts.{jumped, raised, asks, passed};
+ghost use Rattle.edges.specs.Calls.{FindsStart};
+ghost use Rattle.edges.specs.Internal.{entriesIn, ListsPlaces, Enters};
+
+// A row of left ends so far: the work that entered, and the start.
+pub(crate) struct Row {
+    pub work: u32,
+    pub start: u32,
+}
+
+fn wide(x: u16) -> u32
+    ensures { λ y. ⌜ y ≡ x ⌝ }
+{
+    x as u32
+}
+
+// The smaller of a left end and a start.
+fn earlier(a: u16, s: u32) -> u32
+    ensures { λ x. ⌜ x ≡ min a s ⌝ }
+{
+    if wide(a) <= s { wide(a) } else { s }
+}
+
+// The start after the left end a, from where on so much work has to be done by b.
+fn jump(b: u16, p: u16, a: u16, work: u32, s: u32) -> u32
+    requires { ⌜ work ≤ 4194240 ⌝ }
+    ensures { λ t. ⌜ t ≡ jumped b p a work s ⌝ }
+{
+    let done = wide(a) + work;
+    if done <= s {
+        return s;
+    }
+    if earlier(a, s) + work + wide(p) <= wide(b) {
+        return s;
+    }
+    done
+}
+
+// A box of the others enters, with its r and minutes.
+fn enter(b: u16, p: u16, r: u16, minutes: u16, row: Row) -> Row
+    requires { ⌜ row .work ≤ 4128705 ⌝ }
+    ensures { λ next. ⌜ Enters b p r minutes row next ⌝ }
+{
+    let work = row.work + wide(minutes);
+    Row {
+        work: work,
+        start: jump(b, p, r, work, row.start),
+    }
+}
+
+// One right end: the left end walks down, and the start jumps over what its work bars.
+fn raise(
+    count: usize,
+    r: &[u16; ENTRIES],
+    d: &[u16; ENTRIES],
+    minutes: &[u16; ENTRIES],
+    order: &[usize; ENTRIES],
+    b: u16,
+    p: u16,
+    start: u32,
+) -> u32
+    requires { ⌜ count ≤ mostEntries ⌝ }
+    requires { ⌜ ListsPlaces count (now order) ⌝ }
+    ensures { λ s. ⌜ s ≡ raised (entriesIn count (now (r .entry)) (now (d .entry)) (now (minutes .entry))) (valueAt (now (order .entry))) b p count start ⌝ }
+{
+    let mut row = Row {
+        work: 0,
+        start: start,
+    };
+    let mut x: usize = 0;
+    while x < count {
+        let i = order[x];
+        x += 1;
+        if b < d[i] {
+            continue;
+        }
+        row = enter(b, p, r[i], minutes[i], row);
+    }
+    row.start
+}
+
+// Whether the right end b is asked for an entry with this d: as long as the start is its r only those before d.
+fn is_asked(unmoved: bool, d: u16, b: u16) -> bool
+    ensures { λ x. ⌜ x ≡ asks unmoved d b ⌝ }
+{
+    if unmoved { b < d } else { true }
+}
+
+// One pass: the rows of all right ends that are above the start and asked.
+fn pass(
+    count: usize,
+    r: &[u16; ENTRIES],
+    d: &[u16; ENTRIES],
+    minutes: &[u16; ENTRIES],
+    order: &[usize; ENTRIES],
+    p: u16,
+    unmoved: bool,
+    last: u16,
+    start: u32,
+) -> u32
+    requires { ⌜ count ≤ mostEntries ⌝ }
+    requires { ⌜ ListsPlaces count (now order) ⌝ }
+    ensures { λ s. ⌜ s ≡ passed (entriesIn count (now (r .entry)) (now (d .entry)) (now (minutes .entry))) (valueAt (now (order .entry))) p unmoved last count start ⌝ }
+{
+    let mut s = start;
+    let mut j: usize = 0;
+    while j < count {
+        let b = d[j];
+        j += 1;
+        if wide(b) <= s {
+            continue;
+        }
+        if !is_asked(unmoved, last, b) {
+            continue;
+        }
+        s = raise(count, r, d, minutes, order, b, p, s);
+    }
+    s
+}
+
+// Whether the start is still the entry's r.
+fn is_at(s: u32, r: u16) -> bool
+    ensures { λ x. ⌜ x ≡ eqb s r ⌝ }
+{
+    s == wide(r)
+}
+
+// Whether p minutes from s on do not end by d. That d has 16 bits, an array does not tell the caller.
+fn is_used_up(d: u16, s: u32, p: u16) -> bool
+    ensures { λ x. ⌜ x ≡ ltb d (s + p) ⌝ }
+    ensures { λ _. ⌜ d ≤ 65535 ⌝ }
+{
+    (d as u64) < s as u64 + p as u64
+}
+
+// The least start of entry k, from its r up: "the search ends at the first start that has a plan". Starts that have none are jumped over.
+pub fn least_start(windows: WindowSet, k: usize) -> Found
+    ensures { λ f. ⌜ FindsStart (windowsIn windows) k f ⌝ }
+{
+    let count = places_held(windows.n);
+    if count <= k {
+        return Found::NoMinute;
+    }
+    let r = windows.r;
+    let d = windows.d;
+    let mut minutes = windows.p;
+    let first = r[k];
+    let last = d[k];
+    let p = minutes[k];
+    minutes[k] = 0;
+    let order = largest_first(windows.n, &r);
+    let mut s = wide(first);
+    loop {
+        if is_used_up(last, s, p) {
+            break Found::NoMinute;
+        }
+        let next = pass(
+            count,
+            &r,
+            &d,
+            &minutes,
+            &order,
+            p,
+            is_at(s, first),
+            last,
+            s,
+        );
+        if next == s {
+            break Found::Minute(s as u16);
+        }
+        s = next;
+    }
+}
