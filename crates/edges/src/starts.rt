@@ -166,17 +166,7 @@ pub fn least_start(windows: WindowSet, k: usize) -> Found
         if is_used_up(last, s, p) {
             break Found::NoMinute;
         }
-        let next = pass(
-            count,
-            &r,
-            &d,
-            &minutes,
-            &order,
-            p,
-            is_at(s, first),
-            last,
-            s,
-        );
+        let next = pass(count, &r, &d, &minutes, &order, p, is_at(s, first), last, s);
         if next == s {
             break Found::Minute(s as u16);
         }

@@ -16,6 +16,7 @@ use Rattle.list.specs.declared.types.Verdict.the-variants.{Accepted, Refused}
 use Rattle.base.proofs.Inversion.{answered-refused}
 use Rattle.list.proofs.Verdicts.{by-accepted, by-refused}
 use Rattle.jackson.specs.Windows.{windowsOf, columns, windowsIn, roomFault, Formed}
+use Rattle.jackson.specs.Plans.{Plannable}
 use Rattle.jackson.specs.Intervals.{overloadOf}
 use Rattle.jackson.specs.Calls.{Holds}
 use Rattle.jackson.specs.declared.types.WindowSet.{WindowSet}
@@ -33,16 +34,26 @@ use Rattle.narrow.proofs.NarrowLaws.{narrow-law}
 use Rattle.narrow.proofs.OverloadPlanner.{overload-planner}
 use Rattle.narrow.proofs.ListAnswers.{answers-refused, settles, makes-round}
 
--- windows with room can be counted on: a day has at most 65,535 minutes, and the arrays 64 places
-pub room-countable : (whole : ℕ → Bool) (s : WindowSet) → s .h < 65536 → Formed (windowsIn s) → Countable whole s 0
-room-countable whole s short formed = record { formed = formed; few = omega (arith, sum-most (windowsIn s .n) 65535 _ each) }
-  where
-    each : (i : ℕ) → i < windowsIn s .n → cond (whole i) (windowsIn s .d i - (windowsIn s .r i + windowsIn s .p i)) 0 ≤ 65535
-    each i h = go (whole i)
-      where
-        go : (t : Bool) → cond t (windowsIn s .d i - (windowsIn s .r i + windowsIn s .p i)) 0 ≤ 65535
-        go true = omega (arith, formed .in-day i h, short)
-        go false = omega arith
+-- what the overload test says of windows with room
+module _ (s : WindowSet) (formed : Formed (windowsIn s)) (t : Verdict) (tested : verdictOf t ≡ overloadOf (windowsIn s)) where
+  -- where they have a plan they can be counted on: a day has at most 65,535 minutes, and the arrays 64 places
+  pub test-countable : (whole : ℕ → Bool) → t ≡ Accepted → s .h < 65536 → Countable whole s 0
+  test-countable whole e short =
+      record {
+        formed = formed;
+        planned = overload-planner .exact (windowsIn s) formed .1 (by-accepted tested e);
+        few = omega (arith, sum-most (windowsIn s .n) 65535 _ each);
+      }
+    where
+      each : (i : ℕ) → i < windowsIn s .n → cond (whole i) (windowsIn s .d i - (windowsIn s .r i + windowsIn s .p i)) 0 ≤ 65535
+      each i h = go (whole i)
+        where
+          go : (t : Bool) → cond t (windowsIn s .d i - (windowsIn s .r i + windowsIn s .p i)) 0 ≤ 65535
+          go true = omega (arith, formed .in-day i h, short)
+          go false = omega arith
+
+  pub test-unplanned : (x : Refusal) → t ≡ Refused x → Plannable (windowsIn s) → ⊥
+  test-unplanned x e plan = answered-refused (overload-planner .exact (windowsIn s) formed .0 plan) (by-refused tested e)
 
 -- What `narrow_windows` answers.
 module _ (whole : ℕ → Bool) (s : WindowSet) where
@@ -79,10 +90,10 @@ module _ (whole : ℕ → Bool) (s : WindowSet) where
     windows-without-room x e = stopped fault x e (rw (by-refused says e) refl)
 
     module _ (e : fault ≡ Accepted) where
-      pub windows-countable : s .h < 65536 → Countable whole s 0
-      windows-countable short = room-countable whole s short (room-passed fault says e)
-
       module _ (t : Verdict) (tested : verdictOf t ≡ overloadOf (windowsIn s)) where
+        pub windows-countable : t ≡ Accepted → s .h < 65536 → Countable whole s 0
+        windows-countable = test-countable s (room-passed fault says e) t tested whole
+
         pub windows-overloaded : (x : Refusal) → t ≡ Refused x → (a : WindowsAnswer) → a ≡ record { verdict = t; windows = s; moves = 0 }
             → NarrowsWindows whole s a
         unfolding narrowWindows narrowing
@@ -155,8 +166,8 @@ module _ (l : DayList) (v : Verdict) (checked : verdictOf v ≡ checkOf l) where
 
     -- with the marks of the whole entries and the windows of the list
     module _ (marks : List Bool) (kinds : marked marks ≡ wholeIn l) (s : WindowSet) (holds : Holds l s) where
-      pub list-countable : s .h < 65536 → Countable (marked marks) s 0
-      list-countable short = room-countable (marked marks) s short (rw (holds .windows) (list-formed l check-passed))
+      pub list-room : Formed (windowsIn s)
+      list-room = rw (holds .windows) (list-formed l check-passed)
 
       module _ (a : NarrowAnswer) (found : WindowsAnswer) (answers : AnswersAs l (narrowedOf found) a) where
         pub settle-found : NarrowsWindows (marked marks) s found → Settles l a

@@ -23,8 +23,8 @@ pub mod Alike
 pub mod ListWindows
 pub mod ListAnswers
 -- What the code's proofs cite, case by case.
-mod SearchCases
 mod RoundCases
 mod VisitCases
+mod UnplannedCases
 mod ListCases
 mod CallCases

@@ -9,22 +9,50 @@ use Rattle.base.specs.Outcomes.{Code, answered, refused}
 use Rattle.list.specs.Refusals.{outcomeOf}
 use Rattle.list.specs.declared.types.Verdict.{Verdict}
 use Rattle.list.specs.declared.types.Verdict.the-variants.{Accepted, Refused}
-use Rattle.jackson.specs.Windows.{Windows, columns, windowsIn, withR, Searchable}
+use Rattle.jackson.specs.Windows.{Windows, columns, windowsIn, withR}
 use Rattle.jackson.specs.Mirrors.{mirror}
 use Rattle.jackson.specs.Intervals.{overloadOf}
 use Rattle.jackson.specs.declared.types.WindowSet.{WindowSet}
 use Rattle.base.proofs.Sums.{same-cases}
-use Rattle.narrow.specs.Searching.{Test, leastStart}
+use Rattle.narrow.specs.Searching.{Test, leastStart, SearchLaw}
 use Rattle.narrow.specs.Rounds.{earliest, latest, Narrowed, moved, movesOf, narrowSide}
-use Rattle.narrow.specs.Internal.{narrowedBy}
+use Rattle.narrow.specs.Internal.{foundOf, narrowedBy, Visitable}
 use Rattle.narrow.specs.Calls.{narrowedOf}
 use Rattle.narrow.specs.declared.types.WindowsAnswer.{WindowsAnswer}
 use Rattle.narrow.proofs.OverloadPlanner.{overload-planner}
 use Rattle.jackson.proofs.Puts.{put-same}
-use Rattle.jackson.proofs.MirrorWindows.{formed-mirror}
+use Rattle.jackson.proofs.MirrorWindows.{formed-mirror, plannable-mirror}
 use Rattle.narrow.proofs.MirrorSides.{mirrorState, mirrorOutcome, side-by-mirror}
 use Rattle.narrow.proofs.Costs.{moved-same}
 use Rattle.jackson.proofs.ArrayCases.{held-r}
+use Rattle.edges.specs.Laws.{StartLaw}
+use Rattle.edges.specs.Calls.{FindsStart}
+use Rattle.edges.specs.declared.types.Found.{Found}
+use Rattle.edges.specs.declared.types.Found.the-variants.{Minute, NoMinute}
+use Rattle.narrow.proofs.Exact.{search-law}
+
+-- what the search by jumps finds is what document 01's search answers
+pub jumps-least : (s : WindowSet) (k : ℕ) → Visitable s k → (f : Found) → FindsStart (windowsIn s) k f
+    → foundOf k f ≡ leastStart overloadOf (windowsIn s) k
+jumps-least s k ready f finds = go f (finds .law (ready .formed) (ready .planned) (ready .place))
+  where
+    exact : SearchLaw overloadOf (windowsIn s) k
+    exact = search-law overload-planner (windowsIn s) (ready .formed) k (ready .place)
+
+    go : (f : Found) → StartLaw (windowsIn s) k f → foundOf k f ≡ leastStart overloadOf (windowsIn s) k
+    go (Minute x) found =
+        sym
+        (exact .start-is x .1
+        (record {
+          from-r = found .from-r;
+          room = found .room;
+          plan = found .plan;
+          least = λ y from less. found .least y from less (omega (arith, less, found .room));
+        }))
+    go NoMinute none =
+        sym
+        (exact .no-start .1
+        (λ x from room. none x from (omega (arith, room, ready .formed .minutes k (ready .place))) room))
 
 pub moved-none : (x y : ℕ) → x ≡ y → 0 ≡ moved x y
 moved-none x y e = rw (eq-eqb x y e)
@@ -56,12 +84,16 @@ pub placed-r : (s : WindowSet) (moves k x m : ℕ) → k < length (s .r) → m �
 placed-r s moves k x m h e found = rw (e, held-r s k x h) (sym (start-found overloadOf k (narrowedBy s moves) x found))
 
 -- The search for d, as code makes it: that for r in the mirror t of the windows s.
-module _ (s t : WindowSet) (moves k : ℕ) (mirrors : windowsIn t ≡ mirror (windowsIn s)) (ready : Searchable s k) where
+module _ (s t : WindowSet) (moves k : ℕ) (mirrors : windowsIn t ≡ mirror (windowsIn s)) (ready : Visitable s k) where
   -- the mirror can be searched
-  pub mirror-searchable : Searchable t k
-  mirror-searchable =
+  pub mirror-visitable : Visitable t k
+  mirror-visitable =
       let count : windowsIn t .n ≡ windowsIn s .n = ap (λ (w : Windows). w .n) mirrors in
-      record { formed = rw mirrors (formed-mirror (windowsIn s) (ready .formed)); place = omega (arith, ready .place, count) }
+      record {
+        formed = rw mirrors (formed-mirror (windowsIn s) (ready .formed));
+        place = omega (arith, ready .place, count);
+        planned = rw mirrors (plannable-mirror (windowsIn s) (ready .planned));
+      }
 
   -- what it leaves is mirrored back to u
   pub mirror-placed : (a : WindowsAnswer) → narrowedOf a ≡ narrowSide overloadOf earliest k (narrowedBy t moves)

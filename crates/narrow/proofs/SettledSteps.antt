@@ -182,6 +182,15 @@ module _ {test : Test} (planner : Planner test) (whole : ℕ → Bool) where
   pub round-narrows : (s : Narrowed) → Formed (s .windows) → NarrowsOr whole (s .windows) (round test whole s)
   round-narrows s formed = visits-narrow (s .windows .n) s formed (omega arith)
 
+  -- what they leave has a plan, if the windows given had one
+  pub side-planned : (side : Side) (s : Narrowed) → Formed (s .windows) → (k : ℕ) → k < s .windows .n → whole k ≡ true
+      → Plannable (s .windows) → (v : Narrowed) → narrowSide test side k s ≡ answered v → Plannable (v .windows)
+  side-planned side s formed k place is-whole planned v e = (rw e at (side-narrows side s formed k place is-whole)) .plannable planned
+
+  pub visits-planned : (k : ℕ) (s : Narrowed) → Formed (s .windows) → k ≤ s .windows .n → Plannable (s .windows) → (v : Narrowed)
+      → visits test whole k s ≡ answered v → Plannable (v .windows)
+  visits-planned k s formed most planned v e = (rw e at (visits-narrow k s formed most)) .plannable planned
+
   pub rounds-narrow : (fuel : ℕ) (s : Narrowed) → Formed (s .windows) → NarrowsOr whole (s .windows) (rounds test whole fuel s)
   unfolding rounds
   rounds-narrow zero s formed = narrows-same (s .windows) formed

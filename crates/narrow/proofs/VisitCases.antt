@@ -12,18 +12,20 @@ use Rattle.list.specs.Refusals.{codeOf}
 use Rattle.list.specs.declared.types.Refusal.{Refusal}
 use Rattle.list.specs.declared.types.Verdict.the-variants.{Accepted, Refused}
 use Rattle.base.proofs.Inversion.{Says}
-use Rattle.jackson.specs.Windows.{Windows, windowsIn, Searchable}
+use Rattle.jackson.specs.Windows.{Windows, windowsIn}
 use Rattle.jackson.specs.Intervals.{overloadOf}
 use Rattle.jackson.specs.declared.types.WindowSet.{WindowSet}
 use Rattle.base.proofs.Sums.{le-or-lt}
 use Rattle.narrow.specs.Searching.{Test}
 use Rattle.narrow.specs.Rounds.{Side, earliest, latest, Narrowed, step, counted, narrowSide, visit, visits, round, rounds, allRounds}
 use Rattle.narrow.specs.Rounds.{slack}
-use Rattle.narrow.specs.Internal.{narrowedBy, Countable}
+use Rattle.narrow.specs.Internal.{narrowedBy, Visitable, Countable}
 use Rattle.narrow.specs.Calls.{narrowedOf}
 use Rattle.narrow.specs.declared.types.WindowsAnswer.{WindowsAnswer}
 use Rattle.narrow.proofs.StepsKeep.{keeps-n}
 use Rattle.narrow.proofs.Costs.{Costs, side-cost, visits-cost, round-cost}
+use Rattle.narrow.proofs.OverloadPlanner.{overload-planner}
+use Rattle.narrow.proofs.SettledSteps.{side-planned, visits-planned}
 use Rattle.narrow.proofs.RoundCases.{moved-one}
 
 -- a search adds at most two to the moves: one for each side, of which it changes one
@@ -43,7 +45,7 @@ unfolding visit
 visit-passed s k whole pause = rw pause
 
 -- a whole one, after its first search
-module _ (s : WindowSet) (moves k : ℕ) (ready : Searchable s k) (whole : Bool) (is-whole : whole ≡ true) (a : WindowsAnswer)
+module _ (s : WindowSet) (moves k : ℕ) (ready : Visitable s k) (whole : Bool) (is-whole : whole ≡ true) (a : WindowsAnswer)
     (is : narrowedOf a ≡ narrowSide overloadOf earliest k (narrowedBy s moves)) where
   started : a .verdict ≡ Accepted → narrowSide overloadOf earliest k (narrowedBy s moves) ≡ answered (narrowedBy (a .windows) (a .moves))
   started e = rw e at (sym is)
@@ -55,10 +57,16 @@ module _ (s : WindowSet) (moves k : ℕ) (ready : Searchable s k) (whole : Bool)
       rw (is-whole, z, e)
 
   module _ (e : a .verdict ≡ Accepted) where
-    pub visit-on : Searchable (a .windows) k
+    pub visit-on : Visitable (a .windows) k
     visit-on =
         let cost = side-cost overloadOf (λ _. true) (narrowedBy s moves) (ready .formed) earliest k (ready .place) refl _ (started e) in
-        record { formed = cost .keeps .formed; place = omega (arith, keeps-n (cost .keeps), ready .place) }
+        record {
+          formed = cost .keeps .formed;
+          place = omega (arith, keeps-n (cost .keeps), ready .place);
+          planned =
+              side-planned overload-planner (λ _. true) earliest (narrowedBy s moves) (ready .formed) k (ready .place) refl
+              (ready .planned) _ (started e);
+        }
 
     pub visit-moves : a .moves ≤ moves + 2
     visit-moves = rw (started e) at (side-moves overloadOf earliest k (narrowedBy s moves))
@@ -69,7 +77,7 @@ module _ (s : WindowSet) (moves k : ℕ) (ready : Searchable s k) (whole : Bool)
     visit-ends b last = rw (is-whole, started e) last
 
 -- a refusal of earlier visits stays
-visits-stay : (test : Test) (whole : ℕ → Bool) (s : Narrowed) (x : Code) (k n : ℕ) → k ≤ n → visits test whole k s ≡ refused x
+pub visits-stay : (test : Test) (whole : ℕ → Bool) (s : Narrowed) (x : Code) (k n : ℕ) → k ≤ n → visits test whole k s ≡ refused x
     → visits test whole n s ≡ refused x
 unfolding visits
 visits-stay test whole s x k zero h e = let z : k ≡ 0 = omega arith in rw z at e
@@ -100,8 +108,14 @@ module _ (whole : ℕ → Bool) (s : WindowSet) (moves : ℕ) (ready : Countable
       cost = visits-cost overloadOf whole (narrowedBy s moves) (ready .formed) k (omega arith) _ (v .so)
 
       -- the next place can be visited, and its moves be counted
-      pub next-ready : Searchable (now .windows) k
-      next-ready = record { formed = cost .keeps .formed; place = omega (arith, keeps-n (cost .keeps), h) }
+      pub next-ready : Visitable (now .windows) k
+      next-ready =
+          record {
+            formed = cost .keeps .formed;
+            place = omega (arith, keeps-n (cost .keeps), h);
+            planned =
+                visits-planned overload-planner whole k (narrowedBy s moves) (ready .formed) (omega arith) (ready .planned) _ (v .so);
+          }
 
       pub next-few : now .moves < 4294967290
       next-few = omega (arith, cost .bounded, ready .few)
@@ -166,6 +180,9 @@ module _ (whole : ℕ → Bool) (given : WindowSet) where
               ready =
                   record {
                     formed = cost-of .keeps .formed;
+                    planned =
+                        visits-planned overload-planner whole _ (narrowedBy now moves) (so .ready .formed) (omega arith)
+                        (so .ready .planned) _ (rw e at (sym is));
                     few = omega (arith, cost-of .bounded, so .ready .few);
                   };
               fuel = so .fuel - 1;

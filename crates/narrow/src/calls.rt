@@ -1,6 +1,6 @@
 // Narrowing a list.
 use crate::rounds::narrow_windows;
-use crate::rounds::one_round;
+use crate::rounds::untested_round;
 use crate::types::NarrowAnswer;
 use crate::types::WindowsAnswer;
 use jackson::types::WindowSet;
@@ -83,7 +83,7 @@ pub fn settle(list: DayList) -> NarrowAnswer
 }
 
 // Makes one round of a list from its windows as given, for a caller that has tested them: the value check, then the round and row 10. Row 9
-// is not tested, so an overloaded list may be answered.
+// is not told, so an overloaded list may be answered.
 pub fn make_round(list: DayList) -> NarrowAnswer
     ensures { λ a. ⌜ MakesRound list a ⌝ }
 {
@@ -91,6 +91,6 @@ pub fn make_round(list: DayList) -> NarrowAnswer
     let Verdict::Accepted = verdict else {
         return refused_with(verdict);
     };
-    let found = one_round(whole_places(list), unchecked_windows(list), 0);
+    let found = untested_round(whole_places(list), unchecked_windows(list));
     answer_with(list, found)
 }

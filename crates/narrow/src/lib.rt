@@ -7,7 +7,6 @@
 // schedule.
 mod calls;
 mod rounds;
-mod search;
 pub mod types;
 
 pub use calls::answer_with;

@@ -1,7 +1,7 @@
 // Visits and rounds.
-use crate::search::Found;
-use crate::search::least_start;
 use crate::types::WindowsAnswer;
+use edges::least_start;
+use edges::types::Found;
 use jackson::mirrored;
 use jackson::room_fault;
 use jackson::types::WindowSet;
@@ -14,12 +14,13 @@ ghost use mathlib.Core.Path.{_≡_};
 ghost use mathlib.Core.List.{[], _∷_};
 ghost use Prim.Native.Nat.{_<_};
 ghost use Rattle.base.specs.Outcomes.{code, refused};
-ghost use Rattle.jackson.specs.Windows.{windowsIn, Searchable};
+ghost use Rattle.jackson.specs.Windows.{windowsIn, Formed};
+ghost use Rattle.jackson.specs.Plans.{Plannable};
 ghost use Rattle.jackson.specs.Intervals.{overloadOf};
 ghost use Rattle.narrow.specs.Rounds.{earliest, latest, moved, narrowSide, visit, round, allRounds};
 ghost use Rattle.list.specs.DayLists.{marked};
 ghost use Rattle.narrow.specs.Calls.{narrowedOf, NarrowsWindows};
-ghost use Rattle.narrow.specs.Internal.{Countable, narrowedBy};
+ghost use Rattle.narrow.specs.Internal.{Visitable, Countable, narrowedBy};
 
 // "A changed r is one move, a changed d another."
 fn moved_from(before: u16, after: u16) -> u32
@@ -41,7 +42,7 @@ fn refused_at(windows: WindowSet, moves: u32, k: usize) -> WindowsAnswer
 
 // The search for entry k's r, with its move.
 fn narrow_start(windows: WindowSet, moves: u32, k: usize) -> WindowsAnswer
-    requires { ⌜ Searchable windows k ⌝ }
+    requires { ⌜ Visitable windows k ⌝ }
     requires { ⌜ moves < 4294967295 ⌝ }
     ensures { λ a. ⌜ narrowedOf a ≡ narrowSide overloadOf earliest k (narrowedBy windows moves) ⌝ }
 {
@@ -59,7 +60,7 @@ fn narrow_start(windows: WindowSet, moves: u32, k: usize) -> WindowsAnswer
 
 // The search for entry k's d, with its move: that for its r in the mirror. In a visit it finds one, since the r just found is a place.
 fn narrow_end(windows: WindowSet, moves: u32, k: usize) -> WindowsAnswer
-    requires { ⌜ Searchable windows k ⌝ }
+    requires { ⌜ Visitable windows k ⌝ }
     requires { ⌜ moves < 4294967295 ⌝ }
     ensures { λ a. ⌜ narrowedOf a ≡ narrowSide overloadOf latest k (narrowedBy windows moves) ⌝ }
 {
@@ -74,7 +75,7 @@ fn narrow_end(windows: WindowSet, moves: u32, k: usize) -> WindowsAnswer
 
 // Visits entry k: a pause entry is passed over; of a whole one the r is searched for, then the d. The bound leaves room for their moves.
 fn visit(whole: bool, windows: WindowSet, moves: u32, k: usize) -> WindowsAnswer
-    requires { ⌜ Searchable windows k ⌝ }
+    requires { ⌜ Visitable windows k ⌝ }
     requires { ⌜ moves < 4294967290 ⌝ }
     ensures { λ a. ⌜ narrowedOf a ≡ visit overloadOf (λ _. whole) k (narrowedBy windows moves) ⌝ }
 {
@@ -94,7 +95,7 @@ fn visit(whole: bool, windows: WindowSet, moves: u32, k: usize) -> WindowsAnswer
 }
 
 // One round: visits the entries from place 0 up.
-pub(crate) fn one_round(whole: [bool; ENTRIES], windows: WindowSet, moves: u32) -> WindowsAnswer
+fn one_round(whole: [bool; ENTRIES], windows: WindowSet, moves: u32) -> WindowsAnswer
     requires { ⌜ Countable (marked whole) windows moves ⌝ }
     ensures { λ a. ⌜ narrowedOf a ≡ round overloadOf (marked whole) (narrowedBy windows moves) ⌝ }
 {
@@ -114,6 +115,39 @@ pub(crate) fn one_round(whole: [bool; ENTRIES], windows: WindowSet, moves: u32) 
         k += 1;
     }
     now
+}
+
+// One round of windows that have no plan: no search finds a minute, so the first whole entry is refused.
+fn unplanned_round(whole: [bool; ENTRIES], windows: WindowSet) -> WindowsAnswer
+    requires { ⌜ Formed (windowsIn windows) ⌝ }
+    requires { ⌜ (Plannable (windowsIn windows) → ⊥) ⌝ }
+    ensures { λ a. ⌜ narrowedOf a ≡ round overloadOf (marked whole) (narrowedBy windows 0) ⌝ }
+{
+    let count = places_held(windows.n);
+    let mut k: usize = 0;
+    while k < count {
+        if whole[k] {
+            return refused_at(windows, 0, k);
+        }
+        k += 1;
+    }
+    WindowsAnswer {
+        verdict: Verdict::Accepted,
+        windows: windows,
+        moves: 0,
+    }
+}
+
+// One round of windows with room, for which row 9 was not tested: whether they have a plan decides how it is made, and not what it gives.
+pub(crate) fn untested_round(whole: [bool; ENTRIES], windows: WindowSet) -> WindowsAnswer
+    requires { ⌜ Formed (windowsIn windows) ⌝ }
+    ensures { λ a. ⌜ narrowedOf a ≡ round overloadOf (marked whole) (narrowedBy windows 0) ⌝ }
+{
+    let test = unchecked_overload(windows);
+    let Verdict::Accepted = test else {
+        return unplanned_round(whole, windows);
+    };
+    one_round(whole, windows, 0)
 }
 
 // Rounds until one makes no move, or a refusal.

@@ -1,8 +1,7 @@
 -- Each way out has its outcome.
 -- Assumes nothing.
 use borrow.Author.Needs.{needs}
-use Prim.Native.Nat.{_<_}
-use Rattle.narrow.proofs.CallCases.{list-countable, round-turned, round-found}
+use Rattle.narrow.proofs.CallCases.{list-room, round-turned, round-found}
 use Rattle.narrow.proofs.calls.make_round.Statement.{statement}
 use Rattle.narrow.proofs.calls.make_round.Tie as tie
 
@@ -29,18 +28,14 @@ whole-places-requires c κs = search needs
 unchecked-windows-requires : tie.Need-unchecked-windows-requires
 unchecked-windows-requires c κs = search needs
 
--- a day's minutes are a number of 16 bits
-short : (c : tie.After-unchecked-windows) → c .unchecked-windows .result .h < 65536
-short c = search needs
-
-one-round-requires : tie.Need-one-round-requires
-one-round-requires c κs =
+untested-round-requires : tie.Need-untested-round-requires
+untested-round-requires c κs =
     let check = c .before .before .before .before .check in
     let enum-told = c .before .before .enum-told in
     let whole-places = c .before .whole-places in
     let windows = c .unchecked-windows in
-    list-countable _ (check .result) (check .ensures) (enum-told .given .1) (whole-places .result) (whole-places .ensures) (windows .result)
-    (windows .ensures) (short c)
+    list-room _ (check .result) (check .ensures) (enum-told .given .1) (whole-places .result) (whole-places .ensures) (windows .result)
+    (windows .ensures)
 
 answer-with-requires : tie.Need-answer-with-requires
 answer-with-requires c κs = search needs
@@ -51,7 +46,7 @@ returns-2 c =
     let enum-told = c .before .before .before .before .enum-told in
     let whole-places = c .before .before .before .whole-places in
     let windows = c .before .before .unchecked-windows in
-    let found = c .before .one-round in
+    let found = c .before .untested-round in
     round-found _ (check .result) (check .ensures) (enum-told .given .1) (whole-places .result) (whole-places .ensures) (windows .result)
     (windows .ensures) (c .answer-with .result) (found .result) (c .answer-with .ensures) (found .ensures)
 
@@ -66,6 +61,6 @@ make-round-spec =
     returns
     whole-places-requires
     unchecked-windows-requires
-    one-round-requires
+    untested-round-requires
     answer-with-requires
     returns-2)

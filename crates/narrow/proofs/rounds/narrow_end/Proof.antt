@@ -1,7 +1,7 @@
 -- The search for d is that for r in the mirror.
 -- Assumes nothing.
 use borrow.Author.Needs.{needs}
-use Rattle.narrow.proofs.RoundCases.{mirror-searchable, mirror-placed}
+use Rattle.narrow.proofs.RoundCases.{mirror-visitable, mirror-placed}
 use Rattle.narrow.proofs.rounds.narrow_end.Statement.{statement}
 use Rattle.narrow.proofs.rounds.narrow_end.Tie as tie
 
@@ -12,7 +12,7 @@ narrow-start-requires : tie.Need-narrow-start-requires
 narrow-start-requires c κs =
     let args = c .before .args in
     let pre = c .before .pre in
-    (mirror-searchable (args .windows) (c .mirrored .result) (args .moves) (args .k) (c .mirrored .ensures .windows) (pre .0), pre .1)
+    (mirror-visitable (args .windows) (c .mirrored .result) (args .moves) (args .k) (c .mirrored .ensures .windows) (pre .0), pre .1)
 
 mirrored-requires-2 : tie.Need-mirrored-requires-2
 mirrored-requires-2 c κs = search needs

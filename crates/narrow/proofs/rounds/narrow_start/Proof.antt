@@ -5,7 +5,7 @@ use mathlib.Core.Path.{_≡_, sym, _∙_}
 use native.Mathlib.Omega.{arith}
 use lib.ListN.{length, getD}
 use Rattle.jackson.specs.Intervals.{overloadOf}
-use Rattle.narrow.proofs.RoundCases.{start-refused, moved-one, placed-r}
+use Rattle.narrow.proofs.RoundCases.{jumps-least, start-refused, moved-one, placed-r}
 use Rattle.narrow.proofs.rounds.narrow_start.Statement.{statement}
 use Rattle.narrow.proofs.rounds.narrow_start.Tie as tie
 
@@ -23,8 +23,10 @@ refused-at-requires c κs = search needs
 
 returns : tie.Need-returns
 returns c =
-    let least-start = c .before .before .before .least-start in
-    c .refused-at .ensures ∙ sym (start-refused overloadOf _ _ _ (sym (rw (c .before .enum-told .given .1) at (least-start .ensures))))
+    let start = c .before .before .before .before in
+    let found = c .before .before .before .least-start in
+    let is = jumps-least (start .args .t1) (start .args .k) (start .pre .0) (found .result) (found .ensures) in
+    c .refused-at .ensures ∙ sym (start-refused overloadOf _ _ _ (sym (rw (c .before .enum-told .given .1) at is)))
 
 mul-next : tie.Need-mul-next
 mul-next c = search needs
@@ -52,11 +54,11 @@ returns-2 : tie.Need-returns-2
 returns-2 c =
     let pre = c .before .before .before .before .before .before .pre in
     let args = c .before .before .before .before .before .before .args in
-    let least-start = c .before .before .before .before .before .least-start in
+    let found = c .before .before .before .before .before .least-start in
     let s = c .before .before .before .s in
     let long : length (args .t1 .r) ≡ 64 = search needs in
     placed-r (args .t1) (args .moves) (args .k) _ _ (omega (arith, long, pre .0 .place)) (c .moved-from .ensures)
-    (sym (rw (s .given .1) at (least-start .ensures)))
+    (sym (rw (s .given .1) at (jumps-least (args .t1) (args .k) (pre .0) (found .result) (found .ensures))))
 
 pub narrow-start-spec : {M : Type 1} → statement M
 narrow-start-spec =

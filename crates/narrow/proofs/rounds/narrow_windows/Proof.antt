@@ -52,8 +52,9 @@ all-rounds-requires : tie.Need-all-rounds-requires
 all-rounds-requires c κs =
     let start = c .before .before .before .before .before .before in
     let room-fault = c .before .before .before .before .before .room-fault in
+    let test = c .before .before .unchecked-overload in
     windows-countable (marked (start .args .whole)) (start .args .windows) (room-fault .result) (room-fault .ensures)
-    (c .before .before .before .enum-told .given .1) (short start)
+    (c .before .before .before .enum-told .given .1) (test .result) (test .ensures) (c .enum-told3 .given .1) (short start)
 
 enum-told-5 : tie.Need-enum-told-5
 enum-told-5 c = search needs
