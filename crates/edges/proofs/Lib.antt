@@ -1,2 +1,5 @@
 -- The work of an entry in another window, and of the others.
 pub mod OtherWork
+-- The largest of numbers, and that least ends in closed form are the least ends that a plan has.
+mod Largest
+pub mod EndLaws
