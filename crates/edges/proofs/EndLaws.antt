@@ -19,10 +19,10 @@ use Rattle.edges.proofs.Largest.{largest-first, largest-over, largest-u
 
 module _ (w : Windows) (k : ℕ) where
   -- what b and the r of entry i ask of entry k is no more than y, if it is none or its end is not
-  asked-under : (b i y : ℕ) → (b < w .d k → b < endAfter w k i b → endAfter w k i b ≤ y) → askedOf w k b i ≤ y
+  pub asked-under : (b i y : ℕ) → (b < w .d k → b < endAfter w k i b → endAfter w k i b ≤ y) → askedOf w k b i ≤ y
   asked-under b i y = between-le (suc b) (endAfter w k i b) (w .d k) (suc b) (endAfter w k i b) y
 
-  asked-is : (b i : ℕ) → b < w .d k → b < endAfter w k i b → askedOf w k b i ≡ endAfter w k i b
+  pub asked-is : (b i : ℕ) → b < w .d k → b < endAfter w k i b → askedOf w k b i ≡ endAfter w k i b
   asked-is b i = between-is (suc b) (endAfter w k i b) (w .d k) (suc b) (endAfter w k i b)
 
   closed-room : w .r k + w .p k ≤ closedEnd w k

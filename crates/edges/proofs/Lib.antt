@@ -3,3 +3,5 @@ pub mod OtherWork
 -- The largest of numbers, and that least ends in closed form are the least ends that a plan has.
 mod Largest
 pub mod EndLaws
+-- That the walks over the left ends give them.
+mod EndWalks

@@ -2,3 +2,4 @@ pub mod Starts
 pub mod Ends
 pub mod Laws
 pub mod Calls
+pub mod Internal
