@@ -5,3 +5,5 @@ mod Largest
 pub mod EndLaws
 -- That the walks over the left ends give them.
 mod EndWalks
+-- What the code's proofs cite, case by case.
+mod EndCases

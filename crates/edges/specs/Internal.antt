@@ -51,6 +51,11 @@ askedAt w o b x = askedAfter b (latestEnd w o b x) (w .d (o x)) (w .p (o x))
 abbrev pub endAt : Windows → (ℕ → ℕ) → ℕ → ℕ → ℕ
 endAt w o j x = largest (w .r (o x) + w .p (o x)) j (λ i. askedAt w o (w .d i) x)
 
+-- the ends by position that the right ends of the first j places ask
+pub record EndsBy (w : Windows) (o : ℕ → ℕ) (j : ℕ) (xs : List ℕ) : Type 0 where
+  pub long : length xs ≡ mostEntries
+  pub each : (x : ℕ) → x < w .n → valueAt xs x ≡ endAt w o j x
+
 -- ends by position, raised to what the right end b asks
 pub record Raises (w : Windows) (o : ℕ → ℕ) (b : ℕ) (old new : List ℕ) : Type 0 where
   pub long : length new ≡ mostEntries

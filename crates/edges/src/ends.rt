@@ -11,7 +11,7 @@ ghost use Rattle.list.specs.DayLists.{mostEntries, byPlace};
 ghost use Rattle.order.specs.Orders.{valueAt};
 ghost use Rattle.jackson.specs.Windows.{windowsIn};
 ghost use Rattle.edges.specs.Ends.{closedEnd};
-ghost use Rattle.edges.specs.Internal.{arrays, Adds, DueBy, LaterEnd, askedAfter, Raises, FirstEnds, AtPlaces};
+ghost use Rattle.edges.specs.Internal.{arrays, Adds, DueBy, LaterEnd, askedAfter, EndsBy, Raises, FirstEnds, AtPlaces};
 
 // An entry's minutes, if its d is at most b.
 fn minutes_by(b: u16, d: u16, p: u16) -> u32
@@ -93,9 +93,11 @@ fn raise_ends(
     while 0 < x {
         x -= 1;
         let i = order[x];
+        let due = d[i];
+        let minutes = p[i];
         latest = later_end(latest, r[i], kept);
-        ends[x] = raised(ends[x], latest, b, d[i], p[i]);
-        kept -= minutes_by(b, d[i], p[i]);
+        ends[x] = raised(ends[x], latest, b, due, minutes);
+        kept -= minutes_by(b, due, minutes);
     }
 }
 
@@ -118,6 +120,27 @@ fn first_ends(count: usize, r: &[u16; ENTRIES], p: &[u16; ENTRIES], order: &[usi
         let i = order[x];
         ends[x] = both(r[i], p[i]);
         x += 1;
+    }
+    ends
+}
+
+// The ends, by position, that all right ends ask.
+fn ends_by_position(
+    count: usize,
+    r: &[u16; ENTRIES],
+    d: &[u16; ENTRIES],
+    p: &[u16; ENTRIES],
+    order: &[usize; ENTRIES],
+) -> [u32; ENTRIES]
+    requires { ⌜ count ≤ mostEntries ⌝ }
+    requires { ⌜ EachOnce count (valueAt (now order)) ⌝ }
+    ensures { λ xs. ⌜ EndsBy (arrays count (now (r .entry)) (now (d .entry)) (now (p .entry))) (valueAt (now (order .entry))) count xs ⌝ }
+{
+    let mut ends = first_ends(count, r, p, order);
+    let mut j: usize = 0;
+    while j < count {
+        raise_ends(count, r, d, p, order, d[j], &mut ends);
+        j += 1;
     }
     ends
 }
@@ -147,12 +170,6 @@ pub fn closed_ends(windows: WindowSet) -> [u32; ENTRIES]
     let d = windows.d;
     let p = windows.p;
     let order = largest_first(windows.n, &r);
-    let mut ends = first_ends(count, &r, &p, &order);
-    let mut j: usize = 0;
-    while j < count {
-        let b = d[j];
-        raise_ends(count, &r, &d, &p, &order, b, &mut ends);
-        j += 1;
-    }
+    let ends = ends_by_position(count, &r, &d, &p, &order);
     at_places(count, &order, &ends)
 }

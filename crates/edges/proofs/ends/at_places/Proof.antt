@@ -1,57 +1,64 @@
+-- The loop's invariant is what the first x positions stored, the measure how many are left.
+-- Assumes nothing.
+use borrow.Author.Needs.{needs}
+use native.Mathlib.Omega.{arith}
+use Prim.Native.Nat.{_-_, _≤_}
+use mathlib.Core.Path.{_≡_}
+use Rattle.base.proofs.Permutations.{once-in}
+use Rattle.order.specs.Orders.{valueAt}
+use Rattle.edges.specs.Internal.{AtPlaces}
+use Rattle.edges.proofs.EndCases.{places-none, places-next}
 use Rattle.edges.proofs.ends.at_places.Statement.{statement}
 use Rattle.edges.proofs.ends.at_places.Tie as tie
-use Rattle.edges.proofs.ends.at_places.Reads as reads
-use Rattle.edges.proofs.ends.at_places.Lts as lts
 
 abbrev Inv-loop : tie.InvT-loop
-Inv-loop count order ends places₀ x₀ places x = ?
+Inv-loop count order ends places₀ x₀ places x = (x ≤ count) × AtPlaces count (valueAt order) ends x places
 
 abbrev μ-loop : tie.MeasureT-loop
-μ-loop count order ends places₀ x₀ places x = ?
+μ-loop count order ends places₀ x₀ places x = count - x
 
--- src/ends.rt:133:5
 loop-holds : tie.Need-loop-holds Inv-loop μ-loop
-loop-holds c = ?
+loop-holds c = (omega arith, places-none _ _ _)
 
--- src/ends.rt:134:17
 mul-i : tie.Need-mul-i Inv-loop μ-loop
-mul-i c = ?
+mul-i c = search needs
 
--- src/ends.rt:134:17
 element-copy-out-i : tie.Need-element-copy-out-i Inv-loop μ-loop
-element-copy-out-i c = ?
+element-copy-out-i c = search needs
 
--- src/ends.rt:135:21
 mul-places : tie.Need-mul-places Inv-loop μ-loop
-mul-places c = ?
+mul-places c = search needs
 
--- src/ends.rt:135:21
 element-copy-out-places : tie.Need-element-copy-out-places Inv-loop μ-loop
-element-copy-out-places c = ?
+element-copy-out-places c = search needs
 
--- src/ends.rt:135:9
 mul-places-2 : tie.Need-mul-places-2 Inv-loop μ-loop
-mul-places-2 c = ?
+mul-places-2 c = 
+    let pre = c .before .before .before .before .pre in
+    search (needs, once-in _ _ (pre .1) _ (c .before .before .loop-test .taken))
 
--- src/ends.rt:135:9
 array-write-places : tie.Need-array-write-places Inv-loop μ-loop
-array-write-places c = ?
+array-write-places c = 
+    let pre = c .before .before .before .before .pre in
+    search (needs, once-in _ _ (pre .1) _ (c .before .before .loop-test .taken))
 
--- src/ends.rt:136:9
 add-x : tie.Need-add-x Inv-loop μ-loop
-add-x c = ?
+add-x c = search needs
 
--- src/ends.rt:133:5
 loop-less : tie.Need-loop-less Inv-loop μ-loop
-loop-less c = ?
+loop-less c = search needs
 
--- src/ends.rt:133:5
 loop-again : tie.Need-loop-again Inv-loop μ-loop
-loop-again c = ?
+loop-again c = 
+    let loop = c .before .before .before .loop in
+    let pre = c .before .before .before .before .pre in
+    (omega arith, places-next _ _ _ _ _ (pre .0) (pre .1) (c .before .before .loop-test .taken) (loop .inv .1))
 
--- src/ends.rt:126:1
 returns : tie.Need-returns Inv-loop μ-loop
-returns c = ?
+returns c = 
+    let loop = c .before .loop in
+    let all : loop .x ≡ c .before .before .args .count = omega (arith, loop .inv .0, c .loop-test .left) in
+    rw all at (loop .inv .1)
 
 pub at-places-spec : {M : Type 1} → statement M
 at-places-spec =

@@ -1,70 +1,78 @@
+-- The loop's invariant is r + p of the first x positions, the measure how many are left.
+-- Assumes nothing.
+use borrow.Author.Needs.{needs}
+use native.Mathlib.Omega.{arith}
+use Prim.Native.Nat.{_-_, _≤_}
+use mathlib.Core.Path.{_≡_}
+use Rattle.base.proofs.Permutations.{once-in}
+use Rattle.order.specs.Orders.{valueAt}
+use Rattle.edges.specs.Internal.{FirstEnds}
+use Rattle.edges.proofs.EndCases.{first-none, first-next}
 use Rattle.edges.proofs.ends.first_ends.Statement.{statement}
 use Rattle.edges.proofs.ends.first_ends.Tie as tie
-use Rattle.edges.proofs.ends.first_ends.Reads as reads
-use Rattle.edges.proofs.ends.first_ends.Lts as lts
-use Rattle.edges.proofs.ends.both.Reads as both-reads
 
 abbrev Inv-loop : tie.InvT-loop
-Inv-loop count r p order ends₀ x₀ ends x = ?
+Inv-loop count r p order ends₀ x₀ ends x = (x ≤ count) × FirstEnds r p (valueAt order) x ends
 
 abbrev μ-loop : tie.MeasureT-loop
-μ-loop count r p order ends₀ x₀ ends x = ?
+μ-loop count r p order ends₀ x₀ ends x = count - x
 
--- src/ends.rt:117:5
 loop-holds : tie.Need-loop-holds Inv-loop μ-loop
-loop-holds c = ?
+loop-holds c = (omega arith, first-none _ _ _)
 
--- src/ends.rt:118:17
 mul-i : tie.Need-mul-i Inv-loop μ-loop
-mul-i c = ?
+mul-i c = search needs
 
--- src/ends.rt:118:17
 element-copy-out-i : tie.Need-element-copy-out-i Inv-loop μ-loop
-element-copy-out-i c = ?
+element-copy-out-i c = search needs
 
--- src/ends.rt:119:24
 mul-both : tie.Need-mul-both Inv-loop μ-loop
-mul-both c = ?
+mul-both c = 
+    let pre = c .before .before .before .pre in
+    search (needs, once-in _ _ (pre .1) _ (c .before .loop-test .taken))
 
--- src/ends.rt:119:24
 element-copy-out-both : tie.Need-element-copy-out-both Inv-loop μ-loop
-element-copy-out-both c = ?
+element-copy-out-both c = 
+    let pre = c .before .before .before .pre in
+    search (needs, once-in _ _ (pre .1) _ (c .before .loop-test .taken))
 
--- src/ends.rt:119:30
 mul-both-2 : tie.Need-mul-both-2 Inv-loop μ-loop
-mul-both-2 c = ?
+mul-both-2 c = 
+    let pre = c .before .before .before .before .pre in
+    search (needs, once-in _ _ (pre .1) _ (c .before .before .loop-test .taken))
 
--- src/ends.rt:119:30
 element-copy-out-both-2 : tie.Need-element-copy-out-both-2 Inv-loop μ-loop
-element-copy-out-both-2 c = ?
+element-copy-out-both-2 c = 
+    let pre = c .before .before .before .before .pre in
+    search (needs, once-in _ _ (pre .1) _ (c .before .before .loop-test .taken))
 
--- src/ends.rt:119:19
 both-requires : tie.Need-both-requires Inv-loop μ-loop
-both-requires c κs = ?
+both-requires c κs = search needs
 
--- src/ends.rt:119:9
 mul-ends : tie.Need-mul-ends Inv-loop μ-loop
-mul-ends c = ?
+mul-ends c = search needs
 
--- src/ends.rt:119:9
 array-write-ends : tie.Need-array-write-ends Inv-loop μ-loop
-array-write-ends c = ?
+array-write-ends c = search needs
 
--- src/ends.rt:120:9
 add-x : tie.Need-add-x Inv-loop μ-loop
-add-x c = ?
+add-x c = search needs
 
--- src/ends.rt:117:5
 loop-less : tie.Need-loop-less Inv-loop μ-loop
-loop-less c = ?
+loop-less c = search needs
 
--- src/ends.rt:117:5
 loop-again : tie.Need-loop-again Inv-loop μ-loop
-loop-again c = ?
+loop-again c = 
+    let loop = c .before .before .before .before .before .loop in
+    let pre = c .before .before .before .before .before .before .pre in
+    let below = c .before .before .before .before .loop-test .taken in
+    (omega arith, first-next _ _ _ _ _ _ (omega (arith, pre .0, below)) (loop .inv .1) (c .both .ensures))
 
--- src/ends.rt:110:1
 returns : tie.Need-returns Inv-loop μ-loop
-returns c = ?
+returns c = 
+    let loop = c .before .loop in
+    let all : loop .x ≡ c .before .before .args .count = omega (arith, loop .inv .0, c .loop-test .left) in
+    rw all at (loop .inv .1)
 
 pub first-ends-spec : {M : Type 1} → statement M
 first-ends-spec =
