@@ -15,7 +15,7 @@ use Rattle.base.proofs.Sums.{le-or-lt, same-cases}
 use Rattle.base.proofs.Permutations.{once-in, once-has, once-one, once-sum}
 use Rattle.base.proofs.Listed.{list-is}
 use Rattle.list.specs.DayLists.{byPlace}
-use Rattle.order.specs.Orders.{valueAt}
+use Rattle.order.specs.Orders.{valueAt, HoldsOrder}
 use Rattle.jackson.specs.Windows.{Windows, columns}
 use Rattle.jackson.specs.Intervals.{work}
 use Rattle.jackson.specs.RunningSums.{LatestReleaseFirst, entered}
@@ -241,6 +241,16 @@ module _ (n : ℕ) (r d p : List ℕ) where
   unfolding largest
   ends-first o xs first = record { long = first .long; each = first .each }
 
-  pub ends-any-day : (h : ℕ) → byPlace n (closedEnd (arrays n r d p)) ≡ byPlace n (closedEnd (columns h n r d p))
+  any-day : (h : ℕ) → byPlace n (closedEnd (arrays n r d p)) ≡ byPlace n (closedEnd (columns h n r d p))
   unfolding closedEnd work
-  ends-any-day h = refl
+  any-day h = refl
+
+  -- where so many places are held, in this order
+  module _ (count : ℕ) (held : count ≡ n) (order : List ℕ) (so : HoldsOrder n (valueAt r) order) where
+    pub held-once : EachOnce count (valueAt order)
+    held-once = rw held (so .order .once)
+
+    pub ends-held : (h : ℕ) (xs ys : List ℕ) → EndsBy (arrays count r d p) (valueAt order) count xs
+        → AtPlaces count (valueAt order) xs count ys → ys ≡ byPlace n (closedEnd (columns h n r d p))
+    ends-held h xs ys ends at =
+        ends-all (arrays n r d p) (valueAt order) xs ys (so .order) (rw held at ends) (rw held at at) ∙ any-day h

@@ -1,51 +1,54 @@
+-- The loop's invariant is the ends that the right ends of the first j places ask, the measure how many are left.
+-- Assumes nothing.
+use borrow.Author.Needs.{needs}
+use mathlib.Core.Path.{_≡_}
+use native.Mathlib.Omega.{arith}
+use Prim.Native.Nat.{_-_, _≤_}
+use Rattle.order.specs.Orders.{valueAt}
+use Rattle.edges.specs.Internal.{arrays, EndsBy}
+use Rattle.edges.proofs.EndCases.{ends-first, ends-next}
 use Rattle.edges.proofs.ends.ends_by_position.Statement.{statement}
 use Rattle.edges.proofs.ends.ends_by_position.Tie as tie
-use Rattle.edges.proofs.ends.ends_by_position.Reads as reads
-use Rattle.edges.proofs.ends.ends_by_position.Lts as lts
-use Rattle.edges.proofs.ends.first_ends.Reads as first-ends-reads
-use Rattle.edges.proofs.ends.raise_ends.Reads as raise-ends-reads
 
 abbrev Inv-loop : tie.InvT-loop
-Inv-loop count r d p order ends₀ j₀ ends j = ?
+Inv-loop count r d p order ends₀ j₀ ends j = (j ≤ count) × EndsBy (arrays count r d p) (valueAt order) j ends
 
 abbrev μ-loop : tie.MeasureT-loop
-μ-loop count r d p order ends₀ j₀ ends j = ?
+μ-loop count r d p order ends₀ j₀ ends j = count - j
 
--- src/ends.rt:139:20
 first-ends-requires : tie.Need-first-ends-requires Inv-loop μ-loop
-first-ends-requires c κs = ?
+first-ends-requires c κs = c .pre
 
--- src/ends.rt:141:5
 loop-holds : tie.Need-loop-holds Inv-loop μ-loop
-loop-holds c = ?
+loop-holds c = (omega arith, ends-first _ _ (c .before .args .d .now) _ _ _ (c .first-ends .ensures))
 
--- src/ends.rt:142:43
 mul-raise-ends : tie.Need-mul-raise-ends Inv-loop μ-loop
-mul-raise-ends c = ?
+mul-raise-ends c = search needs
 
--- src/ends.rt:142:43
 element-copy-out-raise-ends : tie.Need-element-copy-out-raise-ends Inv-loop μ-loop
-element-copy-out-raise-ends c = ?
+element-copy-out-raise-ends c = search needs
 
--- src/ends.rt:142:9
 raise-ends-requires : tie.Need-raise-ends-requires Inv-loop μ-loop
-raise-ends-requires c κs = ?
+raise-ends-requires c κs =
+    let pre = c .before .before .before .before .before .pre in
+    (pre .0, (pre .1, c .before .before .before .loop .inv .1 .long))
 
--- src/ends.rt:143:9
 add-j : tie.Need-add-j Inv-loop μ-loop
-add-j c = ?
+add-j c = search needs
 
--- src/ends.rt:141:5
 loop-less : tie.Need-loop-less Inv-loop μ-loop
-loop-less c = ?
+loop-less c = search needs
 
--- src/ends.rt:141:5
 loop-again : tie.Need-loop-again Inv-loop μ-loop
-loop-again c = ?
+loop-again c =
+    let loop = c .before .before .before .before .loop in
+    (omega arith, ends-next _ _ _ _ _ (loop .inv .1) (c .raise-ends .ensures))
 
--- src/ends.rt:128:1
 returns : tie.Need-returns Inv-loop μ-loop
-returns c = ?
+returns c =
+    let loop = c .before .loop in
+    let all : loop .j ≡ c .before .before .before .args .count = omega (arith, loop .inv .0, c .loop-test .left) in
+    rw all at (loop .inv .1)
 
 pub ends-by-position-spec : {M : Type 1} → statement M
 ends-by-position-spec =
