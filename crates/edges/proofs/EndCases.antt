@@ -17,10 +17,11 @@ use Rattle.base.proofs.Listed.{list-is}
 use Rattle.list.specs.DayLists.{byPlace}
 use Rattle.order.specs.Orders.{valueAt, HoldsOrder}
 use Rattle.jackson.specs.Windows.{Windows, columns}
+use Rattle.jackson.specs.Internal.{heldIn}
 use Rattle.jackson.specs.Intervals.{work}
 use Rattle.jackson.specs.RunningSums.{LatestReleaseFirst, entered}
 use Rattle.edges.specs.Ends.{largest, closedEnd}
-use Rattle.edges.specs.Internal.{arrays, Adds, DueBy, LaterEnd, workEnd, latestEnd, askedAfter, askedAt}
+use Rattle.edges.specs.Internal.{Adds, DueBy, LaterEnd, workEnd, latestEnd, askedAfter, askedAt}
 use Rattle.edges.specs.Internal.{EndsBy, Raises, FirstEnds, AtPlaces}
 use Rattle.edges.proofs.EndWalks.{ends-closed}
 
@@ -237,11 +238,11 @@ module _ (w : Windows) (o : ℕ → ℕ) where
 
 -- arrays: the first ends, and that least ends ask for no H
 module _ (n : ℕ) (r d p : List ℕ) where
-  pub ends-first : (o : ℕ → ℕ) (xs : List ℕ) → FirstEnds r p o n xs → EndsBy (arrays n r d p) o 0 xs
+  pub ends-first : (o : ℕ → ℕ) (xs : List ℕ) → FirstEnds r p o n xs → EndsBy (heldIn n r d p) o 0 xs
   unfolding largest
   ends-first o xs first = record { long = first .long; each = first .each }
 
-  any-day : (h : ℕ) → byPlace n (closedEnd (arrays n r d p)) ≡ byPlace n (closedEnd (columns h n r d p))
+  any-day : (h : ℕ) → byPlace n (closedEnd (heldIn n r d p)) ≡ byPlace n (closedEnd (columns h n r d p))
   unfolding closedEnd work
   any-day h = refl
 
@@ -250,7 +251,7 @@ module _ (n : ℕ) (r d p : List ℕ) where
     pub held-once : EachOnce count (valueAt order)
     held-once = rw held (so .order .once)
 
-    pub ends-held : (h : ℕ) (xs ys : List ℕ) → EndsBy (arrays count r d p) (valueAt order) count xs
+    pub ends-held : (h : ℕ) (xs ys : List ℕ) → EndsBy (heldIn count r d p) (valueAt order) count xs
         → AtPlaces count (valueAt order) xs count ys → ys ≡ byPlace n (closedEnd (columns h n r d p))
     ends-held h xs ys ends at =
-        ends-all (arrays n r d p) (valueAt order) xs ys (so .order) (rw held at ends) (rw held at at) ∙ any-day h
+        ends-all (heldIn n r d p) (valueAt order) xs ys (so .order) (rw held at ends) (rw held at at) ∙ any-day h

@@ -7,3 +7,5 @@ pub mod EndLaws
 mod EndWalks
 -- What the code's proofs cite, case by case.
 mod EndCases
+-- Examples.
+mod Examples

@@ -8,13 +8,9 @@ use lib.ListN.{length}
 use Rattle.base.specs.Counting.{sum}
 use Rattle.list.specs.DayLists.{mostEntries}
 use Rattle.order.specs.Orders.{valueAt}
-use Rattle.jackson.specs.Windows.{Windows, columns}
+use Rattle.jackson.specs.Windows.{Windows}
 use Rattle.jackson.specs.RunningSums.{entered}
 use Rattle.edges.specs.Ends.{largest}
-
--- the windows of n entries held in arrays: least ends ask for no H
-abbrev pub arrays : ℕ → List ℕ → List ℕ → List ℕ → Windows
-arrays n r d p = columns 0 n r d p
 
 -- what an entry adds to the work for the right end b. That p has 16 bits, an array does not tell the caller.
 pub record Adds (b d p x : ℕ) : Type 0 where

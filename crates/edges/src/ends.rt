@@ -10,8 +10,9 @@ ghost use Rattle.base.specs.Counting.{EachOnce};
 ghost use Rattle.list.specs.DayLists.{mostEntries, byPlace};
 ghost use Rattle.order.specs.Orders.{valueAt};
 ghost use Rattle.jackson.specs.Windows.{windowsIn};
+ghost use Rattle.jackson.specs.Internal.{heldIn};
 ghost use Rattle.edges.specs.Ends.{closedEnd};
-ghost use Rattle.edges.specs.Internal.{arrays, Adds, DueBy, LaterEnd, askedAfter, EndsBy, Raises, FirstEnds, AtPlaces};
+ghost use Rattle.edges.specs.Internal.{Adds, DueBy, LaterEnd, askedAfter, EndsBy, Raises, FirstEnds, AtPlaces};
 
 // An entry's minutes, if its d is at most b.
 fn minutes_by(b: u16, d: u16, p: u16) -> u32
@@ -83,7 +84,7 @@ fn raise_ends(
     requires { ⌜ length (now ends) ≡ mostEntries ⌝ }
     ensures {
         λ _.
-        ⌜ Raises (arrays count (now (r .entry)) (now (d .entry)) (now (p .entry))) (valueAt (now (order .entry))) b (now (ends .entry))
+        ⌜ Raises (heldIn count (now (r .entry)) (now (d .entry)) (now (p .entry))) (valueAt (now (order .entry))) b (now (ends .entry))
               (now (ends .exit)) ⌝
     }
 {
@@ -101,8 +102,8 @@ fn raise_ends(
     }
 }
 
-// The sum of two numbers.
-fn both(r: u16, p: u16) -> u32
+// When an entry ends at the earliest that begins at r.
+fn earliest_end(r: u16, p: u16) -> u32
     ensures { λ x. ⌜ x ≡ r + p ⌝ }
 {
     r as u32 + p as u32
@@ -118,7 +119,7 @@ fn first_ends(count: usize, r: &[u16; ENTRIES], p: &[u16; ENTRIES], order: &[usi
     let mut x: usize = 0;
     while x < count {
         let i = order[x];
-        ends[x] = both(r[i], p[i]);
+        ends[x] = earliest_end(r[i], p[i]);
         x += 1;
     }
     ends
@@ -134,7 +135,7 @@ fn ends_by_position(
 ) -> [u32; ENTRIES]
     requires { ⌜ count ≤ mostEntries ⌝ }
     requires { ⌜ EachOnce count (valueAt (now order)) ⌝ }
-    ensures { λ xs. ⌜ EndsBy (arrays count (now (r .entry)) (now (d .entry)) (now (p .entry))) (valueAt (now (order .entry))) count xs ⌝ }
+    ensures { λ xs. ⌜ EndsBy (heldIn count (now (r .entry)) (now (d .entry)) (now (p .entry))) (valueAt (now (order .entry))) count xs ⌝ }
 {
     let mut ends = first_ends(count, r, p, order);
     let mut j: usize = 0;

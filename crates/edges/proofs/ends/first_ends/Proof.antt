@@ -26,28 +26,28 @@ mul-i c = search needs
 element-copy-out-i : tie.Need-element-copy-out-i Inv-loop μ-loop
 element-copy-out-i c = search needs
 
-mul-both : tie.Need-mul-both Inv-loop μ-loop
-mul-both c = 
+mul-earliest-end : tie.Need-mul-earliest-end Inv-loop μ-loop
+mul-earliest-end c = 
     let pre = c .before .before .before .pre in
     search (needs, once-in _ _ (pre .1) _ (c .before .loop-test .taken))
 
-element-copy-out-both : tie.Need-element-copy-out-both Inv-loop μ-loop
-element-copy-out-both c = 
+element-copy-out-earliest-end : tie.Need-element-copy-out-earliest-end Inv-loop μ-loop
+element-copy-out-earliest-end c = 
     let pre = c .before .before .before .pre in
     search (needs, once-in _ _ (pre .1) _ (c .before .loop-test .taken))
 
-mul-both-2 : tie.Need-mul-both-2 Inv-loop μ-loop
-mul-both-2 c = 
+mul-earliest-end-2 : tie.Need-mul-earliest-end-2 Inv-loop μ-loop
+mul-earliest-end-2 c = 
     let pre = c .before .before .before .before .pre in
     search (needs, once-in _ _ (pre .1) _ (c .before .before .loop-test .taken))
 
-element-copy-out-both-2 : tie.Need-element-copy-out-both-2 Inv-loop μ-loop
-element-copy-out-both-2 c = 
+element-copy-out-earliest-end-2 : tie.Need-element-copy-out-earliest-end-2 Inv-loop μ-loop
+element-copy-out-earliest-end-2 c = 
     let pre = c .before .before .before .before .pre in
     search (needs, once-in _ _ (pre .1) _ (c .before .before .loop-test .taken))
 
-both-requires : tie.Need-both-requires Inv-loop μ-loop
-both-requires c κs = search needs
+earliest-end-requires : tie.Need-earliest-end-requires Inv-loop μ-loop
+earliest-end-requires c κs = search needs
 
 mul-ends : tie.Need-mul-ends Inv-loop μ-loop
 mul-ends c = search needs
@@ -66,7 +66,7 @@ loop-again c =
     let loop = c .before .before .before .before .before .loop in
     let pre = c .before .before .before .before .before .before .pre in
     let below = c .before .before .before .before .loop-test .taken in
-    (omega arith, first-next _ _ _ _ _ _ (omega (arith, pre .0, below)) (loop .inv .1) (c .both .ensures))
+    (omega arith, first-next _ _ _ _ _ _ (omega (arith, pre .0, below)) (loop .inv .1) (c .earliest-end .ensures))
 
 returns : tie.Need-returns Inv-loop μ-loop
 returns c = 
@@ -83,11 +83,11 @@ first-ends-spec =
     loop-holds
     mul-i
     element-copy-out-i
-    mul-both
-    element-copy-out-both
-    mul-both-2
-    element-copy-out-both-2
-    both-requires
+    mul-earliest-end
+    element-copy-out-earliest-end
+    mul-earliest-end-2
+    element-copy-out-earliest-end-2
+    earliest-end-requires
     mul-ends
     array-write-ends
     add-x

@@ -3,14 +3,14 @@
 use borrow.Author.Needs.{needs}
 use native.Mathlib.Omega.{arith}
 use Rattle.order.specs.Orders.{valueAt}
-use Rattle.edges.specs.Internal.{arrays}
+use Rattle.jackson.specs.Internal.{heldIn}
 use Rattle.edges.proofs.EndCases.{Raising, raising-start, raising-place, raising-less, raising-next, raising-done}
 use Rattle.edges.proofs.ends.raise_ends.Statement.{statement}
 use Rattle.edges.proofs.ends.raise_ends.Tie as tie
 
 abbrev Inv-loop : tie.InvT-loop
 Inv-loop count r d p order b ends₀ kept₀ latest₀ x₀ ends kept latest x =
-    Raising (arrays count r d p) (valueAt order) b ends₀ ends kept latest x
+    Raising (heldIn count r d p) (valueAt order) b ends₀ ends kept latest x
 
 abbrev μ-loop : tie.MeasureT-loop
 μ-loop count r d p order b ends₀ kept₀ latest₀ x₀ ends kept latest x = x
