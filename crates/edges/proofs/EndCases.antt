@@ -8,8 +8,7 @@ use native.Mathlib.Numerals.{add-one}
 use native.Mathlib.Omega.{arith}
 use borrow.Author.Tests.{le-leb, lt-leb, lt-ltb, le-ltb}
 use lib.Dec.{leb, ltb}
-use lib.ListN.{length, getD, set, replicate, length-set, length-replicate, getD-replicate, List·getD-eq-default}
-use lib.Seq.{getD-set-same, getD-set-other}
+use lib.ListN.{length, set, replicate, length-set, length-replicate, getD-replicate}
 use Rattle.base.specs.Counting.{sum, EachOnce}
 use Rattle.base.proofs.Sums.{le-or-lt, same-cases}
 use Rattle.base.proofs.Permutations.{once-in, once-has, once-one, once-sum}
@@ -20,17 +19,19 @@ use Rattle.jackson.specs.Windows.{Windows, columns}
 use Rattle.jackson.specs.Internal.{heldIn}
 use Rattle.jackson.specs.Intervals.{work}
 use Rattle.jackson.specs.RunningSums.{LatestReleaseFirst, entered}
+use Rattle.jackson.proofs.Puts.{put-cases}
+use Rattle.jackson.proofs.ArrayCases.{set-put}
 use Rattle.edges.specs.Ends.{largest, closedEnd}
-use Rattle.edges.specs.Internal.{Adds, DueBy, LaterEnd, workEnd, latestEnd, askedAfter, askedAt}
+use Rattle.edges.specs.Internal.{MinutesBy, DueBy, LaterEnd, workEnd, latestEnd, askedAfter, askedAt}
 use Rattle.edges.specs.Internal.{EndsBy, Raises, FirstEnds, AtPlaces}
 use Rattle.edges.proofs.EndWalks.{ends-closed}
 
 -- one entry's minutes
 module _ (b d p : ℕ) where
-  pub adds-none : b < d → Adds b d p 0
+  pub adds-none : b < d → MinutesBy b d p 0
   adds-none h = record { is = rw (lt-leb d b h) refl; small = omega arith }
 
-  pub adds-all : d ≤ b → p ≤ 65535 → Adds b d p p
+  pub adds-all : d ≤ b → p ≤ 65535 → MinutesBy b d p p
   adds-all h small = record { is = rw (le-leb d b h) refl; small = small }
 
 -- an end raised, or not
@@ -53,24 +54,15 @@ module _ (d p : List ℕ) (b : ℕ) where
   unfolding sum
   due-start = record { is = refl; small = omega arith }
 
-  pub due-next : (kept i x : ℕ) → DueBy i d p b kept → Adds b (valueAt d i) (valueAt p i) x → DueBy (i + 1) d p b (kept + x)
+  pub due-next : (kept i x : ℕ) → DueBy i d p b kept → MinutesBy b (valueAt d i) (valueAt p i) x → DueBy (i + 1) d p b (kept + x)
   unfolding sum
   due-next kept i x so adds =
       record { is = rw add-one (omega (arith, so .is, adds .is)); small = omega (arith, so .small, adds .small) }
 
--- the array's number where one was stored, and elsewhere
-module _ (xs : List ℕ) (i v : ℕ) (fits : i < length xs) where
-  stored : (P : ℕ → Type 0) (k : ℕ) → (k ≡ i → P v) → ((k ≡ i → ⊥) → P (valueAt xs k)) → P (valueAt (set xs i v) k)
-  stored P k here there =
-      same-cases k i
-      (λ e _. rw (e, getD-set-same xs i v 0 fits) (here e))
-      (λ e _. rw (getD-set-other xs i k v 0 e) (there e))
-
-no-number : (k : ℕ) → valueAt (replicate 64 0) k ≡ 0
-no-number k =
-    le-or-lt 64 k
-    (λ h. List·getD-eq-default (replicate 64 0) 0 {n = k} (omega (arith, length-replicate {A = ℕ} 64 0)))
-    (λ h. getD-replicate 64 k 0 0 h)
+-- an array's number where one was stored, and elsewhere
+stored : (xs : List ℕ) (i v : ℕ) → i < length xs → (P : ℕ → Type 0) (k : ℕ) → (k ≡ i → P v) → ((k ≡ i → ⊥) → P (valueAt xs k))
+    → P (valueAt (set xs i v) k)
+stored xs i v fits P k here there = rw (set-put xs i v fits k) (put-cases i v (valueAt xs) P k here there)
 
 -- r + p of the first m positions
 module _ (r p : List ℕ) (o : ℕ → ℕ) where
@@ -93,7 +85,7 @@ module _ (r p : List ℕ) (o : ℕ → ℕ) where
 module _ (n : ℕ) (o : ℕ → ℕ) (xs : List ℕ) where
   pub places-none : AtPlaces n o xs 0 (replicate 64 0)
   places-none =
-      record { long = length-replicate {A = ℕ} 64 0; each = λ x l. absurd (omega arith); rest = λ i _. no-number i }
+      record { long = length-replicate {A = ℕ} 64 0; each = λ x l. absurd (omega arith); rest = λ i _ l. getD-replicate 64 i 0 0 l }
 
   pub places-next : (m : ℕ) (ys : List ℕ) → n ≤ 64 → EachOnce n o → m < n → AtPlaces n o xs m ys
       → AtPlaces n o xs (m + 1) (set ys (o m) (valueAt xs m))
@@ -109,8 +101,8 @@ module _ (n : ℕ) (o : ℕ → ℕ) (xs : List ℕ) where
             (λ q. ap (valueAt xs) (sym (once-one n o once x m (omega arith) below q)))
             (λ ne. same-cases x m (λ q _. absurd (ne (ap o q))) (λ q _. so .each x (omega (arith, l, q))));
         rest =
-            λ i l.
-            stored ys (o m) v fits (λ z. z ≡ 0) i (λ q. absurd (omega (arith, q, place))) (λ _. so .rest i l);
+            λ i l u.
+            stored ys (o m) v fits (λ z. z ≡ 0) i (λ q. absurd (omega (arith, q, place))) (λ _. so .rest i l u);
       }
 
 -- One right end b: the walk has come down to position x.
@@ -166,7 +158,7 @@ module _ (w : Windows) (o : ℕ → ℕ) (b : ℕ) where
     raising-place some = once-in (w .n) o (so .once) (x - 1) (omega (arith, so .within))
 
     -- a step down
-    module _ (some : 0 < x) (m : ℕ) (adds : Adds b (w .d (o (x - 1))) (w .p (o (x - 1))) m) where
+    module _ (some : 0 < x) (m : ℕ) (adds : MinutesBy b (w .d (o (x - 1))) (w .p (o (x - 1))) m) where
       abbrev u : ℕ
       u = x - 1
 
@@ -184,9 +176,14 @@ module _ (w : Windows) (o : ℕ → ℕ) (b : ℕ) where
       raising-next later v ends e =
           let fits : u < length new = omega (arith, so .long, so .within, so .few) in
           let at : later ≡ latestEnd w o b u =
-          ends .is
-          ∙ (ap (λ (z : ℕ). max z (w .r (o u) + kept)) (so .latest-is ∙ ap (latestEnd w o b) (sym next))
-          ∙ (ap (λ (z : ℕ). max (latestEnd w o b (suc u)) (w .r (o u) + z)) kept-before ∙ sym (latest-next u (omega (arith, so .within))))) in
+          omega (
+            arith,
+            ends .is,
+            so .latest-is,
+            ap (latestEnd w o b) next,
+            kept-before,
+            latest-next u (omega (arith, so .within)),
+          ) in
           record {
             few = so .few;
             once = so .once;
@@ -226,8 +223,8 @@ module _ (w : Windows) (o : ℕ → ℕ) where
   pub ends-all : (xs ys : List ℕ) → LatestReleaseFirst w o → EndsBy w o (w .n) xs → AtPlaces (w .n) o xs (w .n) ys
       → ys ≡ byPlace (w .n) (closedEnd w)
   ends-all xs ys order so at =
-      sym (list-is 64 (λ i. cond (ltb i (w .n)) (closedEnd w i) 0) 0 ys (at .long) (λ i _. le-or-lt (w .n) i
-      (λ h. rw (le-ltb i (w .n) h) (sym (at .rest i h)))
+      sym (list-is 64 (λ i. cond (ltb i (w .n)) (closedEnd w i) 0) 0 ys (at .long) (λ i u. le-or-lt (w .n) i
+      (λ h. rw (le-ltb i (w .n) h) (sym (at .rest i h u)))
       (λ h.
       let z = once-has (w .n) o (order .once) i h in
       rw (lt-ltb i (w .n) h)
@@ -235,6 +232,10 @@ module _ (w : Windows) (o : ℕ → ℕ) where
       (ap (valueAt ys) (sym (z .2))
       ∙ (at .each (z .0) (z .1)
       ∙ (so .each (z .0) (z .1) ∙ (ends-closed w o order (z .0) (z .1) ∙ ap (closedEnd w) (z .2)))))))))
+
+-- where so many places are held, the order has each once
+pub held-once : (n count : ℕ) → count ≡ n → (f : ℕ → ℕ) (order : List ℕ) → HoldsOrder n f order → EachOnce count (valueAt order)
+held-once n count held f order so = rw held (so .order .once)
 
 -- arrays: the first ends, and that least ends ask for no H
 module _ (n : ℕ) (r d p : List ℕ) where
@@ -246,12 +247,8 @@ module _ (n : ℕ) (r d p : List ℕ) where
   unfolding closedEnd work
   any-day h = refl
 
-  -- where so many places are held, in this order
-  module _ (count : ℕ) (held : count ≡ n) (order : List ℕ) (so : HoldsOrder n (valueAt r) order) where
-    pub held-once : EachOnce count (valueAt order)
-    held-once = rw held (so .order .once)
-
-    pub ends-held : (h : ℕ) (xs ys : List ℕ) → EndsBy (heldIn count r d p) (valueAt order) count xs
-        → AtPlaces count (valueAt order) xs count ys → ys ≡ byPlace n (closedEnd (columns h n r d p))
-    ends-held h xs ys ends at =
-        ends-all (heldIn n r d p) (valueAt order) xs ys (so .order) (rw held at ends) (rw held at at) ∙ any-day h
+  pub ends-held : (count : ℕ) → count ≡ n → (order : List ℕ) → HoldsOrder n (valueAt r) order → (h : ℕ) (xs ys : List ℕ)
+      → EndsBy (heldIn count r d p) (valueAt order) count xs → AtPlaces count (valueAt order) xs count ys
+      → ys ≡ byPlace n (closedEnd (columns h n r d p))
+  ends-held count held order so h xs ys ends at =
+      ends-all (heldIn n r d p) (valueAt order) xs ys (so .order) (rw held at ends) (rw held at at) ∙ any-day h

@@ -1,6 +1,6 @@
 -- The least end in closed form is the least d with which entry k has a plan.
 -- Assumes nothing.
-use mathlib.Core.Path.{_≡_, sym}
+use mathlib.Core.Path.{_≡_}
 use Prim.Native.Nat.{ℕ, suc, _+_, _-_, _<_, _≤_, min, max}
 use native.Mathlib.Omega.{arith}
 use Rattle.base.proofs.Sums.{le-or-lt, between-is, between-le}

@@ -1,7 +1,7 @@
 -- For one right end, what the walk over the left ends asks of each entry is the largest that the left ends ask of it.
 -- Assumes nothing.
 use mathlib.Core.Path.{_≡_, ap}
-use Prim.Native.Nat.{ℕ, zero, suc, _+_, _-_, _<_, _≤_, min}
+use Prim.Native.Nat.{ℕ, zero, suc, _+_, _-_, _<_, _≤_}
 use native.Mathlib.Omega.{arith}
 use Rattle.base.proofs.Sums.{le-or-lt, between-is, between-le}
 use Rattle.base.proofs.Permutations.{once-in, once-has}

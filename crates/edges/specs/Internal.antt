@@ -13,7 +13,7 @@ use Rattle.jackson.specs.RunningSums.{entered}
 use Rattle.edges.specs.Ends.{largest}
 
 -- what an entry adds to the work for the right end b. That p has 16 bits, an array does not tell the caller.
-pub record Adds (b d p x : ℕ) : Type 0 where
+pub record MinutesBy (b d p x : ℕ) : Type 0 where
   pub is : x ≡ cond (leb d b) p 0
   pub small : x ≤ 65535
 
@@ -66,4 +66,4 @@ pub record FirstEnds (r p : List ℕ) (o : ℕ → ℕ) (m : ℕ) (xs : List ℕ
 pub record AtPlaces (n : ℕ) (o : ℕ → ℕ) (xs : List ℕ) (m : ℕ) (ys : List ℕ) : Type 0 where
   pub long : length ys ≡ mostEntries
   pub each : (x : ℕ) → x < m → valueAt ys (o x) ≡ valueAt xs x
-  pub rest : (i : ℕ) → n ≤ i → valueAt ys i ≡ 0
+  pub rest : (i : ℕ) → n ≤ i → i < mostEntries → valueAt ys i ≡ 0

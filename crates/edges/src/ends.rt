@@ -12,11 +12,11 @@ ghost use Rattle.order.specs.Orders.{valueAt};
 ghost use Rattle.jackson.specs.Windows.{windowsIn};
 ghost use Rattle.jackson.specs.Internal.{heldIn};
 ghost use Rattle.edges.specs.Ends.{closedEnd};
-ghost use Rattle.edges.specs.Internal.{Adds, DueBy, LaterEnd, askedAfter, EndsBy, Raises, FirstEnds, AtPlaces};
+ghost use Rattle.edges.specs.Internal.{MinutesBy, DueBy, LaterEnd, askedAfter, EndsBy, Raises, FirstEnds, AtPlaces};
 
 // An entry's minutes, if its d is at most b.
 fn minutes_by(b: u16, d: u16, p: u16) -> u32
-    ensures { λ x. ⌜ Adds b d p x ⌝ }
+    ensures { λ x. ⌜ MinutesBy b d p x ⌝ }
 {
     if b < d {
         return 0;
@@ -82,11 +82,9 @@ fn raise_ends(
     requires { ⌜ count ≤ mostEntries ⌝ }
     requires { ⌜ EachOnce count (valueAt (now order)) ⌝ }
     requires { ⌜ length (now ends) ≡ mostEntries ⌝ }
-    ensures {
-        λ _.
+    ensures { λ _.
         ⌜ Raises (heldIn count (now (r .entry)) (now (d .entry)) (now (p .entry))) (valueAt (now (order .entry))) b (now (ends .entry))
-              (now (ends .exit)) ⌝
-    }
+        (now (ends .exit)) ⌝ }
 {
     let mut kept = work_by(count, d, p, b);
     let mut latest: u32 = 0;
@@ -110,7 +108,12 @@ fn earliest_end(r: u16, p: u16) -> u32
 }
 
 // r + p, by position.
-fn first_ends(count: usize, r: &[u16; ENTRIES], p: &[u16; ENTRIES], order: &[usize; ENTRIES]) -> [u32; ENTRIES]
+fn first_ends(
+    count: usize,
+    r: &[u16; ENTRIES],
+    p: &[u16; ENTRIES],
+    order: &[usize; ENTRIES],
+) -> [u32; ENTRIES]
     requires { ⌜ count ≤ mostEntries ⌝ }
     requires { ⌜ EachOnce count (valueAt (now order)) ⌝ }
     ensures { λ xs. ⌜ FirstEnds (now (r .entry)) (now (p .entry)) (valueAt (now (order .entry))) count xs ⌝ }

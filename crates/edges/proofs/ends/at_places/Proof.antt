@@ -33,12 +33,12 @@ element-copy-out-places : tie.Need-element-copy-out-places Inv-loop μ-loop
 element-copy-out-places c = search needs
 
 mul-places-2 : tie.Need-mul-places-2 Inv-loop μ-loop
-mul-places-2 c = 
+mul-places-2 c =
     let pre = c .before .before .before .before .pre in
     search (needs, once-in _ _ (pre .1) _ (c .before .before .loop-test .taken))
 
 array-write-places : tie.Need-array-write-places Inv-loop μ-loop
-array-write-places c = 
+array-write-places c =
     let pre = c .before .before .before .before .pre in
     search (needs, once-in _ _ (pre .1) _ (c .before .before .loop-test .taken))
 
@@ -49,13 +49,13 @@ loop-less : tie.Need-loop-less Inv-loop μ-loop
 loop-less c = search needs
 
 loop-again : tie.Need-loop-again Inv-loop μ-loop
-loop-again c = 
+loop-again c =
     let loop = c .before .before .before .loop in
     let pre = c .before .before .before .before .pre in
     (omega arith, places-next _ _ _ _ _ (pre .0) (pre .1) (c .before .before .loop-test .taken) (loop .inv .1))
 
 returns : tie.Need-returns Inv-loop μ-loop
-returns c = 
+returns c =
     let loop = c .before .loop in
     let all : loop .x ≡ c .before .before .args .count = omega (arith, loop .inv .0, c .loop-test .left) in
     rw all at (loop .inv .1)

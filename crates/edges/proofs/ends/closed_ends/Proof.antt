@@ -14,24 +14,25 @@ largest-first-requires c κs = search needs
 
 ends-by-position-requires : tie.Need-ends-by-position-requires
 ends-by-position-requires c κs =
-    let held = c .before .before .before .before .before .before .before .before .before .places-held .ensures in
-    let windows = c .before .before .before .before .before .before .before .before .before .before .args .windows in
-    let order = c .before .before .before .before .largest-first .ensures in
-    (omega (arith, held), held-once _ (windows .r) (windows .d) (windows .p) _ held _ order)
+    let ordered = c .before .before .before .before in
+    let counted = ordered .before .before .before .before .before in
+    let held = counted .places-held .ensures in
+    (omega (arith, held), held-once _ _ held _ _ (ordered .largest-first .ensures))
 
 at-places-requires : tie.Need-at-places-requires
 at-places-requires c κs =
-    let held = c .before .before .before .before .before .before .before .before .before .before .before .before .places-held .ensures in
-    let windows = c .before .before .before .before .before .before .before .before .before .before .before .before .before .args .windows in
-    let order = c .before .before .before .before .before .before .before .largest-first .ensures in
-    (omega (arith, held), held-once _ (windows .r) (windows .d) (windows .p) _ held _ order)
+    let ordered = c .before .before .before .before .before .before .before in
+    let counted = ordered .before .before .before .before .before in
+    let held = counted .places-held .ensures in
+    (omega (arith, held), held-once _ _ held _ _ (ordered .largest-first .ensures))
 
 returns : tie.Need-returns
 returns c =
-    let held = c .before .before .before .before .before .before .before .before .before .before .before .before .before .places-held .ensures in
-    let windows = c .before .before .before .before .before .before .before .before .before .before .before .before .before .before .args .windows in
-    let order = c .before .before .before .before .before .before .before .before .largest-first .ensures in
-    ends-held _ (windows .r) (windows .d) (windows .p) _ held _ order (windows .h) _ _
+    let ordered = c .before .before .before .before .before .before .before .before in
+    let counted = ordered .before .before .before .before .before in
+    let windows = counted .before .args .windows in
+    ends-held _ (windows .r) (windows .d) (windows .p) _ (counted .places-held .ensures) _ (ordered .largest-first .ensures)
+    (windows .h) _ _
     (c .before .before .before .ends-by-position .ensures)
     (c .at-places .ensures)
 

@@ -27,22 +27,22 @@ element-copy-out-i : tie.Need-element-copy-out-i Inv-loop μ-loop
 element-copy-out-i c = search needs
 
 mul-earliest-end : tie.Need-mul-earliest-end Inv-loop μ-loop
-mul-earliest-end c = 
+mul-earliest-end c =
     let pre = c .before .before .before .pre in
     search (needs, once-in _ _ (pre .1) _ (c .before .loop-test .taken))
 
 element-copy-out-earliest-end : tie.Need-element-copy-out-earliest-end Inv-loop μ-loop
-element-copy-out-earliest-end c = 
+element-copy-out-earliest-end c =
     let pre = c .before .before .before .pre in
     search (needs, once-in _ _ (pre .1) _ (c .before .loop-test .taken))
 
 mul-earliest-end-2 : tie.Need-mul-earliest-end-2 Inv-loop μ-loop
-mul-earliest-end-2 c = 
+mul-earliest-end-2 c =
     let pre = c .before .before .before .before .pre in
     search (needs, once-in _ _ (pre .1) _ (c .before .before .loop-test .taken))
 
 element-copy-out-earliest-end-2 : tie.Need-element-copy-out-earliest-end-2 Inv-loop μ-loop
-element-copy-out-earliest-end-2 c = 
+element-copy-out-earliest-end-2 c =
     let pre = c .before .before .before .before .pre in
     search (needs, once-in _ _ (pre .1) _ (c .before .before .loop-test .taken))
 
@@ -62,14 +62,14 @@ loop-less : tie.Need-loop-less Inv-loop μ-loop
 loop-less c = search needs
 
 loop-again : tie.Need-loop-again Inv-loop μ-loop
-loop-again c = 
+loop-again c =
     let loop = c .before .before .before .before .before .loop in
     let pre = c .before .before .before .before .before .before .pre in
     let below = c .before .before .before .before .loop-test .taken in
     (omega arith, first-next _ _ _ _ _ _ (omega (arith, pre .0, below)) (loop .inv .1) (c .earliest-end .ensures))
 
 returns : tie.Need-returns Inv-loop μ-loop
-returns c = 
+returns c =
     let loop = c .before .loop in
     let all : loop .x ≡ c .before .before .args .count = omega (arith, loop .inv .0, c .loop-test .left) in
     rw all at (loop .inv .1)

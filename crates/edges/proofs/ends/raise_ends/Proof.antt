@@ -19,7 +19,7 @@ work-by-requires : tie.Need-work-by-requires Inv-loop μ-loop
 work-by-requires c κs = search needs
 
 loop-holds : tie.Need-loop-holds Inv-loop μ-loop
-loop-holds c = 
+loop-holds c =
     let pre = c .before .pre in
     let due = c .work-by .ensures in
     raising-start _ _ _ _ _ (pre .0) (pre .1 .0) (pre .1 .1) (due .is) (due .small)
@@ -28,57 +28,57 @@ sub-x : tie.Need-sub-x Inv-loop μ-loop
 sub-x c = search needs
 
 mul-i : tie.Need-mul-i Inv-loop μ-loop
-mul-i c = 
+mul-i c =
     let inv = c .before .loop .inv in
     search (needs, inv .within, inv .few)
 
 element-copy-out-i : tie.Need-element-copy-out-i Inv-loop μ-loop
-element-copy-out-i c = 
+element-copy-out-i c =
     let inv = c .before .loop .inv in
     search (needs, inv .within, inv .few)
 
 mul-due : tie.Need-mul-due Inv-loop μ-loop
-mul-due c = 
-    let loop = c .before .before .loop in
-    search (needs, raising-place _ _ _ _ _ _ _ _ (loop .inv) (c .before .loop-test .taken), loop .inv .few)
+mul-due c =
+    let turn = c .before in
+    search (needs, raising-place _ _ _ _ _ _ _ _ (turn .before .loop .inv) (turn .loop-test .taken), turn .before .loop .inv .few)
 
 element-copy-out-due : tie.Need-element-copy-out-due Inv-loop μ-loop
-element-copy-out-due c = 
-    let loop = c .before .before .loop in
-    search (needs, raising-place _ _ _ _ _ _ _ _ (loop .inv) (c .before .loop-test .taken), loop .inv .few)
+element-copy-out-due c =
+    let turn = c .before in
+    search (needs, raising-place _ _ _ _ _ _ _ _ (turn .before .loop .inv) (turn .loop-test .taken), turn .before .loop .inv .few)
 
 mul-minutes : tie.Need-mul-minutes Inv-loop μ-loop
-mul-minutes c = 
-    let loop = c .before .before .before .loop in
-    search (needs, raising-place _ _ _ _ _ _ _ _ (loop .inv) (c .before .before .loop-test .taken), loop .inv .few)
+mul-minutes c =
+    let turn = c .before .before in
+    search (needs, raising-place _ _ _ _ _ _ _ _ (turn .before .loop .inv) (turn .loop-test .taken), turn .before .loop .inv .few)
 
 element-copy-out-minutes : tie.Need-element-copy-out-minutes Inv-loop μ-loop
-element-copy-out-minutes c = 
-    let loop = c .before .before .before .loop in
-    search (needs, raising-place _ _ _ _ _ _ _ _ (loop .inv) (c .before .before .loop-test .taken), loop .inv .few)
+element-copy-out-minutes c =
+    let turn = c .before .before in
+    search (needs, raising-place _ _ _ _ _ _ _ _ (turn .before .loop .inv) (turn .loop-test .taken), turn .before .loop .inv .few)
 
 mul-later-end : tie.Need-mul-later-end Inv-loop μ-loop
-mul-later-end c = 
-    let loop = c .before .before .before .before .loop in
-    search (needs, raising-place _ _ _ _ _ _ _ _ (loop .inv) (c .before .before .before .loop-test .taken), loop .inv .few)
+mul-later-end c =
+    let turn = c .before .before .before in
+    search (needs, raising-place _ _ _ _ _ _ _ _ (turn .before .loop .inv) (turn .loop-test .taken), turn .before .loop .inv .few)
 
 element-copy-out-later-end : tie.Need-element-copy-out-later-end Inv-loop μ-loop
-element-copy-out-later-end c = 
-    let loop = c .before .before .before .before .loop in
-    search (needs, raising-place _ _ _ _ _ _ _ _ (loop .inv) (c .before .before .before .loop-test .taken), loop .inv .few)
+element-copy-out-later-end c =
+    let turn = c .before .before .before in
+    search (needs, raising-place _ _ _ _ _ _ _ _ (turn .before .loop .inv) (turn .loop-test .taken), turn .before .loop .inv .few)
 
 later-end-requires : tie.Need-later-end-requires Inv-loop μ-loop
-later-end-requires c κs = 
+later-end-requires c κs =
     let inv = c .before .before .before .before .before .loop .inv in
     search (needs, inv .kept-small, inv .latest-small)
 
 mul-raised : tie.Need-mul-raised Inv-loop μ-loop
-mul-raised c = 
+mul-raised c =
     let inv = c .before .before .before .before .before .before .loop .inv in
     search (needs, inv .within, inv .few, inv .long)
 
 element-copy-out-raised : tie.Need-element-copy-out-raised Inv-loop μ-loop
-element-copy-out-raised c = 
+element-copy-out-raised c =
     let inv = c .before .before .before .before .before .before .loop .inv in
     search (needs, inv .within, inv .few, inv .long)
 
@@ -86,12 +86,12 @@ raised-requires : tie.Need-raised-requires Inv-loop μ-loop
 raised-requires c κs = search (needs, c .before .later-end .ensures .small)
 
 mul-ends : tie.Need-mul-ends Inv-loop μ-loop
-mul-ends c = 
+mul-ends c =
     let inv = c .before .before .before .before .before .before .before .before .loop .inv in
     search (needs, inv .within, inv .few, inv .long)
 
 element-write-ends : tie.Need-element-write-ends Inv-loop μ-loop
-element-write-ends c = 
+element-write-ends c =
     let inv = c .before .before .before .before .before .before .before .before .loop .inv in
     search (needs, inv .within, inv .few, inv .long)
 
@@ -99,17 +99,17 @@ minutes-by-requires : tie.Need-minutes-by-requires Inv-loop μ-loop
 minutes-by-requires c κs = search needs
 
 sub-kept : tie.Need-sub-kept Inv-loop μ-loop
-sub-kept c = 
-    let loop = c .before .before .before .before .before .before .before .before .before .loop in
-    raising-less _ _ _ _ _ _ _ _ (loop .inv) (c .before .before .before .before .before .before .before .before .loop-test .taken) _ (c .minutes-by .ensures)
+sub-kept c =
+    let turn = c .before .before .before .before .before .before .before .before in
+    raising-less _ _ _ _ _ _ _ _ (turn .before .loop .inv) (turn .loop-test .taken) _ (c .minutes-by .ensures)
 
 loop-less : tie.Need-loop-less Inv-loop μ-loop
 loop-less c = search needs
 
 loop-again : tie.Need-loop-again Inv-loop μ-loop
-loop-again c = 
-    let loop = c .before .before .before .before .before .before .before .before .before .loop in
-    raising-next _ _ _ _ _ _ _ _ (loop .inv) (c .before .before .before .before .before .before .before .before .loop-test .taken) _ (c .minutes-by .ensures) _ _
+loop-again c =
+    let turn = c .before .before .before .before .before .before .before .before in
+    raising-next _ _ _ _ _ _ _ _ (turn .before .loop .inv) (turn .loop-test .taken) _ (c .minutes-by .ensures) _ _
     (c .before .before .before .later-end .ensures)
     (c .before .raised .ensures)
 

@@ -34,7 +34,7 @@ minutes-by-requires : tie.Need-minutes-by-requires Inv-loop μ-loop
 minutes-by-requires c κs = search needs
 
 add-kept : tie.Need-add-kept Inv-loop μ-loop
-add-kept c = 
+add-kept c =
     let pre = c .before .before .before .before .before .pre in
     search (needs, pre, c .before .before .before .before .loop .inv .1 .small, c .minutes-by .ensures .small)
 
@@ -48,7 +48,7 @@ loop-again : tie.Need-loop-again Inv-loop μ-loop
 loop-again c = (omega arith, due-next _ _ _ _ _ _ (c .before .before .before .before .loop .inv .1) (c .minutes-by .ensures))
 
 returns : tie.Need-returns Inv-loop μ-loop
-returns c = 
+returns c =
     let loop = c .before .loop in
     let all : loop .i ≡ c .before .before .args .count = omega (arith, loop .inv .0, c .loop-test .left) in
     rw all at (loop .inv .1)
