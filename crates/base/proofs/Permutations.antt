@@ -1,13 +1,13 @@
 -- Numbers listed each once: what is added up over them, and two of them exchanged.
 -- Assumes nothing.
-use mathlib.Core.Path.{_≡_, refl, sym, _∙_}
+use mathlib.Core.Path.{_≡_, refl, sym, ap, _∙_}
 use mathlib.Core.Bool.{Bool, true, false, cond}
-use Prim.Native.Nat.{ℕ, zero, suc, _+_, _<_}
+use Prim.Native.Nat.{ℕ, zero, suc, _+_, _<_, _≤_}
 use native.Mathlib.Omega.{arith}
 use borrow.Author.Tests.{eq-eqb, ne-eqb}
 use lib.Dec.{eqb}
 use Rattle.base.specs.Counting.{sum, same, EachOnce}
-use Rattle.base.proofs.Sums.{le-or-lt, same-cases, same-ne, sum-cong, sum-zero, sum-add, sum-swap, sum-lt}
+use Rattle.base.proofs.Sums.{le-or-lt, same-cases, same-ne, sum-le, sum-cong, sum-zero, sum-add, sum-swap, sum-lt}
 use Rattle.base.proofs.Sums.{some-term, sum-same, sum-same-le}
 
 -- if one term is marked, that one alone is added up
@@ -56,6 +56,31 @@ module _ (n : ℕ) (o : ℕ → ℕ) (once : EachOnce n o) where
   once-has i below =
       let z = some-term n (λ x. same (o x) i) (omega (arith, once i below)) in
       (z .0, z .1, same-cases (o (z .0)) i (λ e _. e) (λ _ s. absurd (omega (arith, s, z .2))))
+
+  -- at one position only
+  pub once-one : (x y : ℕ) → x < n → y < n → o x ≡ o y → x ≡ y
+  once-one x y lx ly e =
+      same-cases x y (λ q _. q)
+      (λ ne _.
+      absurd (omega (
+        arith,
+        sum-le n (λ z. same x z + same y z) (λ z. same (o z) (o x)) (λ z _. each ne z),
+        sum-add n (same x) (same y),
+        sum-same n x lx,
+        sum-same n y ly,
+        once (o x) (once-in x lx),
+      )))
+    where
+      there : (z : ℕ) → o z ≡ o x → same (o z) (o x) ≡ 1
+      there z q = rw (eq-eqb (o z) (o x) q)
+
+      each : (x ≡ y → ⊥) → (z : ℕ) → same x z + same y z ≤ same (o z) (o x)
+      each ne z =
+          same-cases x z
+          (λ q s. omega (arith, s, same-ne y z (λ u. ne (q ∙ sym u)), there z (ap o (sym q))))
+          (λ _ s. same-cases y z
+          (λ q t. omega (arith, s, t, there z (ap o (sym q) ∙ sym e)))
+          (λ _ t. omega (arith, s, t)))
 
   -- so whatever is added up over them, each is counted once
   pub once-sum : (f : ℕ → ℕ) → sum n (λ x. f (o x)) ≡ sum n f

@@ -126,13 +126,11 @@ some-term (suc n) f some =
     (λ h. let z = some-term n f (omega arith) in (z .0, omega (arith, z .1), z .2))
 
 -- the first terms are at most the sum
-pub sum-first-terms : (n x : ℕ) (f : ℕ → ℕ) → x ≤ n → sum x f ≤ sum n f
+pub sum-more : (n x : ℕ) (f : ℕ → ℕ) → x ≤ n → sum x f ≤ sum n f
 unfolding sum
-sum-first-terms zero x f l = let z : x ≡ 0 = omega arith in rw z (omega arith)
-sum-first-terms (suc n) x f l =
-    le-or-lt x n
-    (λ h. omega (arith, sum-first-terms n x f h))
-    (λ h. let z : x ≡ suc n = omega arith in rw z (omega arith))
+sum-more zero x f l = let z : x ≡ 0 = omega arith in rw z (omega arith)
+sum-more (suc n) x f l =
+    le-or-lt x n (λ h. omega (arith, sum-more n x f h)) (λ h. let z : x ≡ suc n = omega arith in rw z (omega arith))
 
 -- and all of it where the rest are 0
 pub sum-rest : (n x : ℕ) (f : ℕ → ℕ) → x ≤ n → ((i : ℕ) → x ≤ i → i < n → f i ≡ 0) → sum x f ≡ sum n f

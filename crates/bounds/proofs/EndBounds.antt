@@ -15,10 +15,10 @@ use Rattle.narrow.specs.Settling.{Settled}
 use Rattle.narrow.proofs.Planners.{Planner}
 use Rattle.jackson.proofs.Room.{formed-roomy}
 use Rattle.jackson.proofs.Puts.{place-cases, put-same, with-d, consecutive-fixed, fixed-consecutive}
+use Rattle.jackson.proofs.Puts.{own-deadline, deadline-widen, deadline-formed}
 use Rattle.bounds.specs.Ends.{leastEnd, Keeping}
 use Rattle.bounds.specs.ShownPlans.{earlyPlan, IsEarly}
-use Rattle.bounds.proofs.EndSearches.{own-deadline, deadline-widen, deadline-formed, deadline-exact, least-end-whole}
-use Rattle.bounds.proofs.EndSearches.{least-end-first, least-end-range}
+use Rattle.bounds.proofs.EndSearches.{deadline-exact, least-end-whole, least-end-first, least-end-range}
 
 -- Plans.
 

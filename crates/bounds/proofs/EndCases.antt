@@ -1,30 +1,26 @@
--- The searches for least ends, and numbers by place, as code makes them.
+-- The searches for least ends, as code makes them.
 -- Assumes nothing.
 use mathlib.Core.Path.{_≡_, refl, sym, ap, _∙_}
-use mathlib.Core.Bool.{Bool, true, false, cond}
+use mathlib.Core.Bool.{Bool, true, false}
 use mathlib.Core.List.{List}
 use Prim.Native.Nat.{ℕ, _+_, _-_, _/_, _<_, _≤_}
 use native.Mathlib.Omega.{arith}
-use borrow.Author.Tests.{lt-ltb, le-ltb}
-use lib.Dec.{ltb}
-use lib.ListN.{length, getD, set, replicate, length-set, length-replicate, getD-replicate}
-use lib.Seq.{getD-set-same, getD-set-other}
+use lib.ListN.{getD, replicate}
+use Rattle.list.specs.DayLists.{byPlace}
 use Rattle.list.specs.Refusals.{verdictOf}
 use Rattle.list.specs.declared.types.Verdict.{Verdict}
 use Rattle.jackson.specs.Windows.{Windows, windowsIn, withD, roomFault, Formed, Searchable}
 use Rattle.jackson.specs.Mirrors.{MirrorOf, mirror}
 use Rattle.jackson.specs.Intervals.{overloadOf}
 use Rattle.jackson.specs.declared.types.WindowSet.{WindowSet}
-use Rattle.base.proofs.Sums.{le-or-lt, same-cases}
-use Rattle.base.proofs.Listed.{list-is, list-length}
+use Rattle.list.proofs.ByPlace.{by-place, by-place-same}
 use Rattle.base.specs.Outcomes.{accepts}
 use Rattle.base.proofs.Inversion.{accepted-answered}
 use Rattle.jackson.proofs.Room.{passes-formed}
 use Rattle.narrow.proofs.OverloadPlanner.{overload-planner}
 use Rattle.jackson.proofs.MirrorWindows.{formed-mirror}
-use Rattle.bounds.specs.Ends.{leastEnd, byPlace, leastEnds, greatestStarts}
+use Rattle.bounds.specs.Ends.{leastEnd, leastEnds, greatestStarts}
 use Rattle.bounds.specs.Calls.{HoldsBounds}
-use Rattle.bounds.proofs.ByPlace.{by-place-at, by-place, by-place-same}
 use Rattle.bounds.proofs.EndSearches.{deadline-mono, least-end-whole, least-end-found, least-end-range}
 use Rattle.bounds.proofs.MirrorEnds.{start-by-mirror}
 
@@ -101,49 +97,6 @@ module _ {w : Windows} (formed : Formed w) {k : ℕ} (place : k < w .n) where
 
 pub whole-end : (whole : Bool) (w : Windows) (k : ℕ) → whole ≡ true → w .r k + w .p k ≡ leastEnd overloadOf (λ _. whole) w k
 whole-end whole w k is = sym (least-end-whole overloadOf (λ _. whole) w k is)
-
--- numbers by place: the first i are stored
-module _ (f : ℕ → ℕ) where
-  placed-nowhere : replicate 64 0 ≡ byPlace 0 f
-  placed-nowhere =
-      sym
-      (list-is 64 _ 0 (replicate 64 0) (length-replicate {A = ℕ} 64 0)
-      (λ t h. let z = le-ltb t 0 (omega arith) in rw z (sym (getD-replicate 64 t 0 0 h))))
-
-  placed-one : (xs : List ℕ) (i x : ℕ) → xs ≡ byPlace i f → i < 64 → x ≡ f i → set xs i x ≡ byPlace (i + 1) f
-  placed-one xs i x so h e = sym (list-is 64 _ 0 (set xs i x) (length-set xs i x ∙ long) (λ t below. sym (at t below)))
-    where
-      long : length xs ≡ 64
-      long = rw so (list-length 64 _)
-
-      at : (t : ℕ) → t < 64 → getD (set xs i x) t 0 ≡ cond (ltb t (i + 1)) (f t) 0
-      at t below =
-          same-cases t i
-          (λ z _. rw (lt-ltb t (i + 1) (omega arith)) (rw z (getD-set-same xs i x 0 (omega (arith, long)) ∙ e)))
-          (λ z _.
-          getD-set-other xs i t x 0 z
-          ∙ ap (λ (ys : List ℕ). getD ys t 0) so
-          ∙ by-place-at f i t below
-          ∙ le-or-lt i t
-          (λ a. rw (le-ltb t i a, le-ltb t (i + 1) (omega (arith, z))))
-          (λ a. rw (lt-ltb t i a, lt-ltb t (i + 1) (omega arith))))
-
--- the numbers of the first i of n places are stored
-pub record Placed (f : ℕ → ℕ) (n : ℕ) (xs : List ℕ) (i : ℕ) : Type 0 where
-  pub few : n ≤ 64
-  pub passed : i ≤ n
-  pub is : xs ≡ byPlace i f
-
-module _ (f : ℕ → ℕ) (n : ℕ) where
-  pub placed-none : (xs : List ℕ) → n ≤ 64 → xs ≡ replicate 64 0 → Placed f n xs 0
-  placed-none xs few e = record { few = few; passed = omega arith; is = e ∙ placed-nowhere f }
-
-  pub placed-next : (xs : List ℕ) (i x : ℕ) → Placed f n xs i → i < n → x ≡ f i → Placed f n (set xs i x) (i + 1)
-  placed-next xs i x so h e =
-      record { few = so .few; passed = omega (arith, h); is = placed-one f xs i x (so .is) (omega (arith, so .few)) e }
-
-  pub placed-all : (xs : List ℕ) (i : ℕ) → Placed f n xs i → n ≤ i → xs ≡ byPlace n f
-  placed-all xs i so h = let z : i ≡ n = omega (arith, so .passed) in rw (← z) (so .is)
 
 -- windows with room, in arrays
 module _ (s : WindowSet) (formed : Formed (windowsIn s)) where

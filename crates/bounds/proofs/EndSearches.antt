@@ -2,63 +2,34 @@
 -- Assumes nothing.
 use mathlib.Core.Path.{_≡_, refl, sym, ap, _∙_}
 use mathlib.Core.Logic.{_↔_}
-use mathlib.Core.Bool.{Bool, true, false, cond, true≢false}
+use mathlib.Core.Bool.{Bool, true, false, true≢false}
 use Prim.Native.Nat.{ℕ, _+_, _-_, _<_, _≤_}
 use native.Mathlib.Omega.{arith}
-use Rattle.jackson.specs.Windows.{Windows, Inside, withWindows, withD, Formed}
-use Rattle.jackson.specs.Plans.{Plan, Plannable}
+use Rattle.jackson.specs.Windows.{Windows, withD, Formed}
+use Rattle.jackson.specs.Plans.{Plannable}
 use Rattle.base.proofs.Sums.{le-or-lt}
 use Rattle.base.proofs.Searches.{First, first-below}
-use Rattle.jackson.proofs.PlanFacts.{widen}
 use Rattle.narrow.specs.Searching.{Test}
 use Rattle.base.specs.Outcomes.{accepts}
 use Rattle.narrow.proofs.Planners.{Planner}
-use Rattle.jackson.proofs.Puts.{place-cases, put-back}
-use Rattle.jackson.proofs.Room.{formed-inside}
+use Rattle.jackson.proofs.Puts.{deadline-widen, deadline-formed}
 use Rattle.base.proofs.Inversion.{accepted-answered}
 use Rattle.bounds.specs.Ends.{spare, failedDeadlines, leastEnd}
 
 -- Another d of one entry.
+module _ (w : Windows) (formed : Formed w) (k : ℕ) (place : k < w .n) {test : Test} (planner : Planner test) where
+  -- the test of an end asks whether a plan exists
+  pub deadline-exact : (e : ℕ) → w .r k + w .p k ≤ e → e ≤ w .d k → (accepts (test (withD w k e)) ≡ true) ↔ Plannable (withD w k e)
+  deadline-exact e room due =
+      let exact = planner .exact (withD w k e) (deadline-formed w formed k place e room due) in
+      (λ q. exact .1 (accepted-answered _ q), λ plan. ap accepts (exact .0 plan))
 
--- its own changes nothing
-pub own-deadline : (w : Windows) (k : ℕ) → withD w k (w .d k) ≡ w
-own-deadline w k = ap (withWindows w (w .r)) (put-back k (w .d))
-
--- one lies inside a greater one
-deadline-inside : (w : Windows) (k e x : ℕ) → e ≤ x → Inside (withD w k e) (withD w k x)
-deadline-inside w k e x less =
-    record {
-      r = λ i _. omega arith;
-      d = λ i _. place-cases (λ t. cond t e (w .d i) ≤ cond t x (w .d i)) i k (λ _. less) (λ _. omega arith);
-    }
-
--- so a plan for it is one for the greater
-pub deadline-widen : (w : Windows) (k e x : ℕ) → e ≤ x → (m : ℕ → ℕ) → Plan (withD w k e) m → Plan (withD w k x) m
-deadline-widen w k e x less m = widen (withD w k x) _ _ m (deadline-inside w k e x less)
-
-module _ (w : Windows) (formed : Formed w) (k : ℕ) (place : k < w .n) where
-  -- windows with room have it with another d that leaves room
-  pub deadline-formed : (e : ℕ) → w .r k + w .p k ≤ e → e ≤ w .d k → Formed (withD w k e)
-  deadline-formed e room due =
-      formed-inside w formed _ _ (rw (own-deadline w k) at (deadline-inside w k e (w .d k) due))
-      (λ i below.
-      place-cases (λ t. w .r i + w .p i ≤ cond t e (w .d i)) i k
-      (λ q. omega (arith, ap (w .r) q, ap (w .p) q))
-      (λ _. formed .room i below))
-
-  module _ {test : Test} (planner : Planner test) where
-    -- the test of an end asks whether a plan exists
-    pub deadline-exact : (e : ℕ) → w .r k + w .p k ≤ e → e ≤ w .d k → (accepts (test (withD w k e)) ≡ true) ↔ Plannable (withD w k e)
-    deadline-exact e room due =
-        let exact = planner .exact (withD w k e) (deadline-formed e room due) in
-        (λ q. exact .1 (accepted-answered _ q), λ plan. ap accepts (exact .0 plan))
-
-    -- and what it accepts of an end it accepts of a greater one
-    pub deadline-mono : (e x : ℕ) → w .r k + w .p k ≤ e → e ≤ x → x ≤ w .d k
-        → accepts (test (withD w k e)) ≡ true → accepts (test (withD w k x)) ≡ true
-    deadline-mono e x room less due q =
-        let plan = deadline-exact e room (omega arith) .0 q in
-        deadline-exact x (omega arith) due .1 (plan .0, deadline-widen w k e x less (plan .0) (plan .1))
+  -- and what it accepts of an end it accepts of a greater one
+  pub deadline-mono : (e x : ℕ) → w .r k + w .p k ≤ e → e ≤ x → x ≤ w .d k
+      → accepts (test (withD w k e)) ≡ true → accepts (test (withD w k x)) ≡ true
+  deadline-mono e x room less due q =
+      let plan = deadline-exact e room (omega arith) .0 q in
+      deadline-exact x (omega arith) due .1 (plan .0, deadline-widen w k e x less (plan .0) (plan .1))
 
 -- Least ends.
 

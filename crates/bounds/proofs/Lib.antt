@@ -4,8 +4,7 @@ mod MirrorEnds
 -- In settled windows these are bounds over all plans, and the plans shown have them.
 pub mod EndBounds
 pub mod StartBounds
--- Numbers by place; bounds and shown plans as functions of the windows.
-pub mod ByPlace
+-- Bounds and shown plans as functions of the windows.
 pub mod ShownFacts
 -- What the code's proofs cite, case by case.
 mod EndCases

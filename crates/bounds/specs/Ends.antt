@@ -3,9 +3,8 @@ use Prim.Native.Nat.{ℕ, _+_, _-_}
 use mathlib.Core.Path.{_≡_}
 use mathlib.Core.Bool.{Bool, true, cond}
 use mathlib.Core.List.{List}
-use lib.Dec.{ltb}
-use Rattle.base.specs.Counting.{firstBelow, listOf}
-use Rattle.list.specs.DayLists.{mostEntries}
+use Rattle.base.specs.Counting.{firstBelow}
+use Rattle.list.specs.DayLists.{byPlace}
 use Rattle.jackson.specs.Windows.{Windows, withR, withD}
 use Rattle.jackson.specs.Plans.{Plan, Consecutive}
 use Rattle.jackson.specs.Intervals.{overloadOf}
@@ -33,10 +32,6 @@ leastEnd test whole w k = cond (whole k) (w .r k + w .p k) (w .r k + w .p k + fa
 -- "a pause entry has its .. greatest start over all plans. A whole entry has .. d - p": `start-bound` and `late-is`
 unfoldable pub greatestStart : Test → (ℕ → Bool) → Windows → ℕ → ℕ
 greatestStart test whole w k = cond (whole k) (w .d k - w .p k) (w .d k - w .p k - failedReleases test w k)
-
--- a number for each place below n; from n on 0
-abbrev pub byPlace : ℕ → (ℕ → ℕ) → List ℕ
-byPlace n f = listOf mostEntries (λ i. cond (ltb i n) (f i) 0)
 
 -- the least ends and greatest starts of all places
 abbrev pub leastEnds : (ℕ → Bool) → Windows → List ℕ

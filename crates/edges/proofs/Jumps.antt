@@ -8,7 +8,7 @@ use native.Mathlib.Omega.{arith}
 use borrow.Author.Tests.{le-leb, leb-true, lt-ltb, le-ltb}
 use lib.Dec.{leb, ltb}
 use Rattle.base.specs.Counting.{sum}
-use Rattle.base.proofs.Sums.{le-or-lt, same-cases, between-le, sum-cong, sum-first-terms}
+use Rattle.base.proofs.Sums.{le-or-lt, same-cases, between-le, sum-cong, sum-more}
 use Rattle.base.proofs.Permutations.{once-in, once-sum}
 use Rattle.jackson.specs.Windows.{Windows}
 use Rattle.jackson.specs.Intervals.{work, Fits}
@@ -119,7 +119,7 @@ module _ (v : Windows) (o : ℕ → ℕ) (order : LatestReleaseFirst v o) (p : �
         omega (
           arith,
           entered-part (v .r (o x)) x below (omega arith),
-          sum-first-terms (v .n) (suc x) (λ y. f (o y)) below,
+          sum-more (v .n) (suc x) (λ y. f (o y)) below,
           once-sum (v .n) o (order .once) f,
         )
 

@@ -2,4 +2,5 @@ pub mod Starts
 pub mod Ends
 pub mod Laws
 pub mod Calls
+pub mod Examples
 pub mod Internal

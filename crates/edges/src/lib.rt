@@ -4,7 +4,9 @@
 // total: its contract states the answer by equality with definitions of specs/, for every value; what these are over all plans is stated in
 // specs/Laws.antt, for windows with room that have a plan. Uses the crates base, list and order, and of the crate jackson its windows, the
 // running sum and the law that a plan exists exactly without overload.
+mod ends;
 mod starts;
 pub mod types;
 
+pub use ends::closed_ends;
 pub use starts::least_start;

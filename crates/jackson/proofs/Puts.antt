@@ -8,7 +8,8 @@ use borrow.Author.Tests.{eqb-true, eqb-false, eq-eqb, ne-eqb}
 use lib.Dec.{eqb}
 use Rattle.jackson.specs.Windows.{Windows, Inside, withWindows, put, withR, withD, withWindow, fixedAt, fixedUpTo, Formed}
 use Rattle.jackson.specs.Plans.{Plan, Consecutive}
-use Rattle.jackson.proofs.PlanFacts.{other-windows, filled}
+use Rattle.jackson.proofs.PlanFacts.{other-windows, widen, filled}
+use Rattle.jackson.proofs.Room.{formed-inside}
 
 -- a place is k or another; for what depends on several functions put at k
 pub place-cases : (P : Bool → Type 0) (i k : ℕ) → (i ≡ k → P true) → ((i ≡ k → ⊥) → P false) → P (eqb i k)
@@ -109,3 +110,31 @@ consecutive-fixed w m k s plan run =
     place-cases (λ q. (cond q s (w .r i) ≤ t) × (t < cond q (s + w .p k) (w .d i))) i k
     (λ q. run .only t below (e ∙ q))
     (λ _. plan .inside i t place below e))
+
+-- Another d of entry k.
+
+-- its own changes nothing
+pub own-deadline : (w : Windows) (k : ℕ) → withD w k (w .d k) ≡ w
+own-deadline w k = ap (withWindows w (w .r)) (put-back k (w .d))
+
+-- one lies inside a greater one
+deadline-inside : (w : Windows) (k e x : ℕ) → e ≤ x → Inside (withD w k e) (withD w k x)
+deadline-inside w k e x less =
+    record {
+      r = λ i _. omega arith;
+      d = λ i _. place-cases (λ t. cond t e (w .d i) ≤ cond t x (w .d i)) i k (λ _. less) (λ _. omega arith);
+    }
+
+-- so a plan for it is one for the greater
+pub deadline-widen : (w : Windows) (k e x : ℕ) → e ≤ x → (m : ℕ → ℕ) → Plan (withD w k e) m → Plan (withD w k x) m
+deadline-widen w k e x less m = widen (withD w k x) _ _ m (deadline-inside w k e x less)
+
+module _ (w : Windows) (formed : Formed w) (k : ℕ) (place : k < w .n) where
+  -- windows with room have it with another d that leaves room
+  pub deadline-formed : (e : ℕ) → w .r k + w .p k ≤ e → e ≤ w .d k → Formed (withD w k e)
+  deadline-formed e room due =
+      formed-inside w formed _ _ (rw (own-deadline w k) at (deadline-inside w k e (w .d k) due))
+      (λ i below.
+      place-cases (λ t. w .r i + w .p i ≤ cond t e (w .d i)) i k
+      (λ q. omega (arith, ap (w .r) q, ap (w .p) q))
+      (λ _. formed .room i below))

@@ -8,7 +8,7 @@ use native.Mathlib.Omega.{arith}
 use borrow.Author.Tests.{le-leb, lt-leb}
 use lib.Dec.{leb}
 use Rattle.base.specs.Counting.{sum}
-use Rattle.base.proofs.Sums.{le-or-lt, same-cases, cond-most, sum-cong, sum-most, sum-rest}
+use Rattle.base.proofs.Sums.{le-or-lt, same-cases, cond-most, sum-cong, sum-most, sum-rest, sum-more}
 use Rattle.base.proofs.Permutations.{once-sum}
 use Rattle.jackson.specs.Windows.{Windows, withLeft}
 use Rattle.jackson.specs.Intervals.{work}
@@ -35,19 +35,35 @@ module _ (w : Windows) (o : ℕ → ℕ) (order : LatestReleaseFirst w o) where
   pub falls : (x y : ℕ) → x ≤ y → y < w .n → w .r (o y) ≤ w .r (o x)
   falls x y l b = same-cases x y (λ e _. rw e (omega arith)) (λ ne _. order .sorted x y (omega (arith, ne)) b .no-smaller)
 
-  -- where a is at most the r of the places passed and above that of the rest, the boxes entered are those in [a, b)
-  module _ (b : ℕ) (s : RunningSum) (so : SumSoFar w o b s) (over : (y : ℕ) → y < s .passed → s .a ≤ w .r (o y))
-      (under : (y : ℕ) → s .passed ≤ y → y < w .n → w .r (o y) < s .a) where
-    entered-all : (f : ℕ → ℕ) → entered w o b f (s .passed) ≡ work (withLeft w f) (s .a) b
+  module _ (b a x : ℕ) (within : x ≤ w .n) (over : (y : ℕ) → y < x → a ≤ w .r (o y)) where
+    -- where a is at most the r of the first x places, what enters is work of [a, b)
+    pub entered-within : entered w o b (w .p) x ≤ work w a b
     unfolding work
-    entered-all f =
-        let term = inInterval (withLeft w f) (s .a) b in
-        sum-cong (s .passed) _ _ (λ y l. rw (le-leb (s .a) (w .r (o y)) (over y l)) refl)
-        ∙ (sum-rest (w .n) (s .passed) (λ y. term (o y)) (so .within) (λ y l u. rw (lt-leb (s .a) (w .r (o y)) (under y l u)) refl)
+    entered-within =
+        let term = inInterval w a b in
+        omega (
+          arith,
+          sum-cong x (λ y. cond (leb (w .d (o y)) b) (w .p (o y)) 0) (λ y. term (o y))
+              (λ y l. rw (le-leb a (w .r (o y)) (over y l)) refl),
+          sum-more (w .n) x (λ y. term (o y)) within,
+          once-sum (w .n) o (order .once) term,
+        )
+
+    -- and all of it where a is above the r of the rest
+    pub entered-all : ((y : ℕ) → x ≤ y → y < w .n → w .r (o y) < a) → (f : ℕ → ℕ) → entered w o b f x ≡ work (withLeft w f) a b
+    unfolding work
+    entered-all under f =
+        let term = inInterval (withLeft w f) a b in
+        sum-cong x _ _ (λ y l. rw (le-leb a (w .r (o y)) (over y l)) refl)
+        ∙ (sum-rest (w .n) x (λ y. term (o y)) within (λ y l u. rw (lt-leb a (w .r (o y)) (under y l u)) refl)
         ∙ once-sum (w .n) o (order .once) term)
 
-    pub at-left-end : AtLeftEnd w b s
-    at-left-end = record { kept-is = so .kept-is ∙ entered-all (w .p); additions-are = so .additions-are ∙ entered-all (λ _. 1) }
+  -- at the left end reached, the boxes entered are those in [a, b)
+  pub at-left-end : (b : ℕ) (s : RunningSum) → SumSoFar w o b s → ((y : ℕ) → y < s .passed → s .a ≤ w .r (o y))
+      → ((y : ℕ) → s .passed ≤ y → y < w .n → w .r (o y) < s .a) → AtLeftEnd w b s
+  at-left-end b s so over under =
+      let all = entered-all b (s .a) (s .passed) (so .within) over under in
+      record { kept-is = so .kept-is ∙ all (w .p); additions-are = so .additions-are ∙ all (λ _. 1) }
 
 module _ (w : Windows) (o : ℕ → ℕ) (b : ℕ) where
   -- no more additions than places passed

@@ -1,9 +1,11 @@
 -- List values: what counts in one, and what stands where nothing counts.
 use Prim.Native.Nat.{ℕ, _-_}
 use mathlib.Core.Path.{_≡_}
-use mathlib.Core.Bool.{Bool, true, false}
+use mathlib.Core.Bool.{Bool, true, false, cond}
 use mathlib.Core.List.{List, [], _++_, map}
 use lib.ListN.{length, take, replicate, getD}
+use lib.Dec.{ltb}
+use Rattle.base.specs.Counting.{listOf}
 use Rattle.list.specs.declared.types.Seal.the-variants.{Missing}
 use Rattle.list.specs.declared.types.Kind.{Kind}
 use Rattle.list.specs.declared.types.Kind.the-variants.{Pause, Whole}
@@ -38,6 +40,10 @@ wholeIn l i = isWhole (getD (entriesOf l) i blank .kind)
 -- the places that an array marks
 abbrev pub marked : List Bool → ℕ → Bool
 marked marks i = getD marks i false
+
+-- a number for each place below n; from n on 0
+abbrev pub byPlace : ℕ → (ℕ → ℕ) → List ℕ
+byPlace n f = listOf mostEntries (λ i. cond (ltb i n) (f i) 0)
 
 -- the list value with these entries
 abbrev pub dayList : Frame → List Entry → DayList

@@ -28,14 +28,14 @@ use Rattle.narrow.specs.Calls.{narrowedOf, narrowedIn}
 use Rattle.narrow.specs.declared.types.NarrowAnswer.{NarrowAnswer}
 use Rattle.jackson.proofs.ListLaws.{list-formed}
 use Rattle.narrow.proofs.ListAnswers.{answers-refused}
-use Rattle.bounds.specs.Ends.{leastEnd, greatestStart, byPlace}
+use Rattle.bounds.specs.Ends.{leastEnd, greatestStart}
 use Rattle.bounds.specs.ShownPlans.{earlyPlan, latePlan, boundOf, shownPlan}
 use Rattle.bounds.specs.Calls.{HoldsBounds, StoresPlan}
 use Rattle.bounds.specs.declared.types.Shown.{Shown}
 use Rattle.bounds.specs.declared.types.Shown.the-variants.{Early, Late}
 use Rattle.bounds.specs.declared.types.Bounds.{Bounds}
 use Rattle.bounds.specs.declared.types.BoundAnswer.{BoundAnswer}
-use Rattle.bounds.proofs.ByPlace.{by-place}
+use Rattle.list.proofs.ByPlace.{by-place}
 use Rattle.jackson.proofs.Schedules.{schedule-long}
 use Rattle.bounds.proofs.ShownFacts.{shown-long}
 use Rattle.planner.specs.BrokenEntries.{brokenIn}

@@ -34,7 +34,7 @@ use Rattle.bounds.specs.Ends.{leastEnd, greatestStart}
 use Rattle.planner.specs.BrokenEntries.{brokenIn}
 use Rattle.planner.specs.Calls.{planChecks, planOf, endsOf, startsOf, brokenOf, PlansDay}
 use Rattle.planner.specs.declared.types.PlanAnswer.{PlanAnswer}
-use Rattle.bounds.proofs.ByPlace.{by-place}
+use Rattle.list.proofs.ByPlace.{by-place}
 use Rattle.report.specs.Reports.{headLine, entryLines, runLines, dayText, plannedText, reportOf}
 use Rattle.report.specs.Internal.{Puts, PutsOr, answerText}
 use Rattle.report.proofs.Texts.{texts-same}

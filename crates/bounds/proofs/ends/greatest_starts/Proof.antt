@@ -7,7 +7,8 @@ use native.Mathlib.Omega.{arith}
 use lib.ListN.{getD}
 use Rattle.list.specs.DayLists.{marked}
 use Rattle.jackson.specs.Windows.{windowsIn}
-use Rattle.bounds.proofs.EndCases.{Placed, placed-none, placed-next, placed-all, formed-in-mirror, mirror-end-in-day}
+use Rattle.list.proofs.ByPlace.{Placed, placed-none, placed-next, placed-all}
+use Rattle.bounds.proofs.EndCases.{formed-in-mirror, mirror-end-in-day}
 use Rattle.bounds.proofs.EndCases.{starts-by-mirror}
 use Rattle.bounds.proofs.ends.greatest_starts.Statement.{statement}
 use Rattle.bounds.proofs.ends.greatest_starts.Tie as tie

@@ -10,7 +10,8 @@ use Rattle.jackson.specs.Intervals.{overloadOf}
 use Rattle.bounds.specs.Ends.{leastEnd}
 use Rattle.bounds.specs.declared.types.Shown.the-variants.{Early}
 use Rattle.bounds.proofs.ShownFacts.{bound-kind}
-use Rattle.bounds.proofs.EndCases.{Placed, placed-none, placed-next, placed-all, searchable-at}
+use Rattle.list.proofs.ByPlace.{Placed, placed-none, placed-next, placed-all}
+use Rattle.bounds.proofs.EndCases.{searchable-at}
 use Rattle.bounds.proofs.ends.least_ends.Statement.{statement}
 use Rattle.bounds.proofs.ends.least_ends.Tie as tie
 

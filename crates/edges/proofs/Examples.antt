@@ -1,0 +1,11 @@
+-- The examples hold of the definitions.
+-- Assumes nothing.
+use mathlib.Core.Path.{refl}
+use Rattle.base.specs.Counting.{sum, listOf}
+use Rattle.jackson.specs.Intervals.{work}
+use Rattle.edges.specs.Ends.{largest, closedEnd}
+use Rattle.edges.specs.Examples.{EndExamples}
+
+pub end-examples : EndExamples
+unfolding sum listOf work largest closedEnd
+end-examples = record { asks = refl; full = refl; asks-first = refl; ends-by = refl; not-asked = refl; fixed = refl }
