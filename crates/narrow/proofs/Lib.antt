@@ -24,6 +24,7 @@ pub mod ListWindows
 pub mod ListAnswers
 -- What the code's proofs cite, case by case.
 mod RoundCases
+mod StayingPlaces
 mod VisitCases
 mod UnplannedCases
 mod ListCases

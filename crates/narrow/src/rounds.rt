@@ -1,5 +1,6 @@
 // Visits and rounds.
 use crate::types::WindowsAnswer;
+use edges::closed_ends;
 use edges::least_start;
 use edges::types::Found;
 use jackson::mirrored;
@@ -20,7 +21,7 @@ ghost use Rattle.jackson.specs.Intervals.{overloadOf};
 ghost use Rattle.narrow.specs.Rounds.{earliest, latest, moved, narrowSide, visit, round, allRounds};
 ghost use Rattle.list.specs.DayLists.{marked};
 ghost use Rattle.narrow.specs.Calls.{narrowedOf, NarrowsWindows};
-ghost use Rattle.narrow.specs.Internal.{Visitable, Countable, narrowedBy};
+ghost use Rattle.narrow.specs.Internal.{Visitable, Countable, narrowedBy, wouldMove, firstMoved};
 
 // "A changed r is one move, a changed d another."
 fn moved_from(before: u16, after: u16) -> u32
@@ -94,7 +95,46 @@ fn visit(whole: bool, windows: WindowSet, moves: u32, k: usize) -> WindowsAnswer
     narrow_end(started.windows, started.moves, k)
 }
 
-// One round: visits the entries from place 0 up.
+// Whether a visit would move an entry: it is whole, and its least end as a pause entry is not r + p, or in the mirror, where its r is `from`
+// and its least end `late`, not from + p.
+fn would_move(whole: bool, r: u16, from: u16, p: u16, end: u32, late: u32) -> bool
+    ensures { λ b. ⌜ b ≡ wouldMove whole r from p end late ⌝ }
+{
+    if !whole {
+        return false;
+    }
+    if end != r as u32 + p as u32 {
+        return true;
+    }
+    late != from as u32 + p as u32
+}
+
+// The first place that a visit would move, or n if there is none.
+fn first_moved(whole: [bool; ENTRIES], windows: WindowSet) -> usize
+    ensures { λ k. ⌜ k ≡ firstMoved (marked whole) (windowsIn windows) ⌝ }
+{
+    let ends = closed_ends(windows);
+    let mirror = mirrored(windows);
+    let late = closed_ends(mirror);
+    let count = places_held(windows.n);
+    let mut k: usize = 0;
+    while k < count {
+        if would_move(
+            whole[k],
+            windows.r[k],
+            mirror.r[k],
+            windows.p[k],
+            ends[k],
+            late[k],
+        ) {
+            return k;
+        }
+        k += 1;
+    }
+    k
+}
+
+// One round: visits the entries from place 0 up. Those before the first that would move are passed over.
 fn one_round(whole: [bool; ENTRIES], windows: WindowSet, moves: u32) -> WindowsAnswer
     requires { ⌜ Countable (marked whole) windows moves ⌝ }
     ensures { λ a. ⌜ narrowedOf a ≡ round overloadOf (marked whole) (narrowedBy windows moves) ⌝ }
@@ -105,7 +145,7 @@ fn one_round(whole: [bool; ENTRIES], windows: WindowSet, moves: u32) -> WindowsA
         moves: moves,
     };
     let count = places_held(windows.n);
-    let mut k: usize = 0;
+    let mut k = first_moved(whole, windows);
     while k < count {
         now = visit(whole[k], now.windows, now.moves, k);
         let verdict = now.verdict;
