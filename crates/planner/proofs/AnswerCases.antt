@@ -11,7 +11,7 @@ use lib.ListN.{length, getD, take}
 use lib.Seq.{take-at}
 use Rattle.base.specs.Outcomes.{Outcome, answered, refused}
 use Rattle.base.proofs.Sums.{same-cases}
-use Rattle.list.specs.DayLists.{wholeIn, marked}
+use Rattle.list.specs.DayLists.{wholeIn, marked, byPlace}
 use Rattle.list.specs.Refusals.{codeOf}
 use Rattle.list.specs.Checks.{WellFormed}
 use Rattle.list.specs.declared.types.Refusal.{Refusal}
