@@ -1,15 +1,20 @@
 -- Who stays: a visit changes nothing where the least ends in closed form, in the windows and in their mirror, are r + p. So a round may
 -- begin with the first whole entry of which this does not hold.
 -- Assumes nothing.
-use mathlib.Core.Path.{_≡_, refl, ap, _∙_}
+use mathlib.Core.Path.{_≡_, refl, sym, ap, _∙_}
 use mathlib.Core.Bool.{Bool, true, false, cond, not, _&&_}
+use mathlib.Core.List.{List}
 use Prim.Native.Nat.{ℕ, zero, suc, _+_, _-_, _<_, _≤_}
 use native.Mathlib.Omega.{arith}
 use borrow.Author.Tests.{eqb-true}
 use lib.Dec.{eqb}
+use lib.ListN.{getD}
 use Rattle.base.specs.Outcomes.{Outcome, answered, andThen}
-use Rattle.base.proofs.Searches.{First, first-below}
-use Rattle.jackson.specs.Windows.{Windows, withWindows, withD, fixedAt, Formed}
+use Rattle.base.proofs.Searches.{First, first-below, Passed, passed-next, passed-found, passed-all}
+use Rattle.list.specs.DayLists.{byPlace}
+use Rattle.list.proofs.ByPlace.{by-place}
+use Rattle.jackson.specs.Windows.{Windows, windowsIn, withWindows, Formed}
+use Rattle.jackson.specs.declared.types.WindowSet.{WindowSet}
 use Rattle.jackson.specs.Plans.{Plannable}
 use Rattle.jackson.specs.Intervals.{overloadOf}
 use Rattle.jackson.specs.Mirrors.{mirror}
@@ -17,9 +22,9 @@ use Rattle.jackson.proofs.Puts.{put-back, with-d}
 use Rattle.jackson.proofs.MirrorWindows.{formed-mirror, plannable-mirror, mirror-r}
 use Rattle.edges.specs.Ends.{closedEnd}
 use Rattle.edges.proofs.EndLaws.{end-law}
-use Rattle.narrow.specs.Searching.{Test, leastStart, greatestEnd, IsLeastStart}
+use Rattle.narrow.specs.Searching.{Test, leastStart, greatestEnd}
 use Rattle.narrow.specs.Rounds.{earliest, latest, Narrowed, movesOf, counted, narrowSide, visit, visits}
-use Rattle.narrow.specs.Internal.{movesAt, firstMoved}
+use Rattle.narrow.specs.Internal.{wouldMove, movesAt, firstMoved}
 use Rattle.narrow.proofs.OverloadPlanner.{overload-planner}
 use Rattle.narrow.proofs.Exact.{search-law}
 use Rattle.narrow.proofs.MirrorSearches.{end-by-mirror}
@@ -116,3 +121,35 @@ module _ (whole : ℕ → Bool) (s : Narrowed) (formed : Formed (s .windows)) (p
 
   pub unmoved-visits : visits overloadOf whole (firstMoved whole (s .windows)) s ≡ answered s
   unmoved-visits = visits-same (firstMoved whole (s .windows)) moved-within (first .none-before)
+
+-- The search for the first place that a visit would move, as code makes it: t holds the mirror of the windows s.
+module _ (whole : ℕ → Bool) (s t : WindowSet) (mirrors : windowsIn t ≡ mirror (windowsIn s)) (ends late : List ℕ)
+    (is-end : ends ≡ byPlace (windowsIn s .n) (closedEnd (windowsIn s))) (is-late : late ≡ byPlace (windowsIn t .n) (closedEnd (windowsIn t)))
+    where
+  -- the test of a place
+  module _ (k : ℕ) (place : k < windowsIn s .n) (b : Bool)
+      (test : b ≡ wouldMove (whole k) (getD (s .r) k 0) (getD (t .r) k 0) (getD (s .p) k 0) (getD ends k 0) (getD late k 0)) where
+    moves-here : movesAt whole (windowsIn s) k ≡ b
+    moves-here =
+        let count : windowsIn t .n ≡ windowsIn s .n = ap (λ (w : Windows). w .n) mirrors in
+        let from : getD (t .r) k 0 ≡ mirror (windowsIn s) .r k = ap (λ (w : Windows). w .r k) mirrors in
+        let end : getD ends k 0 ≡ closedEnd (windowsIn s) k = rw is-end (by-place (closedEnd (windowsIn s)) _ k (omega arith) place) in
+        let last : getD late k 0 ≡ closedEnd (mirror (windowsIn s)) k =
+        rw is-late (by-place (closedEnd (windowsIn t)) _ k (omega arith) (omega (arith, place, count)))
+        ∙ ap (λ (w : Windows). closedEnd w k) mirrors in
+        sym (test ∙ rw (from, end, last) refl)
+
+    module _ (so : Passed (windowsIn s .n) (movesAt whole (windowsIn s)) k) where
+      pub move-found : b ≡ true → k ≡ firstMoved whole (windowsIn s)
+      unfolding firstMoved
+      move-found e = sym (passed-found (windowsIn s .n) (movesAt whole (windowsIn s)) k so (moves-here ∙ e))
+
+      pub move-passed : b ≡ false → Passed (windowsIn s .n) (movesAt whole (windowsIn s)) (k + 1)
+      move-passed e = passed-next (windowsIn s .n) (movesAt whole (windowsIn s)) k so place (moves-here ∙ e)
+
+pub none-moved : (whole : ℕ → Bool) (s : WindowSet) (k : ℕ) → Passed (windowsIn s .n) (movesAt whole (windowsIn s)) k
+    → windowsIn s .n ≤ k → k ≡ firstMoved whole (windowsIn s)
+unfolding firstMoved
+none-moved whole s k so past =
+    let all = passed-all (windowsIn s .n) (movesAt whole (windowsIn s)) k so past in
+    omega (arith, all, so .within, past)

@@ -19,7 +19,7 @@ use Rattle.base.proofs.Sums.{le-or-lt}
 use Rattle.narrow.specs.Searching.{Test}
 use Rattle.narrow.specs.Rounds.{Side, earliest, latest, Narrowed, step, counted, narrowSide, visit, visits, round, rounds, allRounds}
 use Rattle.narrow.specs.Rounds.{slack}
-use Rattle.narrow.specs.Internal.{narrowedBy, Visitable, Countable}
+use Rattle.narrow.specs.Internal.{narrowedBy, Visitable, Countable, firstMoved}
 use Rattle.narrow.specs.Calls.{narrowedOf}
 use Rattle.narrow.specs.declared.types.WindowsAnswer.{WindowsAnswer}
 use Rattle.narrow.proofs.StepsKeep.{keeps-n}
@@ -27,6 +27,7 @@ use Rattle.narrow.proofs.Costs.{Costs, side-cost, visits-cost, round-co
 use Rattle.narrow.proofs.OverloadPlanner.{overload-planner}
 use Rattle.narrow.proofs.SettledSteps.{side-planned, visits-planned}
 use Rattle.narrow.proofs.RoundCases.{moved-one}
+use Rattle.narrow.proofs.StayingPlaces.{moved-within, unmoved-visits}
 
 -- a search adds at most two to the moves: one for each side, of which it changes one
 side-moves : (test : Test) (side : Side) (k : ℕ) (s : Narrowed)
@@ -93,9 +94,16 @@ pub record Visited (whole : ℕ → Bool) (s : Narrowed) (now : WindowsAnswer) (
   pub so : visits overloadOf whole k s ≡ answered (narrowedBy (now .windows) (now .moves))
 
 module _ (whole : ℕ → Bool) (s : WindowSet) (moves : ℕ) (ready : Countable whole s moves) where
-  pub visited-none : Visited whole (narrowedBy s moves) (record { verdict = Accepted; windows = s; moves = moves }) 0
-  unfolding visits
-  visited-none = record { passed = omega arith; accepted = refl; so = refl }
+  -- the places before the first that would move are passed over
+  pub visited-first : (k : ℕ) → k ≡ firstMoved whole (windowsIn s)
+      → Visited whole (narrowedBy s moves) (record { verdict = Accepted; windows = s; moves = moves }) k
+  visited-first k is =
+      rw is
+      (record {
+        passed = moved-within whole (narrowedBy s moves) (ready .formed) (ready .planned);
+        accepted = refl;
+        so = unmoved-visits whole (narrowedBy s moves) (ready .formed) (ready .planned);
+      })
 
   module _ (now : WindowsAnswer) (k : ℕ) (v : Visited whole (narrowedBy s moves) now k) where
     pub visited-all : windowsIn s .n ≤ k → narrowedOf now ≡ round overloadOf whole (narrowedBy s moves)

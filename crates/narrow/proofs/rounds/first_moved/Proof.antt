@@ -1,105 +1,112 @@
+-- The loop's invariant is that no place before k would move; the measure is what is left of the places.
+-- Assumes nothing.
+use borrow.Author.Needs.{needs}
+use Prim.Native.Nat.{_-_, _<_, _≤_}
+use native.Mathlib.Omega.{arith}
+use Rattle.base.proofs.Searches.{Passed, passed-none}
+use Rattle.list.specs.DayLists.{marked}
+use Rattle.jackson.specs.Windows.{windowsIn}
+use Rattle.narrow.specs.Internal.{movesAt}
+use Rattle.narrow.proofs.StayingPlaces.{move-found, move-passed, none-moved}
 use Rattle.narrow.proofs.rounds.first_moved.Statement.{statement}
 use Rattle.narrow.proofs.rounds.first_moved.Tie as tie
-use Rattle.narrow.proofs.rounds.first_moved.Reads as reads
-use Rattle.narrow.proofs.rounds.first_moved.Lts as lts
-use Rattle.edges.proofs.closed_ends.Reads as closed-ends-reads
-use Rattle.jackson.proofs.mirrored.Reads as mirrored-reads
-use Rattle.list.proofs.places_held.Reads as places-held-reads
-use Rattle.narrow.proofs.rounds.would_move.Reads as would-move-reads
 
 abbrev Inv-loop : tie.InvT-loop
-Inv-loop whole windows ends mirror late count k₀ k = ?
+Inv-loop whole windows ends mirror late count k₀ k =
+    Passed (windowsIn windows .n) (movesAt (marked whole) (windowsIn windows)) k
 
 abbrev μ-loop : tie.MeasureT-loop
-μ-loop whole windows ends mirror late count k₀ k = ?
+μ-loop whole windows ends mirror late count k₀ k = count - k
 
--- src/rounds.rt:116:16
 closed-ends-requires : tie.Need-closed-ends-requires Inv-loop μ-loop
-closed-ends-requires c κs = ?
+closed-ends-requires c κs = search needs
 
--- src/rounds.rt:117:18
 mirrored-requires : tie.Need-mirrored-requires Inv-loop μ-loop
-mirrored-requires c κs = ?
+mirrored-requires c κs = search needs
 
--- src/rounds.rt:118:16
 closed-ends-requires-2 : tie.Need-closed-ends-requires-2 Inv-loop μ-loop
-closed-ends-requires-2 c κs = ?
+closed-ends-requires-2 c κs = search needs
 
--- src/rounds.rt:119:9
 places-held-requires : tie.Need-places-held-requires Inv-loop μ-loop
-places-held-requires c κs = ?
+places-held-requires c κs = search needs
 
--- src/rounds.rt:121:5
 loop-holds : tie.Need-loop-holds Inv-loop μ-loop
-loop-holds c = ?
+loop-holds c = passed-none _ _
 
--- src/rounds.rt:123:13
+-- the place reached is one of the windows
+place : (c : tie.In-loop Inv-loop μ-loop) → c .before .loop .k < windowsIn (c .before .before .before .before .before .before .args .t2) .n
+place c = omega (arith, c .loop-test .taken, c .before .before .places-held .ensures)
+
 array-read-would-move : tie.Need-array-read-would-move Inv-loop μ-loop
-array-read-would-move c = ?
+array-read-would-move c = search needs
 
--- src/rounds.rt:124:13
 mul-would-move : tie.Need-mul-would-move Inv-loop μ-loop
-mul-would-move c = ?
+mul-would-move c = search needs
 
--- src/rounds.rt:124:13
 element-copy-out-would-move : tie.Need-element-copy-out-would-move Inv-loop μ-loop
-element-copy-out-would-move c = ?
+element-copy-out-would-move c = search needs
 
--- src/rounds.rt:125:13
 mul-would-move-2 : tie.Need-mul-would-move-2 Inv-loop μ-loop
-mul-would-move-2 c = ?
+mul-would-move-2 c = search needs
 
--- src/rounds.rt:125:13
 element-copy-out-would-move-2 : tie.Need-element-copy-out-would-move-2 Inv-loop μ-loop
-element-copy-out-would-move-2 c = ?
+element-copy-out-would-move-2 c = search needs
 
--- src/rounds.rt:126:13
 mul-would-move-3 : tie.Need-mul-would-move-3 Inv-loop μ-loop
-mul-would-move-3 c = ?
+mul-would-move-3 c = search needs
 
--- src/rounds.rt:126:13
 element-copy-out-would-move-3 : tie.Need-element-copy-out-would-move-3 Inv-loop μ-loop
-element-copy-out-would-move-3 c = ?
+element-copy-out-would-move-3 c = search needs
 
--- src/rounds.rt:127:13
 mul-would-move-4 : tie.Need-mul-would-move-4 Inv-loop μ-loop
-mul-would-move-4 c = ?
+mul-would-move-4 c = search needs
 
--- src/rounds.rt:127:13
 array-read-would-move-2 : tie.Need-array-read-would-move-2 Inv-loop μ-loop
-array-read-would-move-2 c = ?
+array-read-would-move-2 c = search needs
 
--- src/rounds.rt:128:13
 mul-would-move-5 : tie.Need-mul-would-move-5 Inv-loop μ-loop
-mul-would-move-5 c = ?
+mul-would-move-5 c = search needs
 
--- src/rounds.rt:128:13
 array-read-would-move-3 : tie.Need-array-read-would-move-3 Inv-loop μ-loop
-array-read-would-move-3 c = ?
+array-read-would-move-3 c = search needs
 
--- src/rounds.rt:122:12
 would-move-requires : tie.Need-would-move-requires Inv-loop μ-loop
-would-move-requires c κs = ?
+would-move-requires c κs = search needs
 
--- src/rounds.rt:130:13
 returns : tie.Need-returns Inv-loop μ-loop
-returns c = ?
+returns c =
+    let start = c .before .before .before .before .before .before .before .before .before .before .before in
+    let loop = c .before .before .before .before .before .before .loop in
+    let mirror = c .before .before .before .before .before .before .before .before .before .mirrored in
+    let ends = c .before .before .before .before .before .before .before .before .before .before .closed-ends in
+    let late = c .before .before .before .before .before .before .before .before .closed-ends2 in
+    let test = c .before .would-move in
+    move-found (marked (start .args .t1)) (start .args .t2) (mirror .result) (mirror .ensures .windows) (ends .result) (late .result)
+    (ends .ensures) (late .ensures) (loop .k) (place (c .before .before .before .before .before)) (test .result) (test .ensures) (loop .inv) (c .if1 .taken)
 
--- src/rounds.rt:132:9
 add-k : tie.Need-add-k Inv-loop μ-loop
-add-k c = ?
+add-k c = search needs
 
--- src/rounds.rt:121:5
 loop-less : tie.Need-loop-less Inv-loop μ-loop
-loop-less c = ?
+loop-less c = search needs
 
--- src/rounds.rt:121:5
 loop-again : tie.Need-loop-again Inv-loop μ-loop
-loop-again c = ?
+loop-again c =
+    let start = c .before .before .before .before .before .before .before .before .before .before .before in
+    let loop = c .before .before .before .before .before .before .loop in
+    let mirror = c .before .before .before .before .before .before .before .before .before .mirrored in
+    let ends = c .before .before .before .before .before .before .before .before .before .before .closed-ends in
+    let late = c .before .before .before .before .before .before .before .before .closed-ends2 in
+    let test = c .before .would-move in
+    move-passed (marked (start .args .t1)) (start .args .t2) (mirror .result) (mirror .ensures .windows) (ends .result) (late .result)
+    (ends .ensures) (late .ensures) (loop .k) (place (c .before .before .before .before .before)) (test .result) (test .ensures) (loop .inv) (c .if1 .left)
 
--- src/rounds.rt:113:1
 returns-2 : tie.Need-returns-2 Inv-loop μ-loop
-returns-2 c = ?
+returns-2 c =
+    let args = c .before .before .before .before .before .before .args in
+    let loop = c .before .loop in
+    let past : windowsIn (args .t2) .n ≤ loop .k = omega (arith, c .loop-test .left, c .before .before .places-held .ensures) in
+    none-moved (marked (args .t1)) (args .t2) (loop .k) (loop .inv) past
 
 pub first-moved-spec : {M : Type 1} → statement M
 first-moved-spec =

@@ -6,7 +6,7 @@ use native.Mathlib.Omega.{arith}
 use Rattle.list.specs.DayLists.{marked}
 use Rattle.jackson.specs.Windows.{windowsIn}
 use Rattle.narrow.specs.Internal.{narrowedBy}
-use Rattle.narrow.proofs.VisitCases.{Visited, visited-none, next-ready, next-few, visited-next, visited-stopped, visited-all}
+use Rattle.narrow.proofs.VisitCases.{Visited, visited-first, next-ready, next-few, visited-next, visited-stopped, visited-all}
 use Rattle.narrow.proofs.rounds.one_round.Statement.{statement}
 use Rattle.narrow.proofs.rounds.one_round.Tie as tie
 
@@ -19,21 +19,24 @@ abbrev μ-loop : tie.MeasureT-loop
 places-held-requires : tie.Need-places-held-requires Inv-loop μ-loop
 places-held-requires c κs = search needs
 
+first-moved-requires : tie.Need-first-moved-requires Inv-loop μ-loop
+first-moved-requires c κs = search needs
+
 loop-holds : tie.Need-loop-holds Inv-loop μ-loop
 loop-holds c =
-    let start = c .before in
-    visited-none (marked (start .args .t1)) (start .args .windows) (start .args .moves) (start .pre)
+    let start = c .before .before in
+    visited-first (marked (start .args .t1)) (start .args .windows) (start .args .moves) (start .pre) _ (c .first-moved .ensures)
 
 -- the place reached is one of the windows
-place : (c : tie.In-loop Inv-loop μ-loop) → c .before .loop .k < windowsIn (c .before .before .before .args .windows) .n
-place c = omega (arith, c .loop-test .taken, c .before .before .places-held .ensures)
+place : (c : tie.In-loop Inv-loop μ-loop) → c .before .loop .k < windowsIn (c .before .before .before .before .args .windows) .n
+place c = omega (arith, c .loop-test .taken, c .before .before .before .places-held .ensures)
 
 array-read-visit : tie.Need-array-read-visit Inv-loop μ-loop
 array-read-visit c = search needs
 
 visit-requires : tie.Need-visit-requires Inv-loop μ-loop
 visit-requires c κs =
-    let start = c .before .before .before in
+    let start = c .before .before .before .before in
     let args = start .args in
     let loop = c .before .loop in (
       next-ready (marked (args .t1)) (args .windows) (args .moves) (start .pre) (loop .now) (loop .k) (loop .inv) (place c),
@@ -48,7 +51,7 @@ enum-told-2 c = search needs
 
 returns : tie.Need-returns Inv-loop μ-loop
 returns c =
-    let start = c .before .before .before .before .before .before in
+    let start = c .before .before .before .before .before .before .before in
     let args = start .args in
     let loop = c .before .before .before .before .loop in
     let visit = c .before .before .visit in
@@ -63,7 +66,7 @@ loop-less c = search needs
 
 loop-again : tie.Need-loop-again Inv-loop μ-loop
 loop-again c =
-    let start = c .before .before .before .before .before .before in
+    let start = c .before .before .before .before .before .before .before in
     let args = start .args in
     let loop = c .before .before .before .before .loop in
     let visit = c .before .before .visit in
@@ -72,10 +75,10 @@ loop-again c =
 
 returns-2 : tie.Need-returns-2 Inv-loop μ-loop
 returns-2 c =
-    let start = c .before .before .before in
+    let start = c .before .before .before .before in
     let args = start .args in
     let loop = c .before .loop in
-    let past : windowsIn (args .windows) .n ≤ loop .k = omega (arith, c .loop-test .left, c .before .before .places-held .ensures) in
+    let past : windowsIn (args .windows) .n ≤ loop .k = omega (arith, c .loop-test .left, c .before .before .before .places-held .ensures) in
     visited-all (marked (args .t1)) (args .windows) (args .moves) (start .pre) (loop .now) (loop .k) (loop .inv) past
 
 pub one-round-spec : {M : Type 1} → statement M
@@ -85,6 +88,7 @@ one-round-spec =
     Inv-loop
     μ-loop
     places-held-requires
+    first-moved-requires
     loop-holds
     array-read-visit
     visit-requires
