@@ -24,9 +24,9 @@ pub record StoredFor (old : List ℕ) (from x m : ℕ) (new : List ℕ) (i : ℕ
   pub bytes : new ≡ stores old from x i
 
 module _ (old : List ℕ) (from x m : ℕ) where
-  pub one-start : from + m ≤ length old → StoredFor old from x m old 0
+  pub place-start : from + m ≤ length old → StoredFor old from x m old 0
   unfolding stores
-  one-start h = record { room = h; passed = omega arith; bytes = refl }
+  place-start h = record { room = h; passed = omega arith; bytes = refl }
 
   stores-long : (i : ℕ) → length (stores old from x i) ≡ length old
   unfolding stores
@@ -34,16 +34,16 @@ module _ (old : List ℕ) (from x m : ℕ) where
   stores-long (suc i) = length-set (stores old from x i) (from + i) x ∙ stores-long i
 
   module _ (new : List ℕ) (i : ℕ) (so : StoredFor old from x m new i) where
-    pub one-next : i < m → StoredFor old from x m (set new (from + i) x) (i + 1)
+    pub place-next : i < m → StoredFor old from x m (set new (from + i) x) (i + 1)
     unfolding stores
-    one-next h =
+    place-next h =
         record { room = so .room; passed = omega (arith, h); bytes = rw add-one (ap (λ (l : List ℕ). set l (from + i) x) (so .bytes)) }
 
-    pub one-done : m ≤ i → new ≡ stores old from x m
-    one-done h = let z : i ≡ m = omega (arith, so .passed) in rw (← z) (so .bytes)
+    pub place-done : m ≤ i → new ≡ stores old from x m
+    place-done h = let z : i ≡ m = omega (arith, so .passed) in rw (← z) (so .bytes)
 
-    pub one-long : length new ≡ length old
-    one-long = ap length (so .bytes) ∙ stores-long i
+    pub place-long : length new ≡ length old
+    place-long = ap length (so .bytes) ∙ stores-long i
 
 -- minutes after minutes
 later-later : (s : State) (i m : ℕ) → later m (later i s) ≡ later (i + m) s

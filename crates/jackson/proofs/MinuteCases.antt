@@ -12,7 +12,7 @@ use lib.Seq.{set-out, getD-set-same, getD-set-other}
 use Rattle.jackson.specs.Windows.{withLeft, windowsIn}
 use Rattle.jackson.specs.Plans.{idle}
 use Rattle.jackson.specs.Minutes.{State, isReady, comesBefore, earliestDeadline, chosen}
-use Rattle.jackson.specs.Internal.{stateAt, betterReady, HasRun, IsAfter}
+use Rattle.jackson.specs.Internal.{stateAt, betterReady, IsAfterMinutes, IsAfter}
 use Rattle.jackson.specs.declared.types.WindowSet.{WindowSet}
 use Rattle.jackson.specs.declared.types.Day.{Day}
 use Rattle.base.proofs.Sums.{le-or-lt, eq-or-ne}
@@ -114,19 +114,20 @@ module _ (day : Day) (k m : ℕ) where
         last = k;
       }
 
-  run-with : (p : List ℕ) → ((i : ℕ) → getD p i 0 ≡ getD (day .windows .p) i 0 - cond (eqb k i) m 0) → HasRun day k m (dayWith p)
-  run-with p left =
+  advanced-with : (p : List ℕ) → ((i : ℕ) → getD p i 0 ≡ getD (day .windows .p) i 0 - cond (eqb k i) m 0)
+      → IsAfterMinutes day k m (dayWith p)
+  advanced-with p left =
       record {
         state = ap (λ (z : ℕ → ℕ). record { windows = withLeft (windowsIn (day .windows)) z; t = day .t + m; last = k }) (fun-ext left);
         n = refl;
       }
 
-  pub run-place : (x : ℕ) → x ≡ getD (day .windows .p) k 0 - m → HasRun day k m (dayWith (set (day .windows .p) k x))
-  run-place x e = rw e (run-with (set (day .windows .p) k (getD (day .windows .p) k 0 - m)) (stored-less (day .windows .p) k m))
+  pub after-place : (x : ℕ) → x ≡ getD (day .windows .p) k 0 - m → IsAfterMinutes day k m (dayWith (set (day .windows .p) k x))
+  after-place x e = rw e (advanced-with (set (day .windows .p) k (getD (day .windows .p) k 0 - m)) (stored-less (day .windows .p) k m))
 
-  pub run-none : length (day .windows .p) ≤ k → HasRun day k m (dayWith (day .windows .p))
-  run-none h = run-with (day .windows .p) (λ i. nobody-less (day .windows .p) k m i h)
+  pub after-none : length (day .windows .p) ≤ k → IsAfterMinutes day k m (dayWith (day .windows .p))
+  after-none h = advanced-with (day .windows .p) (λ i. nobody-less (day .windows .p) k m i h)
 
 -- one minute
-pub run-one : (day : Day) (k : ℕ) (next : Day) → HasRun day k 1 next → IsAfter day k next
-run-one day k next run = record { state = run .state; n = run .n }
+pub after-one : (day : Day) (k : ℕ) (next : Day) → IsAfterMinutes day k 1 next → IsAfter day k next
+after-one day k next run = record { state = run .state; n = run .n }

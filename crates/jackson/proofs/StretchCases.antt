@@ -7,13 +7,13 @@ use native.Mathlib.Omega.{arith}
 use borrow.Author.Tests.{lt-ltb, le-ltb}
 use lib.ListN.{getD}
 use Rattle.jackson.specs.Windows.{windowsIn}
-use Rattle.jackson.specs.Minutes.{State, stateIn, chosen, later}
+use Rattle.jackson.specs.Minutes.{stateIn, chosen, later}
 use Rattle.jackson.specs.Stretches.{sooner, nextRelease, stretchEnd, stretchOf, Stretches}
-use Rattle.jackson.specs.Internal.{ran, HasRun}
+use Rattle.jackson.specs.Internal.{afterMinutes, IsAfterMinutes}
 use Rattle.jackson.specs.declared.types.WindowSet.{WindowSet}
 use Rattle.jackson.specs.declared.types.Day.{Day}
 use Rattle.jackson.proofs.Schedules.{minute-on, minute-over}
-use Rattle.jackson.proofs.Stretches.{stretch-over, stretch-on, stretch-some, stretch-to, stretch-in-day, stretch-places, stretch-ran}
+use Rattle.jackson.proofs.Stretches.{stretch-over, stretch-some, stretch-to, stretch-in-day, stretch-places, stretch-state}
 
 -- the first of an r and an end
 module _ (t r end : ℕ) where
@@ -76,7 +76,8 @@ module _ (day : Day) where
     pub end-in-day : x ≤ day .windows .h
     end-in-day = omega (arith, to, stretch-in-day (stateIn day) (omega arith) on)
 
-    pub stretches-on : (next : Day) → HasRun day k (x - day .t) next → Stretches day (record { place = k; minutes = x - day .t; day = next })
+    pub stretches-on : (next : Day) → IsAfterMinutes day k (x - day .t) next
+        → Stretches day (record { place = k; minutes = x - day .t; day = next })
     stretches-on next run =
         let s = stateIn day in
         let minutes : x - day .t ≡ stretchOf s = omega (arith, to) in
@@ -86,8 +87,8 @@ module _ (day : Day) where
           places = λ j l. stretch-places s (omega arith) on j (omega (arith, minutes)) ∙ sym is;
           next =
               run .state
-              ∙ ap (λ (z : ℕ). ran s z (x - day .t)) is
-              ∙ ap (ran s (chosen s)) minutes
-              ∙ sym (stretch-ran s (omega arith) on);
+              ∙ ap (λ (z : ℕ). afterMinutes s z (x - day .t)) is
+              ∙ ap (afterMinutes s (chosen s)) minutes
+              ∙ sym (stretch-state s (omega arith) on);
           n = run .n;
         }

@@ -1,20 +1,19 @@
--- At most 2n + 1 stretches come to the day's end. Each one that ends before it ends at an arrival or a finish, so that fewer entries are
--- still to arrive or have minutes left.
+-- At most 2n + 1 stretches lead to the day's end. One that ends before it ends at an arrival or a finish, so that fewer of those are left,
+-- and each entry has at most one of either.
 -- Assumes nothing.
 use mathlib.Core.Path.{_≡_, refl, ap, _∙_}
-use mathlib.Core.Bool.{Bool, true, false, cond}
+use mathlib.Core.Bool.{cond}
 use Prim.Native.Nat.{ℕ, zero, suc, _+_, _*_, _-_, _<_, _≤_}
 use native.Mathlib.Omega.{arith}
-use borrow.Author.Tests.{ltb-true, lt-ltb, le-ltb, eq-eqb}
+use borrow.Author.Tests.{lt-ltb, le-ltb, eq-eqb}
 use lib.Dec.{eqb, ltb}
 use Rattle.base.specs.Counting.{sum}
-use Rattle.jackson.specs.Windows.{Windows}
 use Rattle.jackson.specs.Minutes.{State, chosen, later}
-use Rattle.jackson.specs.Stretches.{stretchEnd, stretchOf, afterStretch, afterStretches, StretchLaw}
-use Rattle.jackson.specs.Internal.{ran}
+use Rattle.jackson.specs.Stretches.{stretchOf, afterStretch, afterStretches, StretchLaw}
+use Rattle.jackson.specs.Internal.{afterMinutes}
 use Rattle.base.proofs.Sums.{le-or-lt, cond-most, sum-le, sum-most, sum-lt}
 use Rattle.jackson.proofs.Schedules.{later-h, later-n}
-use Rattle.jackson.proofs.Stretches.{end-cases, chosen-some, stretch-over, stretch-to, stretch-ran}
+use Rattle.jackson.proofs.Stretches.{end-cases, chosen-some, stretch-over, stretch-to, stretch-state}
 
 -- 1 if a is below b, else 0
 abbrev below : ℕ → ℕ → ℕ
@@ -23,14 +22,14 @@ below a b = cond (ltb a b) 1 0
 below-most : (a b : ℕ) → below a b ≤ 1
 below-most a b = cond-most (ltb a b) 1 0 1 (omega arith) (omega arith)
 
--- it falls with a larger a and a smaller b
+-- it grows with neither a larger a nor a smaller b
 below-le : (a b c d : ℕ) → c ≤ a → b ≤ d → below a b ≤ below c d
 below-le a b c d h k =
     le-or-lt b a
     (λ l. rw (le-ltb a b l) (omega arith))
     (λ l. let z : c < d = omega arith in rw (lt-ltb a b l, lt-ltb c d z) (omega arith))
 
--- from 1 to 0 if b comes to a
+-- and is 0 if b is at most a
 below-lt : (a b c d : ℕ) → b ≤ a → c < d → below a b < below c d
 below-lt a b c d h k = rw (le-ltb a b h, lt-ltb c d k) (omega arith)
 
@@ -58,11 +57,11 @@ module _ (n : ℕ) where
         sum-lt n _ _ (λ i b. below-le 0 (q i) 0 (p i) (omega arith) (fewer i)) k l (below-lt 0 (q k) 0 (p k) (omega arith) some)
 
 -- the arrivals and finishes that are left
-abbrev left : State → ℕ
-left s = upcoming (s .windows .n) (s .windows .r) (s .t) + unfinished (s .windows .n) (s .windows .p)
+abbrev pending : State → ℕ
+pending s = upcoming (s .windows .n) (s .windows .r) (s .t) + unfinished (s .windows .n) (s .windows .p)
 
-left-most : (s : State) → left s ≤ 2 * s .windows .n
-left-most s =
+pending-most : (s : State) → pending s ≤ 2 * s .windows .n
+pending-most s =
     omega (
       arith,
       sum-most (s .windows .n) 1 (λ i. below (s .t) (s .windows .r i)) (λ i _. below-most (s .t) (s .windows .r i)),
@@ -70,40 +69,40 @@ left-most s =
     )
 
 module _ (s : State) (few : s .windows .n ≤ 255) (on : s .t < s .windows .h) where
-  -- the place chosen, the minutes of its stretch, and the state after them
+  -- the place chosen and the minutes of its stretch
   abbrev k : ℕ
   k = chosen s
 
   abbrev m : ℕ
   m = stretchOf s
 
-  fewer : (i : ℕ) → ran s k m .windows .p i ≤ s .windows .p i
+  fewer : (i : ℕ) → afterMinutes s k m .windows .p i ≤ s .windows .p i
   fewer i = omega arith
 
-  at-arrival : (i : ℕ) → i < s .windows .n → s .t < s .windows .r i → s .t + m ≡ s .windows .r i → left (ran s k m) < left s
+  at-arrival : (i : ℕ) → i < s .windows .n → s .t < s .windows .r i → s .t + m ≡ s .windows .r i → pending (afterMinutes s k m) < pending s
   at-arrival i l h e =
       omega (
         arith,
         ap (upcoming (s .windows .n) (s .windows .r)) e,
         upcoming-lt (s .windows .n) (s .windows .r) (s .t) i l h,
-        unfinished-le (s .windows .n) (s .windows .p) (ran s k m .windows .p) fewer,
+        unfinished-le (s .windows .n) (s .windows .p) (afterMinutes s k m .windows .p) fewer,
       )
 
-  at-finish : k < s .windows .n → s .t + m ≡ s .t + s .windows .p k → left (ran s k m) < left s
+  at-finish : k < s .windows .n → s .t + m ≡ s .t + s .windows .p k → pending (afterMinutes s k m) < pending s
   at-finish place e =
       let all : cond (eqb k k) m 0 ≡ m = rw (eq-eqb k k refl) in
       omega (
         arith,
         upcoming-le (s .windows .n) (s .windows .r) (s .t) (s .t + m) (omega arith),
-        unfinished-lt (s .windows .n) (s .windows .p) (ran s k m .windows .p) fewer k place (chosen-some s few on place)
+        unfinished-lt (s .windows .n) (s .windows .p) (afterMinutes s k m .windows .p) fewer k place (chosen-some s few on place)
             (omega (arith, all, e)),
       )
 
   -- a stretch that ends before the day does leaves fewer
-  left-falls : afterStretch s .t < s .windows .h → left (afterStretch s) < left s
-  left-falls =
-      rw (stretch-ran s few on)
-      (end-cases (s .windows) (s .t) k (λ x. s .t + m ≡ x → s .t + m < s .windows .h → left (ran s k m) < left s)
+  pending-falls : afterStretch s .t < s .windows .h → pending (afterStretch s) < pending s
+  pending-falls =
+      rw (stretch-state s few on)
+      (end-cases (s .windows) (s .t) k (λ x. s .t + m ≡ x → s .t + m < s .windows .h → pending (afterMinutes s k m) < pending s)
       (λ i l h e _. at-arrival i l h e) (λ place e _. at-finish place e) (λ e h. absurd (omega arith)) (stretch-to s few on))
 
 -- a day past its end stays
@@ -123,10 +122,10 @@ module _ (s : State) (few : s .windows .n ≤ 255) where
   stretches-n (suc j) = later-n (afterStretches j s) (stretchOf (afterStretches j s)) ∙ stretches-n j
 
   -- each stretch leaves one less, up to the day's end
-  left-after : (j : ℕ) → afterStretches j s .t < s .windows .h → left (afterStretches j s) + j ≤ left s
+  pending-after : (j : ℕ) → afterStretches j s .t < s .windows .h → pending (afterStretches j s) + j ≤ pending s
   unfolding afterStretches
-  left-after zero h = omega arith
-  left-after (suc j) h =
+  pending-after zero h = omega arith
+  pending-after (suc j) h =
       let z = afterStretches j s in
       le-or-lt (z .windows .h) (z .t)
       (λ over. absurd (omega (arith, ap (λ (x : State). x .t) (stretch-stays z over), stretches-h j)))
@@ -134,11 +133,11 @@ module _ (s : State) (few : s .windows .n ≤ 255) where
       let n = stretches-n j in
       omega (
         arith,
-        left-falls z (omega arith) on (omega (arith, stretches-h j)),
-        left-after j (omega (arith, stretches-h j)),
+        pending-falls z (omega arith) on (omega (arith, stretches-h j)),
+        pending-after j (omega (arith, stretches-h j)),
       ))
 
 pub stretch-law : StretchLaw
 stretch-law s few =
     le-or-lt (s .windows .h) (afterStretches (2 * s .windows .n + 1) s .t) (λ h. h)
-    (λ h. absurd (omega (arith, left-after s few (2 * s .windows .n + 1) h, left-most s)))
+    (λ h. absurd (omega (arith, pending-after s few (2 * s .windows .n + 1) h, pending-most s)))

@@ -12,7 +12,7 @@ use Rattle.jackson.specs.Windows.{Windows, withLeft}
 use Rattle.jackson.specs.Rules.{Ready}
 use Rattle.jackson.specs.Minutes.{State, chosen, Takes, after, MinuteAnswer, minuteOf, later, placeAt}
 use Rattle.jackson.specs.Stretches.{sooner, nextRelease, finish, stretchEnd, stretchOf, afterStretch}
-use Rattle.jackson.specs.Internal.{ran}
+use Rattle.jackson.specs.Internal.{afterMinutes}
 use Rattle.base.proofs.Sums.{le-or-lt, below-suc}
 use Rattle.jackson.proofs.Choices.{chosen-takes}
 use Rattle.jackson.proofs.Schedules.{minute-on}
@@ -33,8 +33,8 @@ less-more x j k i = go (eqb k i)
     go true = omega arith
     go false = omega arith
 
-ran-next : (s : State) (k j : ℕ) → after (ran s k j) k ≡ ran s k (suc j)
-ran-next s k j =
+minutes-next : (s : State) (k j : ℕ) → after (afterMinutes s k j) k ≡ afterMinutes s k (suc j)
+minutes-next s k j =
     let left = fun-ext (λ i. less-more (s .windows .p i) j k i) in
     let time : s .t + j + 1 ≡ s .t + suc j = omega arith in
     λ x. record { windows = withLeft (s .windows) (left x); t = time x; last = k }
@@ -49,7 +49,7 @@ module _ (s : State) (few : s .windows .n ≤ 255) (k m : ℕ) (is : chosen s �
 
   module _ (j : ℕ) (below : j < m) where
     -- who is ready then is ready now
-    ready-before : (i : ℕ) → Ready (ran s k j .windows) (s .t + j) i → Ready (s .windows) (s .t) i
+    ready-before : (i : ℕ) → Ready (afterMinutes s k j .windows) (s .t + j) i → Ready (s .windows) (s .t) i
     ready-before i h =
         record {
           place = h .place;
@@ -60,7 +60,7 @@ module _ (s : State) (few : s .windows .n ≤ 255) (k m : ℕ) (is : chosen s �
         }
 
     -- and k is ready then
-    ready-still : k < s .windows .n → Ready (ran s k j .windows) (s .t + j) k
+    ready-still : k < s .windows .n → Ready (afterMinutes s k j .windows) (s .t + j) k
     ready-still place =
         let all : cond (eqb k k) j 0 ≡ j = rw (eq-eqb k k refl) in
         record {
@@ -70,42 +70,42 @@ module _ (s : State) (few : s .windows .n ≤ 255) (k m : ℕ) (is : chosen s �
         }
 
     -- so it is chosen
-    still-chosen : chosen (ran s k j) ≡ k
+    still-chosen : chosen (afterMinutes s k j) ≡ k
     still-chosen =
-        let then = chosen-takes (ran s k j) few in
+        let then = chosen-takes (afterMinutes s k j) few in
         le-or-lt (s .windows .n) k
         (λ none.
-        le-or-lt (s .windows .n) (chosen (ran s k j))
+        le-or-lt (s .windows .n) (chosen (afterMinutes s k j))
         (λ over. then .idles over ∙ sym (takes .idles none))
         (λ some. absurd (takes .deadline .none _ none (ready-before _ (then .deadline .taken some)))))
         (λ place.
         then .goes-on (ready-still place)
         (λ i h less. omega (arith, takes .deadline .least i place (ready-before i h), less)))
 
-    still-minute : minuteOf (ran s k j) ≡ record { place = k; next = after (ran s k j) k }
-    still-minute = minute-of (ran s k j) (omega (arith, steady .in-day)) k still-chosen
+    still-minute : minuteOf (afterMinutes s k j) ≡ record { place = k; next = after (afterMinutes s k j) k }
+    still-minute = minute-of (afterMinutes s k j) (omega (arith, steady .in-day)) k still-chosen
 
   first-minute : 1 ≤ m → minuteOf s ≡ record { place = k; next = after s k }
   first-minute some = minute-of s (omega (arith, steady .in-day)) k is
 
-  later-ran : (j : ℕ) → suc j ≤ m → later (suc j) s ≡ ran s k (suc j)
+  later-is : (j : ℕ) → suc j ≤ m → later (suc j) s ≡ afterMinutes s k (suc j)
   unfolding later
-  later-ran zero h = ap (λ (z : MinuteAnswer). z .next) (first-minute (omega arith))
-  later-ran (suc j) h =
-      ap (λ (z : State). minuteOf z .next) (later-ran j (omega arith))
+  later-is zero h = ap (λ (z : MinuteAnswer). z .next) (first-minute (omega arith))
+  later-is (suc j) h =
+      ap (λ (z : State). minuteOf z .next) (later-is j (omega arith))
       ∙ ap (λ (z : MinuteAnswer). z .next) (still-minute (suc j) h)
-      ∙ ran-next s k (suc j)
+      ∙ minutes-next s k (suc j)
 
   -- k has all these minutes
-  place-ran : (j : ℕ) → j < m → placeAt s j ≡ k
+  places-are : (j : ℕ) → j < m → placeAt s j ≡ k
   unfolding later
-  place-ran zero h = ap (λ (z : MinuteAnswer). z .place) (first-minute h)
-  place-ran (suc j) h =
-      ap (λ (z : State). minuteOf z .place) (later-ran j (omega arith)) ∙ ap (λ (z : MinuteAnswer). z .place) (still-minute (suc j) h)
+  places-are zero h = ap (λ (z : MinuteAnswer). z .place) (first-minute h)
+  places-are (suc j) h =
+      ap (λ (z : State). minuteOf z .place) (later-is j (omega arith)) ∙ ap (λ (z : MinuteAnswer). z .place) (still-minute (suc j) h)
 
   -- and after them the state is this
-  state-ran : 1 ≤ m → later m s ≡ ran s k m
-  state-ran some = let e : suc (m - 1) ≡ m = omega arith in rw e at (later-ran (m - 1) (omega arith))
+  state-is : 1 ≤ m → later m s ≡ afterMinutes s k m
+  state-is some = let e : suc (m - 1) ≡ m = omega arith in rw e at (later-is (m - 1) (omega arith))
 
 -- The end of a stretch.
 
@@ -194,7 +194,7 @@ unfolding stretchOf
 stretch-over s h = rw (le-ltb _ _ h)
 
 module _ (s : State) (few : s .windows .n ≤ 255) (on : s .t < s .windows .h) where
-  pub stretch-on : stretchOf s ≡ stretchEnd (s .windows) (s .t) (chosen s) - s .t
+  stretch-on : stretchOf s ≡ stretchEnd (s .windows) (s .t) (chosen s) - s .t
   unfolding stretchOf
   stretch-on = rw (lt-ltb _ _ on)
 
@@ -217,7 +217,7 @@ module _ (s : State) (few : s .windows .n ≤ 255) (on : s .t < s .windows .h) w
 
   -- the place chosen has each of its minutes
   pub stretch-places : (j : ℕ) → j < stretchOf s → placeAt s j ≡ chosen s
-  stretch-places = place-ran s few (chosen s) (stretchOf s) refl steady
+  stretch-places = places-are s few (chosen s) (stretchOf s) refl steady
 
-  pub stretch-ran : afterStretch s ≡ ran s (chosen s) (stretchOf s)
-  stretch-ran = state-ran s few (chosen s) (stretchOf s) refl steady stretch-some
+  pub stretch-state : afterStretch s ≡ afterMinutes s (chosen s) (stretchOf s)
+  stretch-state = state-is s few (chosen s) (stretchOf s) refl steady stretch-some

@@ -60,12 +60,17 @@ abbrev pub betterReady : State → ℕ → ℕ → ℕ
 betterReady s i k = better idle (isReady s) (comesBefore s) i k
 
 -- the state after place k, or idle, had m minutes
-abbrev pub ran : State → ℕ → ℕ → State
-ran s k m = record { windows = withLeft (s .windows) (λ i. s .windows .p i - cond (eqb k i) m 0); t = s .t + m; last = k }
+abbrev pub afterMinutes : State → ℕ → ℕ → State
+afterMinutes s k m = record { windows = withLeft (s .windows) (λ i. s .windows .p i - cond (eqb k i) m 0); t = s .t + m; last = k }
 
 -- the day after place k, or none, had m minutes
-pub record HasRun (day : Day) (k m : ℕ) (next : Day) : Type 0 where
-  pub state : stateIn next ≡ ran (stateIn day) k m
+pub record IsAfterMinutes (day : Day) (k m : ℕ) (next : Day) : Type 0 where
+  pub state : stateIn next ≡ afterMinutes (stateIn day) k m
+  pub n : next .windows .n ≡ day .windows .n
+
+-- the day after place k, or none, had its minute
+pub record IsAfter (day : Day) (k : ℕ) (next : Day) : Type 0 where
+  pub state : stateIn next ≡ after (stateIn day) k
   pub n : next .windows .n ≡ day .windows .n
 
 -- h minutes are left of the day, and a buffer of so many bytes has room for them
@@ -77,11 +82,6 @@ pub record Fillable (day : Day) (h bytes : ℕ) : Type 0 where
 unfoldable pub stores : List ℕ → ℕ → ℕ → ℕ → List ℕ
 stores l i x zero = l
 stores l i x (suc m) = set (stores l i x m) (i + m) x
-
--- the day after place k, or none, had its minute
-pub record IsAfter (day : Day) (k : ℕ) (next : Day) : Type 0 where
-  pub state : stateIn next ≡ after (stateIn day) k
-  pub n : next .windows .n ≡ day .windows .n
 
 -- one side of the mirrored windows: of the first count entries h minus the other side, of the rest the side as it is
 abbrev pub MirroredSide : ℕ → ℕ → List ℕ → List ℕ → List ℕ → Type 0

@@ -13,7 +13,7 @@ ghost use Rattle.jackson.specs.Windows.{windowsIn};
 ghost use Rattle.jackson.specs.Plans.{idle};
 ghost use Rattle.jackson.specs.Minutes.{earliestDeadline, chosen};
 ghost use Rattle.jackson.specs.Calls.{Advances};
-ghost use Rattle.jackson.specs.Internal.{stateAt, betterReady, HasRun, IsAfter};
+ghost use Rattle.jackson.specs.Internal.{stateAt, betterReady, IsAfterMinutes, IsAfter};
 ghost use Rattle.list.specs.DayLists.{mostEntries};
 
 // An entry has its r reached and minutes left.
@@ -107,7 +107,7 @@ fn fewer(x: u16, y: u16) -> u16
 // The day after place k, or none, had so many minutes.
 pub(crate) fn advanced_by(day: Day, k: u8, minutes: u16) -> Day
     requires { ⌜ day .t + minutes ≤ 65535 ⌝ }
-    ensures { λ next. ⌜ HasRun day k minutes next ⌝ }
+    ensures { λ next. ⌜ IsAfterMinutes day k minutes next ⌝ }
 {
     let mut windows = day.windows;
     let place = k as usize;

@@ -2,7 +2,7 @@
 -- Assumes nothing.
 use borrow.Author.Needs.{needs}
 use Prim.Native.Nat.{_-_}
-use Rattle.jackson.proofs.FillCases.{StoredFor, one-start, one-next, one-done, one-long}
+use Rattle.jackson.proofs.FillCases.{StoredFor, place-start, place-next, place-done, place-long}
 use Rattle.jackson.proofs.fill.store_stretch.Statement.{statement}
 use Rattle.jackson.proofs.fill.store_stretch.Tie as tie
 
@@ -13,7 +13,7 @@ abbrev μ-loop : tie.MeasureT-loop
 μ-loop place from minutes plan₀ i₀ plan i = minutes - i
 
 loop-holds : tie.Need-loop-holds Inv-loop μ-loop
-loop-holds c = one-start _ _ _ _ (c .pre)
+loop-holds c = place-start _ _ _ _ (c .pre)
 
 add-plan : tie.Need-add-plan Inv-loop μ-loop
 add-plan c = let room = c .before .loop .inv .room in search (needs, room)
@@ -22,7 +22,7 @@ slice-write-plan : tie.Need-slice-write-plan Inv-loop μ-loop
 slice-write-plan c =
     let loop = c .before .loop in
     let room = loop .inv .room in
-    let long = one-long _ _ _ _ _ _ (loop .inv) in
+    let long = place-long _ _ _ _ _ _ (loop .inv) in
     search (needs, long, room)
 
 add-i : tie.Need-add-i Inv-loop μ-loop
@@ -32,13 +32,13 @@ loop-less : tie.Need-loop-less Inv-loop μ-loop
 loop-less c = search needs
 
 loop-again : tie.Need-loop-again Inv-loop μ-loop
-loop-again c = one-next _ _ _ _ _ _ (c .before .loop .inv) (c .loop-test .taken)
+loop-again c = place-next _ _ _ _ _ _ (c .before .loop .inv) (c .loop-test .taken)
 
 same-length : tie.Need-same-length Inv-loop μ-loop
-same-length c = one-long _ _ _ _ _ _ (c .before .loop .inv)
+same-length c = place-long _ _ _ _ _ _ (c .before .loop .inv)
 
 returns : tie.Need-returns Inv-loop μ-loop
-returns c = one-done _ _ _ _ _ _ (c .before .loop .inv) (c .loop-test .left)
+returns c = place-done _ _ _ _ _ _ (c .before .loop .inv) (c .loop-test .left)
 
 pub store-stretch-spec : {M : Type 1} → statement M
 store-stretch-spec =

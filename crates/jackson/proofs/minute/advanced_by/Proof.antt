@@ -6,7 +6,7 @@ use mathlib.Core.Path.{_≡_}
 use native.Mathlib.Omega.{arith}
 use lib.ListN.{length}
 use Rattle.base.proofs.Walk.{length-mapped}
-use Rattle.jackson.proofs.MinuteCases.{run-place, run-none}
+use Rattle.jackson.proofs.MinuteCases.{after-place, after-none}
 use Rattle.jackson.proofs.minute.advanced_by.Statement.{statement}
 use Rattle.jackson.proofs.minute.advanced_by.Tie as tie
 
@@ -31,8 +31,8 @@ add-t16 c = search needs
 returns : tie.Need-returns
 returns c =
     let args = c .before .before .before .args in
-    ⊎-elim (λ w. rw (w .3) (run-place (args .day) (args .k) (args .minutes) _ (w .2 .ensures)))
-    (λ w. rw (w .1) (run-none (args .day) (args .k) (args .minutes)
+    ⊎-elim (λ w. rw (w .3) (after-place (args .day) (args .k) (args .minutes) _ (w .2 .ensures)))
+    (λ w. rw (w .1) (after-none (args .day) (args .k) (args .minutes)
     (let long : length (args .day .windows .p) ≡ 64 = search (needs, length-mapped) in omega (arith, long, w .0 .left))))
     (c .before .if1 .came)
 
