@@ -34,8 +34,8 @@ stretchOf s = cond (ltb (s .t) (s .windows .h)) (stretchEnd (s .windows) (s .t) 
 abbrev pub afterStretch : State → State
 afterStretch s = later (stretchOf s) s
 
--- what a stretch gives: the place that has the first of its minutes, how many they are, each of which this place has, together with the day
--- after them
+-- what a stretch gives: the place that has the minute, how many minutes the stretch has, each of which is this place's, together with the
+-- day after them. A day past its end gives idle and no minutes, and stays as it is.
 pub record Stretches (day : Day) (x : Stretch) : Type 0 where
   pub place : x .place ≡ minuteOf (stateIn day) .place
   pub minutes : x .minutes ≡ stretchOf (stateIn day)
