@@ -2,12 +2,11 @@
 -- Assumes nothing.
 use mathlib.Core.Path.{_≡_, refl, sym, _∙_, ap}
 use mathlib.Core.List.{List, _++_}
-use Prim.Native.Nat.{ℕ, suc, _+_, _<_, _≤_}
-use native.Mathlib.Numerals.{add-one}
+use Prim.Native.Nat.{ℕ, _+_, _<_, _≤_}
 use native.Mathlib.Omega.{arith}
 use borrow.Author.Tests.{lt-ltb, le-ltb}
-use lib.ListN.{length, getD, set, take, drop}
-use lib.Seq.{take-at, drop-cons, set-at, append-snoc, length-front, length-take-le}
+use lib.ListN.{length, take, drop}
+use lib.Seq.{take-at}
 use Rattle.base.specs.Outcomes.{answered, refused}
 use Rattle.list.specs.Refusals.{codeOf, verdictOf}
 use Rattle.list.specs.Checks.{checkOf}
@@ -20,10 +19,10 @@ use Rattle.list.specs.declared.types.DayList.{DayList}
 use Rattle.list.proofs.Verdicts.{by-accepted, by-refused}
 use Rattle.base.specs.Counting.{listOf}
 use Rattle.jackson.specs.Windows.{Windows, windowsOf, windowsIn}
-use Rattle.jackson.specs.Minutes.{State, stateIn, dayStart, chosen, minuteOf, later, placeAt, schedule}
+use Rattle.jackson.specs.Minutes.{State, stateIn, dayStart, chosen, placeAt, schedule}
 use Rattle.jackson.specs.Intervals.{overloadOf}
 use Rattle.jackson.specs.Calls.{Holds, Tests, testOf, Advances, Starts, Fills, FillsWindows, listBeside, fillOf, planAfter}
-use Rattle.jackson.specs.Internal.{IsAfter}
+use Rattle.jackson.specs.Internal.{IsAfter, Fillable}
 use Rattle.jackson.specs.declared.types.WindowSet.{WindowSet}
 use Rattle.jackson.specs.declared.types.Day.{Day}
 use Rattle.jackson.specs.declared.types.DayAnswer.{DayAnswer}
@@ -80,49 +79,6 @@ module _ (l : DayList) (v : Verdict) (checked : verdictOf v ≡ checkOf l) where
   unfolding testOf
   tested u w e holds test = tests-of l u (rw (by-accepted checked e) (test ∙ ap overloadOf (holds .windows)))
 
--- the first i of h places are stored, and the day has gone i minutes on from s
-pub record Stored (s : State) (h : ℕ) (old new : List ℕ) (day : Day) (i : ℕ) : Type 0 where
-  pub room : h ≤ length old
-  pub passed : i ≤ h
-  pub now : stateIn day ≡ later i s
-  pub bytes : new ≡ listOf i (placeAt s) ++ drop i old
-
-module _ (s : State) (h : ℕ) (old : List ℕ) where
-  pub store-start : (day : Day) → h ≤ length old → s ≡ stateIn day → Stored s h old old day 0
-  unfolding later listOf
-  store-start day room e = record { room = room; passed = omega arith; now = sym e; bytes = refl }
-
-  store-one : (i x : ℕ) → i < length old → x ≡ placeAt s i
-      → set (listOf i (placeAt s) ++ drop i old) i x ≡ listOf (i + 1) (placeAt s) ++ drop (i + 1) old
-  unfolding listOf
-  store-one i x h e =
-      rw (add-one, drop-cons old i 0 h, e)
-      (set-at (listOf i (placeAt s)) (getD old i 0) (drop (suc i) old) (placeAt s i) i (list-length i (placeAt s))
-      ∙ sym (append-snoc (listOf i (placeAt s)) (placeAt s i) (drop (suc i) old)))
-
-  pub store-next : (new : List ℕ) (day next : Day) (i x : ℕ) → Stored s h old new day i → i < h
-      → Advances day (record { place = x; day = next })
-      → Stored s h old (set new i x) next (i + 1)
-  unfolding later
-  store-next new day next i x so below turn =
-      let place : x ≡ placeAt s i = turn .place ∙ ap (λ (z : State). minuteOf z .place) (so .now) in
-      record {
-        room = so .room;
-        passed = omega (arith, below);
-        now = rw add-one (turn .next ∙ ap (λ (z : State). minuteOf z .next) (so .now));
-        bytes = rw (so .bytes) (store-one i x (omega (arith, below, so .room)) place);
-      }
-
-  pub store-done : (new : List ℕ) (day : Day) (i : ℕ) → Stored s h old new day i → h ≤ i → new ≡ listOf h (placeAt s) ++ drop h old
-  store-done new day i so end =
-      let z : i ≡ h = omega (arith, so .passed) in
-      rw (← z) (so .bytes)
-
-  pub store-long : (new : List ℕ) (day : Day) (i : ℕ) → Stored s h old new day i → length new ≡ length old
-  store-long new day i so =
-      let fits : i ≤ length old = omega (arith, so .passed, so .room) in
-      rw (so .bytes) (length-front old (listOf i (placeAt s)) i (list-length i (placeAt s) ∙ sym (length-take-le i old fits)))
-
 -- what a call fills, from its outcome and the buffer
 fills-of : (l : DayList) (old : List ℕ) (v : Verdict) (new : List ℕ) → verdictOf v ≡ fillOf l (length old)
     → new ≡ planAfter (fillOf l (length old)) (windowsOf l) old → Fills l old v new
@@ -163,6 +119,13 @@ module _ (l : DayList) (old : List ℕ) (a : DayAnswer) (starts : Starts l a) wh
     tests : overloadOf (windowsIn (a .day .windows)) ≡ overloadOf (windowsOf l)
     tests = ap (λ (s : State). overloadOf (s .windows)) begins
 
+    -- the whole day is left
+    pub day-fillable : l .frame .h ≤ length old → Fillable (a .day) (l .frame .h) (length old)
+    day-fillable room =
+        let time = ap (λ (s : State). s .t) begins in
+        let end = ap (λ (s : State). s .windows .h) begins in
+        record { room = room; rest = omega arith }
+
     pub fill-too-short : length old < l .frame .h → Fills l old (Refused (PlanBufferShort (l .frame .h))) old
     unfolding fillOf
     fill-too-short h =
@@ -184,6 +147,11 @@ module _ (l : DayList) (old : List ℕ) (a : DayAnswer) (starts : Starts l a) wh
           let z = le-ltb (length old) (l .frame .h) h in
           let fine : overloadOf (windowsOf l) ≡ answered tt = sym tests ∙ sym test ∙ ap verdictOf r in
           fills-of l old _ _ (rw (well-formed, z) (sym fine)) (rw (well-formed, z, fine) (rw (← begins) bytes))
+
+-- of a day's first state the whole day is left
+pub start-fillable : (w : WindowSet) (day : Day) → day ≡ record { windows = w; t = 0; last = 255 } → (room : ℕ) → w .h ≤ room
+    → Fillable day (w .h) room
+start-fillable w day e room h = rw e (record { room = h; rest = omega arith })
 
 -- filling it with the schedule of windows that are not tested
 module _ (w : Windows) (old : List ℕ) where

@@ -24,12 +24,17 @@ pub mod Law
 pub mod ListLaws
 -- The walk of the left end, with the sum that it keeps.
 pub mod RunningSums
+-- The stretches of a day, and how many they are.
+pub mod Stretches
+pub mod StretchCounts
 -- Lists that are planned alike.
 pub mod Alike
 -- What the code's proofs cite, case by case. Those of the crates above cite ArrayCases too, which says what arrays of windows stand for.
 pub mod ArrayCases
 mod ScanCases
 mod MinuteCases
+mod StretchCases
+mod FillCases
 mod LeftEndCases
 mod IntervalCases
 mod WindowSetCases

@@ -1,22 +1,21 @@
 -- Jackson's minute in each case that the code meets.
 -- Assumes nothing.
 use mathlib.Core.Path.{_≡_, refl, sym, _∙_, ap, fun-ext}
-use mathlib.Core.Bool.{Bool, true, false, not, _&&_}
+use mathlib.Core.Bool.{Bool, true, false, cond, not, _&&_}
 use mathlib.Core.List.{List}
 use Prim.Native.Nat.{ℕ, _+_, _-_, _<_, _≤_, min}
 use native.Mathlib.Omega.{arith}
-use borrow.Author.Tests.{le-leb, lt-leb, lt-ltb, le-ltb, not-true, not-false}
-use lib.Dec.{leb, ltb}
+use borrow.Author.Tests.{le-leb, lt-leb, lt-ltb, le-ltb, eq-eqb, ne-eqb, not-true, not-false}
+use lib.Dec.{eqb, leb, ltb}
 use lib.ListN.{length, getD, set, List·getD-eq-default}
 use lib.Seq.{set-out, getD-set-same, getD-set-other}
-use Rattle.base.specs.Counting.{same}
 use Rattle.jackson.specs.Windows.{withLeft, windowsIn}
 use Rattle.jackson.specs.Plans.{idle}
 use Rattle.jackson.specs.Minutes.{State, isReady, comesBefore, earliestDeadline, chosen}
-use Rattle.jackson.specs.Internal.{stateAt, betterReady, IsAfter}
+use Rattle.jackson.specs.Internal.{stateAt, betterReady, IsAfterMinutes, IsAfter}
 use Rattle.jackson.specs.declared.types.WindowSet.{WindowSet}
 use Rattle.jackson.specs.declared.types.Day.{Day}
-use Rattle.base.proofs.Sums.{le-or-lt, same-cases}
+use Rattle.base.proofs.Sums.{le-or-lt, eq-or-ne}
 use Rattle.base.proofs.Scans.{best-some}
 use Rattle.jackson.proofs.Choices.{comes-before-ranks}
 use Rattle.jackson.proofs.ScanCases.{unfit, first, wins, stays}
@@ -84,44 +83,51 @@ module _ (s : WindowSet) (n : ℕ) (holds : n ≡ min (s .n) 64) (t last k : ℕ
     unfolding chosen
     continued e d = rw (← holds, lt-ltb last n h, ← says, not-false b e, ← first, le-ltb _ _ d) refl
 
--- an array of minutes left after place k had its minute
-stored-less : (p : List ℕ) (k i : ℕ) → getD (set p k (getD p k 0 - 1)) i 0 ≡ getD p i 0 - same k i
-stored-less p k i =
-    same-cases k i
-    (λ e one. le-or-lt (length p) k
-    (λ h.
-    let z : getD p i 0 ≡ 0 = List·getD-eq-default p 0 (omega (arith, h, e)) in
-    rw (set-out p k (getD p k 0 - 1) h, z, one) refl)
-    (λ h. rw (one, ← e) (getD-set-same p k (getD p k 0 - 1) 0 h)))
-    (λ e zero. rw zero (getD-set-other p k i (getD p k 0 - 1) 0 (λ z. e (sym z)) ∙ omega arith))
+-- an array of minutes left after place k had m of them, or nobody
+module _ (p : List ℕ) (k m i : ℕ) where
+  -- place k itself, and the others
+  k-or-other : {G : Type 0} → (k ≡ i → cond (eqb k i) m 0 ≡ m → G) → ((k ≡ i → ⊥) → cond (eqb k i) m 0 ≡ 0 → G) → G
+  k-or-other f g = eq-or-ne k i (λ e. f e (rw (eq-eqb k i e))) (λ e. g e (rw (ne-eqb k i e)))
 
-nobody-less : (p : List ℕ) (k i : ℕ) → length p ≤ k → getD p i 0 ≡ getD p i 0 - same k i
-nobody-less p k i h =
-    same-cases k i
-    (λ e one.
-    let z : getD p i 0 ≡ 0 = List·getD-eq-default p 0 (omega (arith, h, e)) in
-    rw (z, one) refl)
-    (λ e zero. rw zero (omega arith))
+  nobody-less : length p ≤ k → getD p i 0 ≡ getD p i 0 - cond (eqb k i) m 0
+  nobody-less h =
+      k-or-other
+      (λ e _. let z : getD p i 0 ≡ 0 = List·getD-eq-default p 0 (omega (arith, h, e)) in omega arith)
+      (λ _ zero. omega arith)
 
--- the day after its minute: place k had it, or none
-module _ (day : Day) (k : ℕ) where
+  stored-less : getD (set p k (getD p k 0 - m)) i 0 ≡ getD p i 0 - cond (eqb k i) m 0
+  stored-less =
+      le-or-lt (length p) k
+      (λ h. rw (set-out p k (getD p k 0 - m) h) (nobody-less h))
+      (λ h.
+      k-or-other
+      (λ e all. rw (all, ← e) (getD-set-same p k (getD p k 0 - m) 0 h))
+      (λ e zero. rw zero (getD-set-other p k i (getD p k 0 - m) 0 (λ z. e (sym z)) ∙ omega arith)))
+
+-- the day after m minutes: place k had them, or none
+module _ (day : Day) (k m : ℕ) where
   abbrev dayWith : List ℕ → Day
   dayWith p =
       record {
         windows = record { h = day .windows .h; n = day .windows .n; r = day .windows .r; d = day .windows .d; p = p };
-        t = day .t + 1;
+        t = day .t + m;
         last = k;
       }
 
-  advanced-with : (p : List ℕ) → ((i : ℕ) → getD p i 0 ≡ getD (day .windows .p) i 0 - same k i) → IsAfter day k (dayWith p)
+  advanced-with : (p : List ℕ) → ((i : ℕ) → getD p i 0 ≡ getD (day .windows .p) i 0 - cond (eqb k i) m 0)
+      → IsAfterMinutes day k m (dayWith p)
   advanced-with p left =
       record {
-        state = ap (λ (z : ℕ → ℕ). record { windows = withLeft (windowsIn (day .windows)) z; t = day .t + 1; last = k }) (fun-ext left);
+        state = ap (λ (z : ℕ → ℕ). record { windows = withLeft (windowsIn (day .windows)) z; t = day .t + m; last = k }) (fun-ext left);
         n = refl;
       }
 
-  pub after-place : (x : ℕ) → x ≡ getD (day .windows .p) k 0 - 1 → IsAfter day k (dayWith (set (day .windows .p) k x))
-  after-place x e = rw e (advanced-with (set (day .windows .p) k (getD (day .windows .p) k 0 - 1)) (stored-less (day .windows .p) k))
+  pub after-place : (x : ℕ) → x ≡ getD (day .windows .p) k 0 - m → IsAfterMinutes day k m (dayWith (set (day .windows .p) k x))
+  after-place x e = rw e (advanced-with (set (day .windows .p) k (getD (day .windows .p) k 0 - m)) (stored-less (day .windows .p) k m))
 
-  pub after-none : length (day .windows .p) ≤ k → IsAfter day k (dayWith (day .windows .p))
-  after-none h = advanced-with (day .windows .p) (λ i. nobody-less (day .windows .p) k i h)
+  pub after-none : length (day .windows .p) ≤ k → IsAfterMinutes day k m (dayWith (day .windows .p))
+  after-none h = advanced-with (day .windows .p) (λ i. nobody-less (day .windows .p) k m i h)
+
+-- one minute
+pub after-one : (day : Day) (k : ℕ) (next : Day) → IsAfterMinutes day k 1 next → IsAfter day k next
+after-one day k next run = record { state = run .state; n = run .n }

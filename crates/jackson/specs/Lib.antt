@@ -5,6 +5,7 @@ pub mod Intervals
 pub mod RunningSums
 pub mod Rules
 pub mod Minutes
+pub mod Stretches
 pub mod Laws
 pub mod Calls
 pub mod Internal

@@ -10,13 +10,14 @@ use list::types::Refusal;
 use list::types::Verdict;
 ghost use mathlib.Core.Path.{_≡_};
 ghost use mathlib.Core.List.{_++_};
-ghost use Prim.Native.Nat.{_≤_};
+ghost use Prim.Native.Nat.{_+_, _≤_};
 ghost use lib.ListN.{length, drop};
 ghost use Rattle.base.specs.Counting.{listOf};
 ghost use Rattle.jackson.specs.Windows.{windowsIn};
 ghost use Rattle.jackson.specs.Plans.{idle};
 ghost use Rattle.jackson.specs.Minutes.{stateIn, placeAt};
 ghost use Rattle.jackson.specs.Calls.{Starts, Fills, FillsWindows};
+ghost use Rattle.jackson.specs.Internal.{Fillable, stores};
 
 // A day's first state.
 fn day_start(windows: WindowSet) -> Day
@@ -46,18 +47,31 @@ pub fn start_day(list: DayList) -> DayAnswer
     }
 }
 
-// Stores the places of the next h minutes.
+// Stores a place for so many minutes.
+fn store_stretch(place: u8, from: usize, minutes: usize, plan: &mut [u8])
+    requires { ⌜ from + minutes ≤ length (now plan) ⌝ }
+    ensures { λ _. ⌜ now (plan .exit) ≡ stores (now (plan .entry)) from place minutes ⌝ }
+{
+    let mut i: usize = 0;
+    while i < minutes {
+        plan[from + i] = place;
+        i += 1;
+    }
+}
+
+// Stores the places of the h minutes that are left of the day, stretch by stretch.
 fn store_places(day: Day, h: usize, plan: &mut [u8])
-    requires { ⌜ h ≤ length (now plan) ⌝ }
+    requires { ⌜ Fillable day h (length (now plan)) ⌝ }
     ensures { λ _. ⌜ now (plan .exit) ≡ listOf h (placeAt (stateIn day)) ++ drop h (now (plan .entry)) ⌝ }
 {
     let mut today = day;
     let mut i: usize = 0;
     while i < h {
-        let minute = today.minute();
-        plan[i] = minute.place;
-        today = minute.day;
-        i += 1;
+        let stretch = today.stretch();
+        let minutes = stretch.minutes as usize;
+        store_stretch(stretch.place, i, minutes, plan);
+        today = stretch.day;
+        i += minutes;
     }
 }
 

@@ -6,14 +6,14 @@ use list::places_held;
 use list::types::ENTRIES;
 ghost use mathlib.Core.Path.{_≡_};
 ghost use mathlib.Core.Bool.{_&&_};
-ghost use Prim.Native.Nat.{_-_, _<_, _≤_};
+ghost use Prim.Native.Nat.{_+_, _-_, _<_, _≤_};
 ghost use lib.Dec.{leb, ltb};
 ghost use Rattle.base.specs.Counting.{lexLess};
 ghost use Rattle.jackson.specs.Windows.{windowsIn};
 ghost use Rattle.jackson.specs.Plans.{idle};
 ghost use Rattle.jackson.specs.Minutes.{earliestDeadline, chosen};
 ghost use Rattle.jackson.specs.Calls.{Advances};
-ghost use Rattle.jackson.specs.Internal.{stateAt, betterReady, IsAfter};
+ghost use Rattle.jackson.specs.Internal.{stateAt, betterReady, IsAfterMinutes, IsAfter};
 ghost use Rattle.list.specs.DayLists.{mostEntries};
 
 // An entry has its r reached and minutes left.
@@ -76,7 +76,7 @@ fn earliest_deadline(
 }
 
 // The place that has minute t, 255 for none.
-fn choice(windows: WindowSet, t: u16, last: u8) -> u8
+pub(crate) fn choice(windows: WindowSet, t: u16, last: u8) -> u8
     ensures { λ k. ⌜ k ≡ chosen (record { windows = windowsIn windows; t = t; last = last }) ⌝ }
 {
     let count = places_held(windows.n);
@@ -97,10 +97,28 @@ fn choice(windows: WindowSet, t: u16, last: u8) -> u8
     last
 }
 
-fn one_less(x: u16) -> u16
-    ensures { λ y. ⌜ y ≡ x - 1 ⌝ }
+// x less y, 0 if y is larger.
+fn fewer(x: u16, y: u16) -> u16
+    ensures { λ z. ⌜ z ≡ x - y ⌝ }
 {
-    if x == 0 { 0 } else { x - 1 }
+    if x < y { 0 } else { x - y }
+}
+
+// The day after place k, or none, had so many minutes.
+pub(crate) fn advanced_by(day: Day, k: u8, minutes: u16) -> Day
+    requires { ⌜ day .t + minutes ≤ 65535 ⌝ }
+    ensures { λ next. ⌜ IsAfterMinutes day k minutes next ⌝ }
+{
+    let mut windows = day.windows;
+    let place = k as usize;
+    if place < ENTRIES {
+        windows.p[place] = fewer(windows.p[place], minutes);
+    }
+    Day {
+        windows: windows,
+        t: day.t + minutes,
+        last: k,
+    }
 }
 
 // The day after place k, or none, had its minute.
@@ -108,16 +126,7 @@ fn advanced(day: Day, k: u8) -> Day
     requires { ⌜ day .t < 65535 ⌝ }
     ensures { λ next. ⌜ IsAfter day k next ⌝ }
 {
-    let mut windows = day.windows;
-    let place = k as usize;
-    if place < ENTRIES {
-        windows.p[place] = one_less(windows.p[place]);
-    }
-    Day {
-        windows: windows,
-        t: day.t + 1,
-        last: k,
-    }
+    advanced_by(day, k, 1)
 }
 
 impl Day {

@@ -24,6 +24,13 @@ pub struct Minute {
     pub day: Day,
 }
 
+// What a stretch of minutes gives: the place that has them, 255 for none, how many they are, and the day after them.
+pub struct Stretch {
+    pub place: u8,
+    pub minutes: u16,
+    pub day: Day,
+}
+
 // What starting a day answers: the day beside Accepted, and the empty list's day beside a refusal.
 pub struct DayAnswer {
     pub verdict: Verdict,

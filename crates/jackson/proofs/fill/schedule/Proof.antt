@@ -1,7 +1,7 @@
 -- Filling a plan buffer answers the value check, then rows 11 and 9, and stores the schedule only if none holds.
 -- Assumes nothing.
 use borrow.Author.Needs.{needs}
-use Rattle.jackson.proofs.CallCases.{not-filled, fill-too-short, not-planned, fill-planned}
+use Rattle.jackson.proofs.CallCases.{not-filled, day-fillable, fill-too-short, not-planned, fill-planned}
 use Rattle.jackson.proofs.fill.schedule.Statement.{statement}
 use Rattle.jackson.proofs.fill.schedule.Tie as tie
 
@@ -50,7 +50,12 @@ returns-3 c =
     (unchecked-overload .result) (unchecked-overload .ensures) _ (c .enum-told4 .given .1)
 
 store-places-requires : tie.Need-store-places-requires
-store-places-requires c κs = search needs
+store-places-requires c κs =
+    let args = c .before .before .before .before .before .before .before .before .before .before .before .args in
+    let start-day = c .before .before .before .before .before .before .before .before .before .start-day in
+    let enum-told = c .before .before .before .before .before .before .before .enum-told in
+    let if1 = c .before .before .before .before .if1 in
+    day-fillable (args .list) (args .plan .now) (start-day .result) (start-day .ensures) (enum-told .given .1) (if1 .left)
 
 same-length : tie.Need-same-length
 same-length c = search needs

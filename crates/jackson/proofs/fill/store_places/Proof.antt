@@ -1,10 +1,11 @@
--- The places are stored minute by minute. The loop's invariant is `Stored`, the measure what is left of h.
+-- The places are stored stretch by stretch. The loop's invariant is `Stored`, the measure what is left of h.
 -- Assumes nothing.
 use borrow.Author.Needs.{needs}
 use mathlib.Core.Path.{refl}
 use Prim.Native.Nat.{_-_}
+use native.Mathlib.Omega.{arith}
 use Rattle.jackson.specs.Minutes.{stateIn}
-use Rattle.jackson.proofs.CallCases.{Stored, store-start, store-next, store-done, store-long}
+use Rattle.jackson.proofs.FillCases.{Stored, store-start, store-next, store-done, store-long, turn-some, turn-fits}
 use Rattle.jackson.proofs.fill.store_places.Statement.{statement}
 use Rattle.jackson.proofs.fill.store_places.Tie as tie
 
@@ -17,26 +18,42 @@ abbrev μ-loop : tie.MeasureT-loop
 loop-holds : tie.Need-loop-holds Inv-loop μ-loop
 loop-holds c = store-start _ _ _ _ (c .before .pre) refl
 
-minute-requires : tie.Need-minute-requires Inv-loop μ-loop
-minute-requires c κs = search needs
+stretch-requires : tie.Need-stretch-requires Inv-loop μ-loop
+stretch-requires c κs = search needs
 
-slice-write-plan : tie.Need-slice-write-plan Inv-loop μ-loop
-slice-write-plan c =
-    let loop = c .before .before .loop in
-    let long = store-long _ _ _ _ _ _ (loop .inv) in
-    let room = loop .inv .room in
-    search (needs, long, room)
+cast-minutes : tie.Need-cast-minutes Inv-loop μ-loop
+cast-minutes c = search needs
+
+store-stretch-requires : tie.Need-store-stretch-requires Inv-loop μ-loop
+store-stretch-requires c κs =
+    let loop = c .before .before .before .before .loop in
+    let test = c .before .before .before .loop-test in
+    let fits = turn-fits _ _ _ _ _ _ (loop .inv) (test .taken) _ (c .before .before .stretch .ensures) in
+    omega (arith, fits, loop .inv .room, store-long _ _ _ _ _ _ (loop .inv))
 
 add-i : tie.Need-add-i Inv-loop μ-loop
-add-i c = search needs
+add-i c =
+    let loop = c .before .before .before .before .before .before .before .before .loop in
+    let test = c .before .before .before .before .before .before .before .loop-test in
+    let stretch = c .before .before .before .before .before .before .stretch in
+    let fits = turn-fits _ _ _ _ _ _ (loop .inv) (test .taken) _ (stretch .ensures) in
+    search (needs, fits)
 
 loop-less : tie.Need-loop-less Inv-loop μ-loop
-loop-less c = search needs
+loop-less c =
+    let loop = c .before .before .before .before .before .before .before .before .loop in
+    let test = c .before .before .before .before .before .before .before .loop-test in
+    let stretch = c .before .before .before .before .before .before .stretch in
+    let some = turn-some _ _ _ _ _ _ (loop .inv) (test .taken) _ (stretch .ensures) in
+    let fits = turn-fits _ _ _ _ _ _ (loop .inv) (test .taken) _ (stretch .ensures) in
+    search (needs, some, fits)
 
 loop-again : tie.Need-loop-again Inv-loop μ-loop
 loop-again c =
-    let loop = c .before .before .before .loop in
-    store-next _ _ _ _ _ _ _ _ (loop .inv) (c .before .before .loop-test .taken) (c .before .minute .ensures)
+    let loop = c .before .before .before .before .before .before .before .before .loop in
+    let test = c .before .before .before .before .before .before .before .loop-test in
+    let stretch = c .before .before .before .before .before .before .stretch in
+    store-next _ _ _ _ _ _ (loop .inv) (test .taken) _ (stretch .ensures) _ (c .before .before .before .store-stretch .ensures)
 
 same-length : tie.Need-same-length Inv-loop μ-loop
 same-length c = store-long _ _ _ _ _ _ (c .before .loop .inv)
@@ -51,8 +68,9 @@ store-places-spec =
     Inv-loop
     μ-loop
     loop-holds
-    minute-requires
-    slice-write-plan
+    stretch-requires
+    cast-minutes
+    store-stretch-requires
     add-i
     loop-less
     loop-again

@@ -2,7 +2,7 @@
 -- Assumes nothing.
 use borrow.Author.Needs.{needs}
 use Rattle.jackson.specs.Windows.{windowsIn}
-use Rattle.jackson.proofs.CallCases.{fill-no-room, fill-room}
+use Rattle.jackson.proofs.CallCases.{start-fillable, fill-no-room, fill-room}
 use Rattle.jackson.proofs.fill.unchecked_schedule.Statement.{statement}
 use Rattle.jackson.proofs.fill.unchecked_schedule.Tie as tie
 
@@ -18,7 +18,7 @@ day-start-requires : tie.Need-day-start-requires
 day-start-requires c κs = search needs
 
 store-places-requires : tie.Need-store-places-requires
-store-places-requires c κs = search needs
+store-places-requires c κs = start-fillable _ _ (c .before .day-start .ensures) _ (c .before .before .if1 .left)
 
 same-length : tie.Need-same-length
 same-length c = search needs
