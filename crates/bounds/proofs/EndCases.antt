@@ -1,15 +1,16 @@
--- The searches for least ends, as code makes them.
+-- Least ends, as code makes them.
 -- Assumes nothing.
 use mathlib.Core.Path.{_≡_, refl, sym, ap, _∙_}
-use mathlib.Core.Bool.{Bool, true, false}
+use mathlib.Core.Bool.{Bool, true, false, cond, true≢false}
 use mathlib.Core.List.{List}
-use Prim.Native.Nat.{ℕ, _+_, _-_, _/_, _<_, _≤_}
+use Prim.Native.Nat.{ℕ, _+_, _-_, _<_, _≤_}
 use native.Mathlib.Omega.{arith}
 use lib.ListN.{getD, replicate}
 use Rattle.list.specs.DayLists.{byPlace}
 use Rattle.list.specs.Refusals.{verdictOf}
 use Rattle.list.specs.declared.types.Verdict.{Verdict}
-use Rattle.jackson.specs.Windows.{Windows, windowsIn, withD, roomFault, Formed, Searchable}
+use Rattle.jackson.specs.Windows.{Windows, windowsIn, roomFault, Formed}
+use Rattle.jackson.specs.Plans.{Plannable}
 use Rattle.jackson.specs.Mirrors.{MirrorOf, mirror}
 use Rattle.jackson.specs.Intervals.{overloadOf}
 use Rattle.jackson.specs.declared.types.WindowSet.{WindowSet}
@@ -17,95 +18,56 @@ use Rattle.list.proofs.ByPlace.{by-place, by-place-same}
 use Rattle.base.specs.Outcomes.{accepts}
 use Rattle.base.proofs.Inversion.{accepted-answered}
 use Rattle.jackson.proofs.Room.{passes-formed}
+use Rattle.edges.specs.Ends.{closedEnd}
+use Rattle.edges.proofs.EndLaws.{end-law}
 use Rattle.narrow.proofs.OverloadPlanner.{overload-planner}
+use Rattle.narrow.proofs.MirrorSearches.{planner-in-mirror}
 use Rattle.jackson.proofs.MirrorWindows.{formed-mirror}
 use Rattle.bounds.specs.Ends.{leastEnd, leastEnds, greatestStarts}
 use Rattle.bounds.specs.Calls.{HoldsBounds}
-use Rattle.bounds.proofs.EndSearches.{deadline-mono, least-end-whole, least-end-found, least-end-range}
+use Rattle.bounds.proofs.EndSearches.{least-end-whole, least-end-found, least-end-range, closed-deadline, given-deadline}
 use Rattle.bounds.proofs.MirrorEnds.{start-by-mirror}
 
--- a search by halving: no end before low has a plan, and high is d or has one
-pub record Halved (w : Windows) (k low high : ℕ) : Type 0 where
-  pub room : w .r k + w .p k ≤ low
-  pub order : low ≤ high
-  pub due : high ≤ w .d k
-  pub none-before : (e : ℕ) → w .r k + w .p k ≤ e → e < low → accepts (overloadOf (withD w k e)) ≡ false
-  pub passes : high < w .d k → accepts (overloadOf (withD w k high)) ≡ true
+-- what code answers for entry k, of which the closed form is `closed`
+module _ (w : Windows) (formed : Formed w) (k : ℕ) (place : k < w .n) (planned : Bool) (test : planned ≡ accepts (overloadOf w))
+    (closed : ℕ) (is-closed : closed ≡ closedEnd w k) where
+  has-plan : planned ≡ true → Plannable w
+  has-plan e = overload-planner .exact w formed .1 (accepted-answered (overloadOf w) (sym test ∙ e))
 
--- the middle lies between
-abbrev middle : ℕ → ℕ → ℕ
-middle low high = low + (high - low) / 2
+  has-none : planned ≡ false → Plannable w → ⊥
+  has-none e plan = true≢false (ap accepts (sym (overload-planner .exact w formed .0 plan)) ∙ sym test ∙ e)
 
-pub middle-in : (low high : ℕ) → low < high → (low ≤ middle low high) × (middle low high < high)
-middle-in low high h = (omega arith, omega arith)
+  -- it has 16 bits
+  pub closed-small : w .h ≤ 65535 → planned ≡ true → closed ≤ 65535
+  closed-small short e =
+      omega (arith, is-closed, end-law w formed (has-plan e) k place .due, formed .in-day k place, short)
 
-module _ {w : Windows} (formed : Formed w) {k : ℕ} (place : k < w .n) where
-  pub halve-start : Halved w k (w .r k + w .p k) (w .d k)
-  halve-start =
-      record {
-        room = omega arith;
-        order = formed .room k place;
-        due = omega arith;
-        none-before = λ e a b. absurd (omega (arith, a, b));
-        passes = λ h. absurd (omega (arith, h));
-      }
+  pub end-least : (whole : ℕ → Bool) → cond (whole k) (w .r k + w .p k) (cond planned closed (w .d k)) ≡ leastEnd overloadOf whole w k
+  end-least whole = go (whole k) refl
+    where
+      pause : whole k ≡ false → (t : Bool) → planned ≡ t → cond t closed (w .d k) ≡ leastEnd overloadOf whole w k
+      pause is true e =
+          is-closed ∙ sym (least-end-found overloadOf whole w formed k place is _ (closed-deadline w formed k place (has-plan e)))
+      pause is false e = sym (least-end-found overloadOf whole w formed k place is _ (given-deadline w formed k place (has-none e)))
 
-  module _ {low high : ℕ} (so : Halved w k low high) (below : low < high) where
-    pub halve-passed : accepts (overloadOf (withD w k (middle low high))) ≡ true → Halved w k low (middle low high)
-    halve-passed yes-plan =
-        let m = middle-in low high below in
-        record {
-          room = so .room;
-          order = m .0;
-          due = omega (arith, m .1, so .due);
-          none-before = so .none-before;
-          passes = λ _. yes-plan;
-        }
+      go : (t : Bool) → whole k ≡ t → cond t (w .r k + w .p k) (cond planned closed (w .d k)) ≡ leastEnd overloadOf whole w k
+      go true is = sym (least-end-whole overloadOf whole w k is)
+      go false is = pause is planned refl
 
-    pub halve-failed : accepts (overloadOf (withD w k (middle low high))) ≡ false → Halved w k (middle low high + 1) high
-    halve-failed no-plan =
-        let m = middle-in low high below in
-        record {
-          room = omega (arith, so .room, m .0);
-          order = omega (arith, m .1);
-          due = so .due;
-          none-before = λ e room less. deadline-fails e room (omega (arith, less)) (omega (arith, m .1, so .due));
-          passes = so .passes;
-        }
-      where
-        -- a narrower window has no plan either
-        deadline-fails : (e : ℕ) → w .r k + w .p k ≤ e → e ≤ middle low high → middle low high ≤ w .d k
-            → accepts (overloadOf (withD w k e)) ≡ false
-        deadline-fails e room less due = go (accepts (overloadOf (withD w k e))) refl
-          where
-            go : (t : Bool) → accepts (overloadOf (withD w k e)) ≡ t → t ≡ false
-            go false q = refl
-            go true q = sym (deadline-mono w formed k place overload-planner e (middle low high) room less due q) ∙ no-plan
-
-  pub halve-done : {whole : Bool} → whole ≡ false → {low high : ℕ} → Halved w k low high → high ≤ low
-      → low ≡ leastEnd overloadOf (λ _. whole) w k
-  halve-done {whole} is {low} {high} so end =
-      let z : high ≡ low = omega (arith, so .order) in
-      sym
-      (least-end-found overloadOf (λ _. whole) w formed k place is low
-      (record {
-        room = so .room;
-        due = omega (arith, so .due, z);
-        none-before = so .none-before;
-        passes = rw z at (so .passes);
-      }))
-
-pub whole-end : (whole : Bool) (w : Windows) (k : ℕ) → whole ≡ true → w .r k + w .p k ≡ leastEnd overloadOf (λ _. whole) w k
-whole-end whole w k is = sym (least-end-whole overloadOf (λ _. whole) w k is)
+-- the closed form that an array has at a place
+pub closed-at : (s : WindowSet) (xs : List ℕ) → xs ≡ byPlace (windowsIn s .n) (closedEnd (windowsIn s)) → (k : ℕ) → k < windowsIn s .n
+    → getD xs k 0 ≡ closedEnd (windowsIn s) k
+closed-at s xs are k place = rw are (by-place (closedEnd (windowsIn s)) (windowsIn s .n) k (omega arith) place)
 
 -- windows with room, in arrays
 module _ (s : WindowSet) (formed : Formed (windowsIn s)) where
-  pub searchable-at : (i : ℕ) → i < windowsIn s .n → Searchable s i
-  searchable-at i h = record { formed = formed; place = h }
-
   module _ (t : WindowSet) (turned : MirrorOf s t) where
     pub formed-in-mirror : Formed (windowsIn t)
     formed-in-mirror = rw (turned .windows) (formed-mirror (windowsIn s) formed)
+
+    -- where a plan exists, one does in the mirror
+    pub planned-in-mirror : (b : Bool) → b ≡ accepts (overloadOf (windowsIn s)) → b ≡ accepts (overloadOf (windowsIn t))
+    planned-in-mirror b e = rw (turned .windows) (e ∙ sym (planner-in-mirror overload-planner .accepted (windowsIn s) formed))
 
     -- the mirrors of the least ends in the mirror
     module _ (whole : ℕ → Bool) (ends : List ℕ) (are : ends ≡ leastEnds whole (windowsIn t)) where

@@ -7,12 +7,16 @@ use Prim.Native.Nat.{ℕ, _+_, _-_, _<_, _≤_}
 use native.Mathlib.Omega.{arith}
 use Rattle.jackson.specs.Windows.{Windows, withD, Formed}
 use Rattle.jackson.specs.Plans.{Plannable}
+use Rattle.jackson.specs.Intervals.{overloadOf}
 use Rattle.base.proofs.Sums.{le-or-lt}
 use Rattle.base.proofs.Searches.{First, first-below}
 use Rattle.narrow.specs.Searching.{Test}
 use Rattle.base.specs.Outcomes.{accepts}
 use Rattle.narrow.proofs.Planners.{Planner}
-use Rattle.jackson.proofs.Puts.{deadline-widen, deadline-formed}
+use Rattle.jackson.proofs.Puts.{own-deadline, deadline-widen, deadline-formed}
+use Rattle.edges.specs.Ends.{closedEnd}
+use Rattle.edges.proofs.EndLaws.{end-law}
+use Rattle.narrow.proofs.OverloadPlanner.{overload-planner}
 use Rattle.base.proofs.Inversion.{accepted-answered}
 use Rattle.bounds.specs.Ends.{spare, failedDeadlines, leastEnd}
 
@@ -23,13 +27,6 @@ module _ (w : Windows) (formed : Formed w) (k : ℕ) (place : k < w .n) {test : 
   deadline-exact e room due =
       let exact = planner .exact (withD w k e) (deadline-formed w formed k place e room due) in
       (λ q. exact .1 (accepted-answered _ q), λ plan. ap accepts (exact .0 plan))
-
-  -- and what it accepts of an end it accepts of a greater one
-  pub deadline-mono : (e x : ℕ) → w .r k + w .p k ≤ e → e ≤ x → x ≤ w .d k
-      → accepts (test (withD w k e)) ≡ true → accepts (test (withD w k x)) ≡ true
-  deadline-mono e x room less due q =
-      let plan = deadline-exact e room (omega arith) .0 q in
-      deadline-exact x (omega arith) due .1 (plan .0, deadline-widen w k e x less (plan .0) (plan .1))
 
 -- Least ends.
 
@@ -100,3 +97,33 @@ module _ (test : Test) (whole : ℕ → Bool) (w : Windows) (formed : Formed w) 
       go : (t : Bool) → whole k ≡ t → (w .r k + w .p k ≤ leastEnd test whole w k) × (leastEnd test whole w k ≤ w .d k)
       go true is = rw (least-end-whole test whole w k is) (omega arith, formed .room k place)
       go false is = let z = least-end-first is in (z .room, z .due)
+
+-- Where a plan exists, that is the closed form of edge-finding; where none does, d.
+module _ (w : Windows) (formed : Formed w) (k : ℕ) (place : k < w .n) where
+  pub closed-deadline : Plannable w → IsFirstDeadline overloadOf w k (closedEnd w k)
+  closed-deadline planned =
+      let law = end-law w formed planned k place in
+      record {
+        room = law .room;
+        due = law .due;
+        none-before =
+            λ e room less.
+            not-passed _
+            (λ q. law .least e room less (deadline-exact w formed k place overload-planner e room (omega (arith, less, law .due)) .0 q));
+        passes = λ _. deadline-exact w formed k place overload-planner (closedEnd w k) (law .room) (law .due) .1 (law .plan);
+      }
+
+  pub given-deadline : (Plannable w → ⊥) → IsFirstDeadline overloadOf w k (w .d k)
+  given-deadline none =
+      record {
+        room = formed .room k place;
+        due = omega arith;
+        none-before =
+            λ e room less.
+            not-passed _
+            (λ q.
+            let plan = deadline-exact w formed k place overload-planner e room (omega (arith, less)) .0 q in
+            let wide = deadline-widen w k e (w .d k) (omega (arith, less)) (plan .0) (plan .1) in
+            none (plan .0, rw (own-deadline w k) at wide));
+        passes = λ less. absurd (omega (arith, less));
+      }

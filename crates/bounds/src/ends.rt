@@ -1,5 +1,6 @@
 // Least ends and greatest starts.
 use crate::types::Bounds;
+use edges::closed_ends;
 use jackson::mirrored;
 use jackson::room_fault;
 use jackson::types::WindowSet;
@@ -9,71 +10,80 @@ use list::is_accepted;
 use list::places_held;
 use list::types::ENTRIES;
 ghost use mathlib.Core.Path.{_≡_};
-ghost use Prim.Native.Nat.{_<_};
+ghost use mathlib.Core.Bool.{true, cond};
+ghost use Prim.Native.Nat.{_+_, _≤_};
 ghost use Rattle.base.specs.Outcomes.{accepts};
-ghost use Rattle.list.specs.DayLists.{marked, mostEntries};
-ghost use Rattle.jackson.specs.Windows.{windowsIn, withD, Formed, Searchable};
+ghost use Rattle.list.specs.DayLists.{marked};
+ghost use Rattle.jackson.specs.Windows.{windowsIn, Formed, Searchable};
 ghost use Rattle.jackson.specs.Intervals.{overloadOf};
 ghost use Rattle.bounds.specs.Ends.{leastEnd, leastEnds, greatestStarts};
 ghost use Rattle.bounds.specs.Calls.{HoldsBounds};
 
-// Whether a plan exists when entry k's d is e.
-fn has_plan_by(windows: WindowSet, k: usize, e: u16) -> bool
-    requires { ⌜ k < mostEntries ⌝ }
-    ensures { λ b. ⌜ b ≡ accepts (overloadOf (withD (windowsIn windows) k e)) ⌝ }
+// The least end of an entry: r + p of a whole one, the closed form of a pause entry, or its d where there is no plan.
+fn end_of(whole: bool, planned: bool, r: u16, d: u16, p: u16, closed: u32) -> u16
+    requires { ⌜ r + p ≤ 65535 ⌝ }
+    requires { ⌜ (planned ≡ true → closed ≤ 65535) ⌝ }
+    ensures { λ e. ⌜ e ≡ cond whole (r + p) (cond planned closed d) ⌝ }
 {
-    let mut trial = windows;
-    trial.d[k] = e;
-    is_accepted(unchecked_overload(trial))
+    if whole {
+        return r + p;
+    }
+    if !planned {
+        return d;
+    }
+    closed as u16
 }
 
-// The least end of entry k. That of a pause entry is found by halving, since a wider window keeps its plans: all ends below low have no
-// plan, and high is its d or has one.
+// The least end of entry k.
 pub(crate) fn least_end(windows: WindowSet, k: usize, whole: bool) -> u16
     requires { ⌜ Searchable windows k ⌝ }
     ensures { λ e. ⌜ e ≡ leastEnd overloadOf (λ _. whole) (windowsIn windows) k ⌝ }
 {
-    let r = windows.r[k];
-    let d = windows.d[k];
-    let p = windows.p[k];
-    let mut low = r + p;
-    if whole {
-        return low;
-    }
-    let mut high = d;
-    while low < high {
-        let middle = low + (high - low) / 2;
-        if has_plan_by(windows, k, middle) {
-            high = middle;
-        } else {
-            low = middle + 1;
-        }
-    }
-    low
+    let planned = is_accepted(unchecked_overload(windows));
+    let closed = closed_ends(windows);
+    end_of(
+        whole,
+        planned,
+        windows.r[k],
+        windows.d[k],
+        windows.p[k],
+        closed[k],
+    )
 }
 
-// The least ends of the entries of these windows, of which `whole` marks the whole ones. Places from n on are 0.
-fn least_ends(whole: [bool; ENTRIES], windows: WindowSet) -> [u16; ENTRIES]
+// The least ends of the entries of these windows, of which `whole` marks the whole ones; `planned` says whether there is a plan. Places from
+// n on are 0.
+fn least_ends(whole: [bool; ENTRIES], windows: WindowSet, planned: bool) -> [u16; ENTRIES]
     requires { ⌜ Formed (windowsIn windows) ⌝ }
+    requires { ⌜ planned ≡ accepts (overloadOf (windowsIn windows)) ⌝ }
     ensures { λ xs. ⌜ xs ≡ leastEnds (marked whole) (windowsIn windows) ⌝ }
 {
+    let closed = closed_ends(windows);
     let mut ends = zeros();
     let count = places_held(windows.n);
     let mut i: usize = 0;
     while i < count {
-        ends[i] = least_end(windows, i, whole[i]);
+        ends[i] = end_of(
+            whole[i],
+            planned,
+            windows.r[i],
+            windows.d[i],
+            windows.p[i],
+            closed[i],
+        );
         i += 1;
     }
     ends
 }
 
 // The greatest starts: the mirrors of the least ends in the mirror.
-fn greatest_starts(whole: [bool; ENTRIES], windows: WindowSet) -> [u16; ENTRIES]
+fn greatest_starts(whole: [bool; ENTRIES], windows: WindowSet, planned: bool) -> [u16; ENTRIES]
     requires { ⌜ Formed (windowsIn windows) ⌝ }
+    requires { ⌜ planned ≡ accepts (overloadOf (windowsIn windows)) ⌝ }
     ensures { λ xs. ⌜ xs ≡ greatestStarts (marked whole) (windowsIn windows) ⌝ }
 {
     let h = windows.h;
-    let ends = least_ends(whole, mirrored(windows));
+    let ends = least_ends(whole, mirrored(windows), planned);
     let mut starts = zeros();
     let count = places_held(windows.n);
     let mut i: usize = 0;
@@ -94,8 +104,9 @@ pub fn bounds_of(whole: [bool; ENTRIES], windows: WindowSet) -> Bounds
             starts: zeros(),
         };
     }
+    let planned = is_accepted(unchecked_overload(windows));
     Bounds {
-        ends: least_ends(whole, windows),
-        starts: greatest_starts(whole, windows),
+        ends: least_ends(whole, windows, planned),
+        starts: greatest_starts(whole, windows, planned),
     }
 }

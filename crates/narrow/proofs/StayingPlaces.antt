@@ -34,7 +34,7 @@ use Rattle.narrow.proofs.Costs.{moved-same}
 no-moves : (k : ℕ) (s : Narrowed) → counted k s (s .windows) ≡ s
 no-moves k s =
     let z : s .moves + movesOf k (s .windows) (s .windows) ≡ s .moves =
-        omega (arith, moved-same (s .windows .r k), moved-same (s .windows .d k)) in
+    omega (arith, moved-same (s .windows .r k), moved-same (s .windows .d k)) in
     λ j. record { windows = s .windows; moves = z j }
 
 module _ (test : Test) (k : ℕ) (s : Narrowed) where
@@ -88,7 +88,7 @@ module _ (whole : ℕ → Bool) (s : Narrowed) (formed : Formed (s .windows)) (p
       keeps-d : Stays (s .windows) k → greatestEnd overloadOf (s .windows) k ≡ answered (s .windows .d k)
       keeps-d so =
           let back : s .windows .h - mirror (s .windows) .r k ≡ s .windows .d k =
-              omega (arith, mirror-r (s .windows) k place, formed .in-day k place) in
+          omega (arith, mirror-r (s .windows) k place, formed .in-day k place) in
           end-by-mirror overload-planner (s .windows) formed k place
           ∙ ap (λ (o : Outcome ℕ). andThen o (λ x. answered (s .windows .h - x)))
           (keeps-r (mirror (s .windows)) (formed-mirror (s .windows) formed) (plannable-mirror (s .windows) planned) k place
@@ -125,27 +125,27 @@ module _ (whole : ℕ → Bool) (s : Narrowed) (formed : Formed (s .windows)) (p
 -- The search for the first place that a visit would move, as code makes it: t holds the mirror of the windows s.
 module _ (whole : ℕ → Bool) (s t : WindowSet) (mirrors : windowsIn t ≡ mirror (windowsIn s)) (ends late : List ℕ)
     (is-end : ends ≡ byPlace (windowsIn s .n) (closedEnd (windowsIn s))) (is-late : late ≡ byPlace (windowsIn t .n) (closedEnd (windowsIn t)))
-    where
-  -- the test of a place
-  module _ (k : ℕ) (place : k < windowsIn s .n) (b : Bool)
-      (test : b ≡ wouldMove (whole k) (getD (s .r) k 0) (getD (t .r) k 0) (getD (s .p) k 0) (getD ends k 0) (getD late k 0)) where
-    moves-here : movesAt whole (windowsIn s) k ≡ b
-    moves-here =
-        let count : windowsIn t .n ≡ windowsIn s .n = ap (λ (w : Windows). w .n) mirrors in
-        let from : getD (t .r) k 0 ≡ mirror (windowsIn s) .r k = ap (λ (w : Windows). w .r k) mirrors in
-        let end : getD ends k 0 ≡ closedEnd (windowsIn s) k = rw is-end (by-place (closedEnd (windowsIn s)) _ k (omega arith) place) in
-        let last : getD late k 0 ≡ closedEnd (mirror (windowsIn s)) k =
-        rw is-late (by-place (closedEnd (windowsIn t)) _ k (omega arith) (omega (arith, place, count)))
-        ∙ ap (λ (w : Windows). closedEnd w k) mirrors in
-        sym (test ∙ rw (from, end, last) refl)
+  where
+    -- the test of a place
+    module _ (k : ℕ) (place : k < windowsIn s .n) (b : Bool)
+        (test : b ≡ wouldMove (whole k) (getD (s .r) k 0) (getD (t .r) k 0) (getD (s .p) k 0) (getD ends k 0) (getD late k 0)) where
+      moves-here : movesAt whole (windowsIn s) k ≡ b
+      moves-here =
+          let count : windowsIn t .n ≡ windowsIn s .n = ap (λ (w : Windows). w .n) mirrors in
+          let from : getD (t .r) k 0 ≡ mirror (windowsIn s) .r k = ap (λ (w : Windows). w .r k) mirrors in
+          let end : getD ends k 0 ≡ closedEnd (windowsIn s) k = rw is-end (by-place (closedEnd (windowsIn s)) _ k (omega arith) place) in
+          let last : getD late k 0 ≡ closedEnd (mirror (windowsIn s)) k =
+          rw is-late (by-place (closedEnd (windowsIn t)) _ k (omega arith) (omega (arith, place, count)))
+          ∙ ap (λ (w : Windows). closedEnd w k) mirrors in
+          sym (test ∙ rw (from, end, last) refl)
 
-    module _ (so : Passed (windowsIn s .n) (movesAt whole (windowsIn s)) k) where
-      pub move-found : b ≡ true → k ≡ firstMoved whole (windowsIn s)
-      unfolding firstMoved
-      move-found e = sym (passed-found (windowsIn s .n) (movesAt whole (windowsIn s)) k so (moves-here ∙ e))
+      module _ (so : Passed (windowsIn s .n) (movesAt whole (windowsIn s)) k) where
+        pub move-found : b ≡ true → k ≡ firstMoved whole (windowsIn s)
+        unfolding firstMoved
+        move-found e = sym (passed-found (windowsIn s .n) (movesAt whole (windowsIn s)) k so (moves-here ∙ e))
 
-      pub move-passed : b ≡ false → Passed (windowsIn s .n) (movesAt whole (windowsIn s)) (k + 1)
-      move-passed e = passed-next (windowsIn s .n) (movesAt whole (windowsIn s)) k so place (moves-here ∙ e)
+        pub move-passed : b ≡ false → Passed (windowsIn s .n) (movesAt whole (windowsIn s)) (k + 1)
+        move-passed e = passed-next (windowsIn s .n) (movesAt whole (windowsIn s)) k so place (moves-here ∙ e)
 
 pub none-moved : (whole : ℕ → Bool) (s : WindowSet) (k : ℕ) → Passed (windowsIn s .n) (movesAt whole (windowsIn s)) k
     → windowsIn s .n ≤ k → k ≡ firstMoved whole (windowsIn s)

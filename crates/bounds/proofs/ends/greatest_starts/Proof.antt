@@ -8,22 +8,27 @@ use lib.ListN.{getD}
 use Rattle.list.specs.DayLists.{marked}
 use Rattle.jackson.specs.Windows.{windowsIn}
 use Rattle.list.proofs.ByPlace.{Placed, placed-none, placed-next, placed-all}
-use Rattle.bounds.proofs.EndCases.{formed-in-mirror, mirror-end-in-day}
+use Rattle.bounds.proofs.EndCases.{formed-in-mirror, planned-in-mirror, mirror-end-in-day}
 use Rattle.bounds.proofs.EndCases.{starts-by-mirror}
 use Rattle.bounds.proofs.ends.greatest_starts.Statement.{statement}
 use Rattle.bounds.proofs.ends.greatest_starts.Tie as tie
 
 abbrev Inv-loop : tie.InvT-loop
-Inv-loop h ends starts₀ count i₀ starts i = Placed (λ j. h - getD ends j 0) count starts i
+Inv-loop planned h ends starts₀ count i₀ starts i = Placed (λ j. h - getD ends j 0) count starts i
 
 abbrev μ-loop : tie.MeasureT-loop
-μ-loop h ends starts₀ count i₀ starts i = count - i
+μ-loop planned h ends starts₀ count i₀ starts i = count - i
 
 mirrored-requires : tie.Need-mirrored-requires Inv-loop μ-loop
 mirrored-requires c κs = search needs
 
 least-ends-requires : tie.Need-least-ends-requires Inv-loop μ-loop
-least-ends-requires c κs = formed-in-mirror (c .before .args .windows) (c .before .pre) (c .mirrored .result) (c .mirrored .ensures)
+least-ends-requires c κs =
+    let start = c .before in
+    let mirror = c .mirrored in (
+      formed-in-mirror (start .args .windows) (start .pre .0) (mirror .result) (mirror .ensures),
+      planned-in-mirror (start .args .windows) (start .pre .0) (mirror .result) (mirror .ensures) (start .args .planned) (start .pre .1),
+    )
 
 zeros-requires : tie.Need-zeros-requires Inv-loop μ-loop
 zeros-requires c κs = search needs
@@ -47,7 +52,7 @@ sub-starts c =
     let ends = c .before .before .before .before .least-ends in
     let place : c .before .loop .i < windowsIn (start .args .windows) .n =
     omega (arith, c .loop-test .taken, c .before .before .places-held .ensures) in
-    mirror-end-in-day (start .args .windows) (start .pre) (mirrored .result) (mirrored .ensures) (marked (start .args .whole))
+    mirror-end-in-day (start .args .windows) (start .pre .0) (mirrored .result) (mirrored .ensures) (marked (start .args .whole))
     (ends .result)
     (ends .ensures) _ place
 
@@ -72,7 +77,7 @@ returns c =
     let mirrored = c .before .before .before .before .before .mirrored in
     let ends = c .before .before .before .before .least-ends in
     rw (c .before .before .places-held .ensures) at (placed-all _ _ _ _ (c .before .loop .inv) (c .loop-test .left))
-    ∙ starts-by-mirror (start .args .windows) (start .pre) (mirrored .result) (mirrored .ensures) (marked (start .args .whole))
+    ∙ starts-by-mirror (start .args .windows) (start .pre .0) (mirrored .result) (mirrored .ensures) (marked (start .args .whole))
     (ends .result)
     (ends .ensures)
 

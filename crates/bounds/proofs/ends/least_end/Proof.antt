@@ -1,112 +1,92 @@
--- The loop's invariant is `Halved`, the measure the ends between.
+-- The end of one entry, by its closed form.
 -- Assumes nothing.
 use borrow.Author.Needs.{needs}
-use mathlib.Core.Path.{sym, _∙_}
-use Prim.Native.Nat.{_-_}
+use mathlib.Core.Path.{_≡_, ap, _∙_}
+use Prim.Native.Nat.{ℕ, _<_}
+use native.Mathlib.Omega.{arith}
+use Rattle.base.specs.Outcomes.{Outcome, accepts}
 use Rattle.jackson.specs.Windows.{windowsIn}
-use Rattle.bounds.proofs.EndCases.{middle-in, Halved, halve-start, halve-passed, halve-failed, halve-done, whole-end}
+use Rattle.jackson.specs.Intervals.{overloadOf}
+use Rattle.bounds.proofs.EndCases.{closed-at, closed-small, end-least}
 use Rattle.bounds.proofs.ends.least_end.Statement.{statement}
 use Rattle.bounds.proofs.ends.least_end.Tie as tie
 
-abbrev Inv-loop : tie.InvT-loop
-Inv-loop k whole windows r d p low₀ high₀ low high = Halved (windowsIn windows) k low high
+-- a day's minutes are a number of 16 bits
+short : (c : tie.Start) → c .args .t1 .h < 65536
+short c = search needs
 
-abbrev μ-loop : tie.MeasureT-loop
-μ-loop k whole windows r d p low₀ high₀ low high = high - low
+unchecked-overload-requires : tie.Need-unchecked-overload-requires
+unchecked-overload-requires c κs = search needs
 
-mul-r : tie.Need-mul-r Inv-loop μ-loop
-mul-r c = search needs
+is-accepted-requires : tie.Need-is-accepted-requires
+is-accepted-requires c κs = search needs
 
-element-copy-out-r : tie.Need-element-copy-out-r Inv-loop μ-loop
-element-copy-out-r c = search needs
+closed-ends-requires : tie.Need-closed-ends-requires
+closed-ends-requires c κs = search needs
 
-mul-d : tie.Need-mul-d Inv-loop μ-loop
-mul-d c = search needs
+mul-end-of : tie.Need-mul-end-of
+mul-end-of c = search needs
 
-element-copy-out-d : tie.Need-element-copy-out-d Inv-loop μ-loop
-element-copy-out-d c = search needs
+element-copy-out-end-of : tie.Need-element-copy-out-end-of
+element-copy-out-end-of c = search needs
 
-mul-p : tie.Need-mul-p Inv-loop μ-loop
-mul-p c = search needs
+mul-end-of-2 : tie.Need-mul-end-of-2
+mul-end-of-2 c = search needs
 
-element-copy-out-p : tie.Need-element-copy-out-p Inv-loop μ-loop
-element-copy-out-p c = search needs
+element-copy-out-end-of-2 : tie.Need-element-copy-out-end-of-2
+element-copy-out-end-of-2 c = search needs
 
-add-low : tie.Need-add-low Inv-loop μ-loop
-add-low c =
-    let pre = c .before .before .before .pre in
-    search (needs, pre .formed .in-day _ (pre .place), pre .formed .room _ (pre .place))
+mul-end-of-3 : tie.Need-mul-end-of-3
+mul-end-of-3 c = search needs
 
-returns : tie.Need-returns Inv-loop μ-loop
+element-copy-out-end-of-3 : tie.Need-element-copy-out-end-of-3
+element-copy-out-end-of-3 c = search needs
+
+mul-end-of-4 : tie.Need-mul-end-of-4
+mul-end-of-4 c = search needs
+
+array-read-end-of : tie.Need-array-read-end-of
+array-read-end-of c = search needs
+
+end-of-requires : tie.Need-end-of-requires
+end-of-requires c κs =
+    let start = c .before .before .before .before .before .before in
+    let w = windowsIn (start .args .t1) in
+    let formed = start .pre .formed in
+    let place = start .pre .place in
+    let accepted = c .before .before .before .before .is-accepted in
+    let test = accepted .ensures ∙ ap accepts (c .before .before .before .before .before .unchecked-overload .ensures) in
+    let closed = c .before .before .before .closed-ends in
+    let at = closed-at (start .args .t1) (closed .result) (closed .ensures) (start .args .k) place in (
+      omega (arith, formed .room _ place, formed .in-day _ place, short start),
+      closed-small w formed (start .args .k) place (accepted .result) test _ at (omega (arith, short start)),
+    )
+
+returns : tie.Need-returns
 returns c =
-    let args = c .before .before .before .before .args in
-    whole-end (args .whole) (windowsIn (args .t1)) (args .k) (c .if1 .taken)
-
-loop-holds : tie.Need-loop-holds Inv-loop μ-loop
-loop-holds c = let pre = c .before .before .before .before .pre in halve-start (pre .formed) (pre .place)
-
-sub-middle : tie.Need-sub-middle Inv-loop μ-loop
-sub-middle c = search needs
-
-add-middle : tie.Need-add-middle Inv-loop μ-loop
-add-middle c =
-    let m = middle-in _ _ (c .loop-test .taken) in
-    let pre = c .before .before .before .before .before .before .pre in
-    search (needs, m .1, c .before .loop .inv .due, pre .formed .in-day _ (pre .place))
-
-has-plan-by-requires : tie.Need-has-plan-by-requires Inv-loop μ-loop
-has-plan-by-requires c κs = search needs
-
-loop-less : tie.Need-loop-less Inv-loop μ-loop
-loop-less c = let m = middle-in _ _ (c .before .before .loop-test .taken) in search (needs, m .0, m .1)
-
-loop-again : tie.Need-loop-again Inv-loop μ-loop
-loop-again c =
-    let pre = c .before .before .before .before .before .before .before .before .pre in
-    halve-passed (pre .formed) (pre .place) (c .before .before .before .loop .inv) (c .before .before .loop-test .taken)
-    (sym (c .before .has-plan-by .ensures) ∙ c .if2 .taken)
-
-add-low-2 : tie.Need-add-low-2 Inv-loop μ-loop
-add-low-2 c =
-    let m = middle-in _ _ (c .before .before .loop-test .taken) in
-    let pre = c .before .before .before .before .before .before .before .before .pre in
-    search (needs, m .1, c .before .before .before .loop .inv .due, pre .formed .in-day _ (pre .place))
-
-loop-less-2 : tie.Need-loop-less-2 Inv-loop μ-loop
-loop-less-2 c = let m = middle-in _ _ (c .before .before .loop-test .taken) in search (needs, m .0, m .1)
-
-loop-again-2 : tie.Need-loop-again-2 Inv-loop μ-loop
-loop-again-2 c =
-    let pre = c .before .before .before .before .before .before .before .before .pre in
-    halve-failed (pre .formed) (pre .place) (c .before .before .before .loop .inv) (c .before .before .loop-test .taken)
-    (sym (c .before .has-plan-by .ensures) ∙ c .if2 .left)
-
-returns-2 : tie.Need-returns-2 Inv-loop μ-loop
-returns-2 c =
-    let pre = c .before .before .before .before .before .before .pre in
-    halve-done (pre .formed) (pre .place) (c .before .before .if1 .left) (c .before .loop .inv) (c .loop-test .left)
+    let start = c .before .before .before .before .before .before .before in
+    let w = windowsIn (start .args .t1) in
+    let accepted = c .before .before .before .before .before .is-accepted in
+    let test = accepted .ensures ∙ ap accepts (c .before .before .before .before .before .before .unchecked-overload .ensures) in
+    let closed = c .before .before .before .before .closed-ends in
+    let at = closed-at (start .args .t1) (closed .result) (closed .ensures) (start .args .k) (start .pre .place) in
+    c .end-of .ensures
+    ∙ end-least w (start .pre .formed) (start .args .k) (start .pre .place) (accepted .result) test _ at (λ _. start .args .whole)
 
 pub least-end-spec : {M : Type 1} → statement M
 least-end-spec =
     tie.close
     (tie.spec
-    Inv-loop
-    μ-loop
-    mul-r
-    element-copy-out-r
-    mul-d
-    element-copy-out-d
-    mul-p
-    element-copy-out-p
-    add-low
-    returns
-    loop-holds
-    sub-middle
-    add-middle
-    has-plan-by-requires
-    loop-less
-    loop-again
-    add-low-2
-    loop-less-2
-    loop-again-2
-    returns-2)
+    unchecked-overload-requires
+    is-accepted-requires
+    closed-ends-requires
+    mul-end-of
+    element-copy-out-end-of
+    mul-end-of-2
+    element-copy-out-end-of-2
+    mul-end-of-3
+    element-copy-out-end-of-3
+    mul-end-of-4
+    array-read-end-of
+    end-of-requires
+    returns)

@@ -1,26 +1,31 @@
 -- The loop's invariant is `Placed`, the measure what is left of the places.
 -- Assumes nothing.
 use borrow.Author.Needs.{needs}
-use mathlib.Core.Path.{refl, _∙_}
+use mathlib.Core.Path.{_∙_}
 use Prim.Native.Nat.{_-_, _<_, _≤_}
 use native.Mathlib.Omega.{arith}
 use Rattle.list.specs.DayLists.{marked}
+use Rattle.list.proofs.ByPlace.{Placed, placed-none, placed-next, placed-all}
 use Rattle.jackson.specs.Windows.{windowsIn}
 use Rattle.jackson.specs.Intervals.{overloadOf}
 use Rattle.bounds.specs.Ends.{leastEnd}
-use Rattle.bounds.specs.declared.types.Shown.the-variants.{Early}
-use Rattle.bounds.proofs.ShownFacts.{bound-kind}
-use Rattle.list.proofs.ByPlace.{Placed, placed-none, placed-next, placed-all}
-use Rattle.bounds.proofs.EndCases.{searchable-at}
+use Rattle.bounds.proofs.EndCases.{closed-at, closed-small, end-least}
 use Rattle.bounds.proofs.ends.least_ends.Statement.{statement}
 use Rattle.bounds.proofs.ends.least_ends.Tie as tie
 
 abbrev Inv-loop : tie.InvT-loop
-Inv-loop windows whole ends₀ count i₀ ends i =
+Inv-loop planned whole windows closed ends₀ count i₀ ends i =
     Placed (leastEnd overloadOf (marked whole) (windowsIn windows)) (windowsIn windows .n) ends i
 
 abbrev μ-loop : tie.MeasureT-loop
-μ-loop windows whole ends₀ count i₀ ends i = count - i
+μ-loop planned whole windows closed ends₀ count i₀ ends i = count - i
+
+-- a day's minutes are a number of 16 bits
+short : (c : tie.Start Inv-loop μ-loop) → c .args .t2 .h < 65536
+short c = search needs
+
+closed-ends-requires : tie.Need-closed-ends-requires Inv-loop μ-loop
+closed-ends-requires c κs = search needs
 
 zeros-requires : tie.Need-zeros-requires Inv-loop μ-loop
 zeros-requires c κs = search needs
@@ -32,14 +37,47 @@ loop-holds : tie.Need-loop-holds Inv-loop μ-loop
 loop-holds c = placed-none _ _ _ (omega arith) (c .before .zeros .ensures)
 
 -- the place reached is one of the windows
-place : (c : tie.In-loop Inv-loop μ-loop) → c .before .loop .i < windowsIn (c .before .before .before .before .args .windows) .n
+place : (c : tie.In-loop Inv-loop μ-loop) → c .before .loop .i < windowsIn (c .before .before .before .before .before .args .t2) .n
 place c = omega (arith, c .loop-test .taken, c .before .before .places-held .ensures)
 
-array-read-least-end : tie.Need-array-read-least-end Inv-loop μ-loop
-array-read-least-end c = search needs
+array-read-end-of : tie.Need-array-read-end-of Inv-loop μ-loop
+array-read-end-of c = search needs
 
-least-end-requires : tie.Need-least-end-requires Inv-loop μ-loop
-least-end-requires c κs = let start = c .before .before .before .before in searchable-at (start .args .windows) (start .pre) _ (place c)
+mul-end-of : tie.Need-mul-end-of Inv-loop μ-loop
+mul-end-of c = search needs
+
+element-copy-out-end-of : tie.Need-element-copy-out-end-of Inv-loop μ-loop
+element-copy-out-end-of c = search needs
+
+mul-end-of-2 : tie.Need-mul-end-of-2 Inv-loop μ-loop
+mul-end-of-2 c = search needs
+
+element-copy-out-end-of-2 : tie.Need-element-copy-out-end-of-2 Inv-loop μ-loop
+element-copy-out-end-of-2 c = search needs
+
+mul-end-of-3 : tie.Need-mul-end-of-3 Inv-loop μ-loop
+mul-end-of-3 c = search needs
+
+element-copy-out-end-of-3 : tie.Need-element-copy-out-end-of-3 Inv-loop μ-loop
+element-copy-out-end-of-3 c = search needs
+
+mul-end-of-4 : tie.Need-mul-end-of-4 Inv-loop μ-loop
+mul-end-of-4 c = search needs
+
+array-read-end-of-2 : tie.Need-array-read-end-of-2 Inv-loop μ-loop
+array-read-end-of-2 c = search needs
+
+end-of-requires : tie.Need-end-of-requires Inv-loop μ-loop
+end-of-requires c κs =
+    let start = c .before .before .before .before .before .before .before .before in
+    let s = start .args .t2 in
+    let formed = start .pre .0 in
+    let at = place (c .before .before .before) in
+    let closed = c .before .before .before .before .before .before .before .closed-ends in
+    let end = closed-at s (closed .result) (closed .ensures) _ at in (
+      omega (arith, formed .room _ at, formed .in-day _ at, short start),
+      closed-small (windowsIn s) formed _ at (start .args .planned) (start .pre .1) _ end (omega (arith, short start)),
+    )
 
 mul-ends : tie.Need-mul-ends Inv-loop μ-loop
 mul-ends c = search needs
@@ -55,16 +93,21 @@ loop-less c = search needs
 
 loop-again : tie.Need-loop-again Inv-loop μ-loop
 loop-again c =
-    let args = c .before .before .before .before .before .args in
-    let loop = c .before .before .loop in
-    let end = c .least-end .ensures ∙ bound-kind Early (marked (args .t1)) _ (windowsIn (args .windows)) (loop .i) refl in
-    placed-next _ _ _ _ _ (loop .inv) (place (c .before)) end
+    let start = c .before .before .before .before .before .before .before .before .before in
+    let s = start .args .t2 in
+    let loop = c .before .before .before .before .before .loop in
+    let at = place (c .before .before .before .before) in
+    let closed = c .before .before .before .before .before .before .before .before .closed-ends in
+    let end = closed-at s (closed .result) (closed .ensures) (loop .i) at in
+    placed-next _ _ _ _ _ (loop .inv) at
+    (c .end-of .ensures
+    ∙ end-least (windowsIn s) (start .pre .0) (loop .i) at (start .args .planned) (start .pre .1) _ end (marked (start .args .t1)))
 
 returns : tie.Need-returns Inv-loop μ-loop
 returns c =
-    let args = c .before .before .before .before .args in
+    let args = c .before .before .before .before .before .args in
     let loop = c .before .loop in
-    let past : windowsIn (args .windows) .n ≤ loop .i = omega (arith, c .loop-test .left, c .before .before .places-held .ensures) in
+    let past : windowsIn (args .t2) .n ≤ loop .i = omega (arith, c .loop-test .left, c .before .before .places-held .ensures) in
     placed-all _ _ _ _ (loop .inv) past
 
 pub least-ends-spec : {M : Type 1} → statement M
@@ -73,11 +116,20 @@ least-ends-spec =
     (tie.spec
     Inv-loop
     μ-loop
+    closed-ends-requires
     zeros-requires
     places-held-requires
     loop-holds
-    array-read-least-end
-    least-end-requires
+    array-read-end-of
+    mul-end-of
+    element-copy-out-end-of
+    mul-end-of-2
+    element-copy-out-end-of-2
+    mul-end-of-3
+    element-copy-out-end-of-3
+    mul-end-of-4
+    array-read-end-of-2
+    end-of-requires
     mul-ends
     array-write-ends
     add-i

@@ -5,7 +5,6 @@ use Prim.Native.Nat.{_<_, _≤_}
 use native.Mathlib.Omega.{arith}
 use lib.ListN.{length}
 use Rattle.jackson.specs.Windows.{windowsIn}
-use Rattle.bounds.proofs.EndCases.{searchable-at}
 use Rattle.bounds.proofs.ShownCases.{stores-no-room, no-place, no-buffer, stored-formed, plan-stored}
 use Rattle.bounds.proofs.shown.store_plan.Statement.{statement}
 use Rattle.bounds.proofs.shown.store_plan.Tie as tie
@@ -68,7 +67,7 @@ store-shown-requires c κs =
     let fault = found .before .before .before .before .room-fault in
     let formed = stored-formed (args .shown) (args .whole) (args .windows) (args .k) (args .plan .now) (fault .result) (fault .ensures)
     (found .before .before .enum-told .given .1) in
-    (searchable-at (args .windows) formed (args .k) (known found), omega (arith, c .before .if2 .left))
+    (record { formed = formed; place = known found }, omega (arith, c .before .if2 .left))
 
 same-length : tie.Need-same-length
 same-length c = search needs
