@@ -40,6 +40,7 @@ pub mod check_report; // reports and refusals' lines
 // Inputs, lists and values to try.
 pub mod cases; // inputs with their reports, from files
 pub mod chains; // days that need many rounds
+pub mod classes; // classes of full days
 pub mod clashes; // lists in which a serial stands twice
 pub mod ignored; // values that differ in what no call looks at
 pub mod opening; // days with an opening minute, and the same days without one
