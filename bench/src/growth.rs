@@ -21,7 +21,11 @@ const SORTS: [Sort; 2] = [
         about: "12 days of each size, windows wider by up to a 24th of the day at either side",
         days: tight,
     },
-    Sort { name: "many rounds", about: "all entries but one nested, one day of each size", days: many_rounds },
+    Sort {
+        name: "many rounds",
+        about: "all entries but one nested, one day of each size",
+        days: many_rounds,
+    },
 ];
 
 /// Twelve days, of the class 'tight' if they are full.

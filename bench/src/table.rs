@@ -188,9 +188,7 @@ pub fn of_growth() -> String {
         names += &format!("{:>30}", job.name);
         columns += &format!("{:>10}{:>10}{:>10}", "proved", "plain", "fast");
     }
-    format!(
-        "Days of several sizes, timed as classes are: medians of the days' times.\n\n{names}\n{columns}"
-    )
+    format!("Days of several sizes, timed as classes are: medians of the days' times.\n\n{names}\n{columns}")
 }
 
 /// All jobs with days of one size.

@@ -39,9 +39,8 @@ pub const LOOSE: Class = planned(
     |random| random::full_day(random, true, 60, 4),
 );
 pub const TIGHT: Class = planned("tight", "as loose, without an idle minute", tight);
-pub const ALL_WHOLE: Class = planned("all whole", "as tight, all entries whole", |random| {
-    random::full_day(random, false, 60, 0)
-});
+pub const ALL_WHOLE: Class =
+    planned("all whole", "as tight, all entries whole", |random| random::full_day(random, false, 60, 0));
 pub const MANY_ROUNDS: Class = planned(
     "many rounds",
     "20 to 28 nested whole entries of which each round settles one, and others beside them",
@@ -85,18 +84,8 @@ pub const REFUSED_BY_10: Class = Class {
 };
 
 /// All of them.
-pub const ALL: [Class; 10] = [
-    LOOSE,
-    TIGHT,
-    ALL_WHOLE,
-    MANY_ROUNDS,
-    NESTED,
-    COMB,
-    WALL,
-    LONG_PAUSE,
-    REFUSED_BY_9,
-    REFUSED_BY_10,
-];
+pub const ALL: [Class; 10] =
+    [LOOSE, TIGHT, ALL_WHOLE, MANY_ROUNDS, NESTED, COMB, WALL, LONG_PAUSE, REFUSED_BY_9, REFUSED_BY_10];
 
 fn tight(random: &mut Random) -> Day {
     random::full_day(random, false, 60, 4)

@@ -17,8 +17,8 @@ pub fn least_ends(windows: &Windows) -> Minutes {
 
 /// Raises the ends of the entries that may end after b, from the smallest r up.
 fn raise(windows: &Windows, order: &[usize], b: u32, ends: &mut Minutes) {
-    let inside = order.iter().filter(|&&i| windows.d[i] <= b);
-    let mut kept: u32 = inside.map(|&i| windows.p[i]).sum();
+    let inside = (0..windows.n).filter(|&i| windows.d[i] <= b);
+    let mut kept: u32 = inside.map(|i| windows.p[i]).sum();
     let mut high = 0;
     for &i in order.iter().rev() {
         high = high.max(windows.r[i] + kept);

@@ -1,6 +1,6 @@
 //! Windows by place, their mirror, and the places in the order of their r.
 
-use dock_tests::day::{Day, MOST_ENTRIES};
+use dock_tests::day::MOST_ENTRIES;
 
 /// A minute, or a number of minutes, for each place.
 pub type Minutes = [u32; MOST_ENTRIES];
@@ -29,20 +29,6 @@ impl Order {
 }
 
 impl Windows {
-    pub fn of(day: &Day) -> Windows {
-        let none = [0; MOST_ENTRIES];
-        let whole = [false; MOST_ENTRIES];
-        let mut windows =
-            Windows { h: day.h.into(), n: day.entries.len(), r: none, d: none, p: none, whole };
-        for (place, entry) in day.entries.iter().enumerate() {
-            windows.r[place] = entry.r.into();
-            windows.d[place] = entry.d.into();
-            windows.p[place] = entry.p.into();
-            windows.whole[place] = entry.whole;
-        }
-        windows
-    }
-
     /// "[r, d) becomes [H-d, H-r), places kept"
     pub fn mirrored(&self) -> Windows {
         let mut mirrored = *self;
