@@ -56,7 +56,7 @@ pub fn compare() {
         for n in [8, 16, 32, 64] {
             println!("{}", line(LONGEST_DAY, n, &days(LONGEST_DAY, n)));
         }
-        for h in [180, 360, 720, 1440] {
+        for h in [720, 360, 180] {
             println!("{}", line(h, MOST_ENTRIES, &days(h, MOST_ENTRIES)));
         }
     }

@@ -12,7 +12,7 @@ pub fn text(before: Option<&Before>) -> String {
         "\
 Full days of 1,440 minutes and 64 entries, by the proved library and by two Rust programs. All take a list as
 451 numbers and write windows, bounds and plan into memory that is lent to them, and each time must answer
-and leave the same. Times are in milliseconds.
+and leave the same. 'Now' is the library. Times are in milliseconds.
 
 plan       narrowing, Jackson's schedule of the settled windows, and all bounds
 narrowing  settled windows and moves
@@ -25,26 +25,28 @@ left at its d. Row 9 is tested for all intervals, with the work of each added up
 Fast Rust has the library's algorithm: jumps over starts and ends, the bounds of all places at once, a
 schedule from one arrival or end to the next.
 
-Each program does each job once untimed, and then all in turn, {}.
-Every other turn begins with the last program. Buffers are not cleared first: each holds what the time before
-left in it. For 'plan, cleared' all that is lent is set to 0 before each call, and that is timed too.
+Each program does each job once untimed, and then all in turn,
+{}. Every other turn begins with the last
+program. Buffers are not cleared first: each holds what the time before left in it. For 'plan, cleared' all
+that is lent is set to 0 before each call, and that is timed too.
 ",
         how_often(&OF_SEVEN)
     );
     match before {
-        None => [how, heads(&PROGRAMS, &["proved : plain", "proved : fast"])].join("\n"),
+        None => [how, heads(&PROGRAMS, &["now : plain", "now : fast"])].join("\n"),
         Some(Before { commit, .. }) => {
-            let programs = ["library now", "plain Rust", "fast Rust", "library before"];
+            let [now, plain, fast] = PROGRAMS;
+            let programs = [now, plain, fast, "library before"];
             let ratios = ["now : plain", "now : fast", "now : before"];
             [how, fourth(commit), heads(&programs, &ratios)].join("\n")
         }
     }
 }
 
-const PROGRAMS: [&str; 3] = ["proved library", "plain Rust", "fast Rust"];
+const PROGRAMS: [&str; 3] = ["library now", "plain Rust", "fast Rust"];
 
 fn how_often(Times { least, most, enough }: &Times) -> String {
-    format!("at least {least} times, and up to {most} times within {} ms", enough.as_millis())
+    format!("at least {least} times, and up to {most} times within {} milliseconds", enough.as_millis())
 }
 
 /// What the fourth program is.
@@ -57,25 +59,29 @@ and must answer and leave the same as they. It is part of another process, which
     )
 }
 
-/// The widths of a number of times, of a time and of a ratio.
+/// The widths of a job's name, of a number of times, of a time and of a ratio.
+const JOB: usize = 15;
 const NUMBER: usize = 6;
 const TIME: usize = 10;
-const RATIO: usize = 8;
+const RATIO: usize = 13;
 
-/// The heads of the columns: two for each program, and two for each ratio.
+/// The heads of the columns: two for each program, and one for each ratio.
 fn heads(programs: &[&str], ratios: &[&str]) -> String {
-    let mut names = format!("{:16}{:NUMBER$}", "", "");
-    let mut columns = format!("{:16}{:>NUMBER$}", "", "times");
-    let programs = programs.iter().map(|name| (name, TIME));
-    for (name, width) in programs.chain(ratios.iter().map(|name| (name, RATIO))) {
-        names += &format!("{name:>0$}", 2 * width);
-        columns += &format!("{:>width$}{:>width$}", "median", "worst");
+    let mut names = format!("{:JOB$}{:NUMBER$}", "", "");
+    let mut columns = format!("{:JOB$}{:>NUMBER$}", "", "times");
+    for name in programs {
+        names += &format!("{name:>0$}", 2 * TIME);
+        columns += &format!("{:>TIME$}{:>TIME$}", "median", "worst");
+    }
+    for name in ratios {
+        names += &format!("{name:>RATIO$}");
+        columns += &format!("{:>RATIO$}", "medians");
     }
     [names, columns].join("\n")
 }
 
 /// The places of the programs among a row's times.
-const PROVED: usize = 0;
+const NOW: usize = 0;
 const PLAIN: usize = 1;
 const FAST: usize = 2;
 const BEFORE: usize = 3;
@@ -94,30 +100,25 @@ impl Row {
         median_and_worst(&self.times[program])[0]
     }
 
-    /// How many times as long as another program this one took, by medians.
+    /// How many times as long as another program a program took, by medians.
     fn ratio(&self, program: usize, other: usize) -> f64 {
         self.median(program) / self.median(other)
     }
 
-    /// The same for the proved library by medians, and by worst times.
-    fn ratios(&self, other: usize) -> [f64; 2] {
-        let [proved, other] = [PROVED, other].map(|program| median_and_worst(&self.times[program]));
-        [proved[0] / other[0], proved[1] / other[1]]
+    /// The slowest of a program's calls.
+    fn worst(&self, program: usize) -> f64 {
+        median_and_worst(&self.times[program])[1]
     }
 }
 
 impl Display for Row {
     fn fmt(&self, out: &mut Formatter) -> fmt::Result {
-        write!(out, "  {:14}{:>NUMBER$}", self.job, self.times[PROVED].len())?;
+        write!(out, "{:JOB$}{:>NUMBER$}", format!("  {}", self.job), self.times[NOW].len())?;
         for times in &self.times {
             let [median, worst] = median_and_worst(times);
-            write!(out, "{median:TIME$.3}{worst:TIME$.3}")?;
+            write!(out, "{median:TIME$.4}{worst:TIME$.4}")?;
         }
-        for other in PLAIN..self.times.len() {
-            let [median, worst] = self.ratios(other);
-            write!(out, "{median:RATIO$.4}{worst:RATIO$.4}")?;
-        }
-        Ok(())
+        (PLAIN..self.times.len()).try_for_each(|other| write!(out, "{:RATIO$.4}", self.ratio(NOW, other)))
     }
 }
 
@@ -136,21 +137,21 @@ fn median(values: &[f64]) -> f64 {
 
 /// What is said of classes, and the heads of their columns.
 pub fn of_classes() -> String {
-    let mut names = format!("{:16}", "");
-    let mut columns = format!("{:16}", "");
+    let mut names = format!("{:JOB$}", "");
+    let mut columns = format!("{:JOB$}", "");
     for name in PROGRAMS {
-        names += &format!("{name:>15}");
-        columns += &format!("{:>15}", "median");
+        names += &format!("{name:>RATIO$}");
+        columns += &format!("{:>RATIO$}", "median");
     }
     for (name, _, _) in RATIOS {
-        names += &format!("{name:>16}");
-        columns += &format!("{:>8}{:>8}", "median", "worst");
+        names += &format!("{name:>0$}", 2 * TIME);
+        columns += &format!("{:>TIME$}{:>TIME$}", "median", "worst");
     }
     format!(
         "\
-Classes of full days, {DAYS} days each, drawn from seeds. A program's time for a day is the median of its turns,
+Classes of full days, {DAYS} days each, drawn from seeds. A program's time for a day is the median of its turns:
 {}. The columns have the medians of the
-{DAYS} days' times, and the median and the worst of their ratios.
+{DAYS} days' times, and the median and the worst of the {DAYS} days' ratios.
 
 {names}\n{columns}",
         how_often(&OF_MANY)
@@ -159,17 +160,17 @@ Classes of full days, {DAYS} days each, drawn from seeds. A program's time for a
 
 /// The ratios of classes: what is divided by what.
 const RATIOS: [(&str, usize, usize); 3] =
-    [("proved : plain", PROVED, PLAIN), ("proved : fast", PROVED, FAST), ("fast : plain", FAST, PLAIN)];
+    [("now : plain", NOW, PLAIN), ("now : fast", NOW, FAST), ("fast : plain", FAST, PLAIN)];
 
 /// A job with the days of a class.
 pub fn class_line(job: &str, rows: &[Row]) -> String {
-    let mut line = format!("  {job:14}");
-    for program in [PROVED, PLAIN, FAST] {
-        line += &format!("{:15.3}", of_days(rows, |row| row.median(program))[0]);
+    let mut line = format!("{:JOB$}", format!("  {job}"));
+    for program in [NOW, PLAIN, FAST] {
+        line += &format!("{:RATIO$.4}", of_days(rows, |row| row.median(program))[0]);
     }
     for (_, one, other) in RATIOS {
         let [median, worst] = of_days(rows, |row| row.ratio(one, other));
-        line += &format!("{median:8.4}{worst:8.4}");
+        line += &format!("{median:TIME$.4}{worst:TIME$.4}");
     }
     line
 }
@@ -185,8 +186,8 @@ pub fn of_growth() -> String {
     let mut names = format!("{:16}", "");
     let mut columns = format!("{:>7}{:>9}", "entries", "minutes");
     for job in &jobs::NOT_CLEARED {
-        names += &format!("{:>30}", job.name);
-        columns += &format!("{:>10}{:>10}{:>10}", "proved", "plain", "fast");
+        names += &format!("{:>1$}", job.name, 3 * TIME);
+        columns += &format!("{:>TIME$}{:>TIME$}{:>TIME$}", "now", "plain", "fast");
     }
     format!("Days of several sizes, timed as classes are: medians of the days' times.\n\n{names}\n{columns}")
 }
@@ -195,8 +196,8 @@ pub fn of_growth() -> String {
 pub fn growth_line(h: u16, n: usize, rows: &[Row]) -> String {
     let mut line = format!("{n:7}{h:9}");
     for rows in rows.chunk_by(|one, next| one.job == next.job) {
-        for program in [PROVED, PLAIN, FAST] {
-            line += &format!("{:10.3}", of_days(rows, |row| row.median(program))[0]);
+        for program in [NOW, PLAIN, FAST] {
+            line += &format!("{:TIME$.4}", of_days(rows, |row| row.median(program))[0]);
         }
     }
     line
@@ -236,9 +237,9 @@ pub fn worst(rows: &[Row]) -> String {
     let greatest = |name, value| Extreme { name, least: false, value };
     let extremes = || {
         [
-            greatest("slowest proved call", |row| median_and_worst(&row.times[PROVED])[1]),
-            greatest("proved : plain", |row| row.ratio(PROVED, PLAIN)),
-            greatest("proved : fast", |row| row.ratio(PROVED, FAST)),
+            greatest("slowest call now", |row| row.worst(NOW)),
+            greatest("now : plain", |row| row.ratio(NOW, PLAIN)),
+            greatest("now : fast", |row| row.ratio(NOW, FAST)),
         ]
     };
     let planned = rows.iter().filter(|row| row.number == 0);
@@ -253,9 +254,9 @@ pub fn worst(rows: &[Row]) -> String {
 pub fn since(rows: &[Row]) -> String {
     let extreme = |name, least, value| Extreme { name, least, value };
     let extremes = [
-        extreme("least of medians", true, |row| row.ratios(BEFORE)[0]),
-        extreme("greatest of medians", false, |row| row.ratios(BEFORE)[0]),
-        extreme("greatest of worsts", false, |row| row.ratios(BEFORE)[1]),
+        extreme("least of medians", true, |row| row.ratio(NOW, BEFORE)),
+        extreme("greatest of medians", false, |row| row.ratio(NOW, BEFORE)),
+        extreme("greatest of worsts", false, |row| row.worst(NOW) / row.worst(BEFORE)),
     ];
     by_job("Ratios now : before of each job, and their days:", extremes, rows.iter())
 }

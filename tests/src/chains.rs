@@ -41,8 +41,7 @@ pub fn settled_one_by_one(n: usize, p: u16) -> (Day, Day) {
     of_minutes(&vec![p; n])
 }
 
-/// The same with these minutes for the entries, from the outermost in, at least 2 of them: of p minutes the first p - 1
-/// may be left free, so that a single one is none too few.
+/// The same with these minutes for the entries, from the outermost in.
 pub fn of_minutes(minutes: &[u16]) -> (Day, Day) {
     let h = minutes.iter().sum();
     let Chain { mut entries, mut settled, .. } = chain(h, minutes);
@@ -60,7 +59,8 @@ pub fn refused_in_the_end(n: usize) -> Day {
 }
 
 /// The same with these minutes for the entries of the chain, from the outermost in. The innermost whole entry needs
-/// `inner` minutes, of which `before` are free before the pause entry and all others after it.
+/// `inner` minutes, and the pause entry leaves it so many: `before` in front of it, at least one, and at least one after
+/// it.
 pub fn around_a_block(minutes: &[u16], inner: u16, before: u16) -> Day {
     let block = inner - 1;
     let h = minutes.iter().sum::<u16>() + inner + block;

@@ -48,7 +48,7 @@ pub const MANY_ROUNDS: Class = planned(
 );
 pub const NESTED: Class = planned(
     "nested windows",
-    "each window begins later and ends earlier than the last, one entry in two pause",
+    "in each quarter of the day 16 windows, one inside the other, one entry in four whole",
     nested,
 );
 pub const COMB: Class = planned(
@@ -134,40 +134,50 @@ fn entry(random: &mut Random, r: u16, d: u16, p: u16, whole: bool) -> Entry {
     Entry { r, d, p, whole, ..random::entry(random, 1) }
 }
 
-/// There is an unbroken plan: the minutes at one side of the next window are enough for a whole entry, those at both
-/// sides for a pause entry.
 fn nested(random: &mut Random) -> Day {
     let mut entries = vec![];
-    let (mut r, mut d) = (0, LONGEST_DAY);
-    for _ in 0..MOST_ENTRIES {
-        let (before, after) = (random.within(1, 11), random.within(1, 11));
-        let whole = random.once_in(2);
-        let (least, most) = if whole { (1, before.max(after)) } else { (before, before + after) };
-        let p = random.within(least, most);
-        entries.push(entry(random, r, d, p, whole));
-        (r, d) = (r + before, d - after);
+    for quarter in [0, 360, 720, 1080] {
+        entries.extend(nest(random, quarter, quarter + 360));
     }
     shuffle(random, &mut entries);
     Day { h: LONGEST_DAY, opening: 0, entries }
 }
 
-/// Between two teeth are 14 to 20 free minutes. A whole entry in four needs at most 13 and may have them there, at most
-/// one in each gap; all others need at least 21 and have their place behind the comb.
+/// 16 windows, each of which begins later and ends earlier than the last. There is a plan that keeps whole entries in one
+/// piece: all minutes at one side of the next window are a whole entry's, with one idle minute at the other side, and
+/// those at both sides a pause entry's.
+fn nest(random: &mut Random, mut r: u16, mut d: u16) -> Vec<Entry> {
+    let mut entries = vec![];
+    for _ in 1..16 {
+        let whole = random.once_in(4);
+        let p = random.within(2, 22);
+        let before = if whole { random.pick(&[1, p]) } else { random.within(1, p - 1) };
+        let after = p + u16::from(whole) - before;
+        entries.push(entry(random, r, d, p, whole));
+        (r, d) = (r + before, d - after);
+    }
+    let p = d - r - random.within(0, 3);
+    entries.push(entry(random, r, d, p, false));
+    entries
+}
+
+/// Between two of the pause entries are 14 to 20 free minutes, a gap. A whole entry in four needs at most 13 and may have
+/// them in a gap of its own; all others need at least 21 and have their place after the last pause entry.
 fn comb(random: &mut Random) -> Day {
-    let mut teeth = vec![];
+    let mut pauses = vec![];
     let mut gaps = vec![];
     let mut end = 0;
     for _ in 0..40 {
         gaps.push(end);
-        let tooth = end + random.within(14, 20);
-        teeth.push(entry(random, tooth, tooth + 1, 1, false));
-        end = tooth + 1;
+        let minute = end + random.within(14, 20);
+        pauses.push(entry(random, minute, minute + 1, 1, false));
+        end = minute + 1;
     }
-    let teeth = in_some_order(random, teeth);
+    let pauses = in_some_order(random, pauses);
     shuffle(random, &mut gaps);
     let mut wholes = vec![];
     let mut free = end;
-    for gap in gaps.into_iter().take(MOST_ENTRIES - teeth.len()) {
+    for gap in gaps.into_iter().take(MOST_ENTRIES - pauses.len()) {
         let small = random.once_in(4);
         let p = if small { random.within(5, 13) } else { random.within(21, 24) };
         let start = if small { gap } else { free };
@@ -176,7 +186,7 @@ fn comb(random: &mut Random) -> Day {
         let d = (start + p + random.within(0, 100)).min(LONGEST_DAY);
         wholes.push(entry(random, r, d, p, true));
     }
-    merged(random, teeth, wholes)
+    merged(random, pauses, wholes)
 }
 
 /// The same entries from the first to the last, from the last to the first, or in any order.
