@@ -1,6 +1,6 @@
 //! The jobs that are timed, and how.
 
-use crate::plain;
+use crate::{fast, plain};
 use dock_tests::abi::{self, Answer, Lent};
 use dock_tests::day::LONGEST_DAY;
 use dock_tests::flat::Fields;
@@ -8,16 +8,21 @@ use std::hash::{DefaultHasher, Hash, Hasher};
 use std::hint::black_box;
 use std::time::{Duration, Instant};
 
-/// Each program does each job so often at least, and more often until so much time has passed or it was done
-/// so often.
-pub const LEAST: usize = 5;
-pub const ENOUGH: Duration = Duration::from_secs(2);
-pub const MOST: usize = 1_000;
+/// Each program does a job so often at least, and more often until so much time has passed or it was done so often.
+pub struct Times {
+    pub least: usize,
+    pub most: usize,
+    pub enough: Duration,
+}
+
+/// A job with one of the seven days, and with one of many days.
+pub const OF_SEVEN: Times = Times { least: 5, most: 1_000, enough: Duration::from_secs(1) };
+pub const OF_MANY: Times = Times { least: 3, most: 50, enough: Duration::from_millis(200) };
 
 /// A call: it gets a list and all that may be lent, and answers.
 type Call = fn(&Fields, &mut Lent) -> Answer;
 
-/// A job, as the proved library and as plain Rust do it.
+/// A job, as the proved library and as the two Rust programs do it.
 pub struct Job {
     pub name: &'static str,
     /// Whether it is done with lists that are refused, too.
@@ -26,6 +31,7 @@ pub struct Job {
     cleared: bool,
     proved: Call,
     plain: Call,
+    fast: Call,
 }
 
 const PLAN: Job = Job {
@@ -34,6 +40,7 @@ const PLAN: Job = Job {
     cleared: false,
     proved: |fields, lent| abi::ask_into(abi::Call::Plan, fields, lent),
     plain: plain::plan,
+    fast: fast::plan,
 };
 
 const NARROWING: Job = Job {
@@ -42,6 +49,7 @@ const NARROWING: Job = Job {
     cleared: false,
     proved: |fields, lent| abi::settle_into(fields, &mut lent.narrowed),
     plain: |fields, lent| plain::settle(fields, &mut lent.narrowed),
+    fast: |fields, lent| fast::settle(fields, &mut lent.narrowed),
 };
 
 const SCHEDULE: Job = Job {
@@ -50,10 +58,13 @@ const SCHEDULE: Job = Job {
     cleared: false,
     proved: |fields, lent| abi::schedule_into(fields, &mut lent.plan),
     plain: |fields, lent| plain::schedule(fields, &mut lent.plan),
+    fast: |fields, lent| fast::schedule(fields, &mut lent.plan),
 };
 
-/// All of them. Planning is timed both ways.
+/// Those with one of the seven days. Planning is timed both ways.
 pub const ALL: [Job; 4] = [PLAN, Job { name: "plan, cleared", cleared: true, ..PLAN }, NARROWING, SCHEDULE];
+/// Those with one of many days.
+pub const NOT_CLEARED: [Job; 3] = [PLAN, NARROWING, SCHEDULE];
 
 /// What came of a call: how long it took, what it answered, and a digest of what it left in all that was lent.
 pub struct Done {
@@ -78,27 +89,39 @@ impl Job {
         Linked::new(self.proved, self.cleared, fields)
     }
 
-    /// Plain Rust.
-    pub fn plain<'a>(&self, fields: &'a Fields) -> Linked<'a> {
-        Linked::new(self.plain, self.cleared, fields)
+    /// The programs that are part of this one: the library, plain Rust and fast Rust.
+    pub fn programs<'a>(&self, fields: &'a Fields) -> Vec<Box<dyn Program + 'a>> {
+        let linked = |call| Box::new(Linked::new(call, self.cleared, fields)) as Box<dyn Program>;
+        [self.proved, self.plain, self.fast].map(linked).into()
     }
 
     /// The times that each program takes for this job. They do it in turn, after each did it once.
-    pub fn compare(&self, programs: &mut [Box<dyn Program + '_>]) -> Vec<Vec<Duration>> {
-        self.call_each(programs);
+    pub fn compare(&self, programs: &mut [Box<dyn Program + '_>], often: &Times) -> Vec<Vec<Duration>> {
+        self.call_each(programs, false);
         let mut times = vec![vec![]; programs.len()];
         let start = Instant::now();
-        while times[0].len() < LEAST || (times[0].len() < MOST && start.elapsed() < ENOUGH) {
-            for (times, time) in times.iter_mut().zip(self.call_each(programs)) {
+        loop {
+            let turns = times[0].len();
+            if turns >= often.least && (turns >= often.most || start.elapsed() >= often.enough) {
+                return times;
+            }
+            for (times, time) in times.iter_mut().zip(self.call_each(programs, turns % 2 == 1)) {
                 times.push(time);
             }
         }
-        times
     }
 
-    /// Does the job with each program. They must answer the same, and leave the same in what is lent.
-    fn call_each(&self, programs: &mut [Box<dyn Program + '_>]) -> Vec<Duration> {
-        let done = Vec::from_iter(programs.iter_mut().map(|program| program.call()));
+    /// Does the job with each program. They must answer the same, and leave the same in what is lent. Every other turn
+    /// begins with the last program, so that the two fast ones follow the slow one alike.
+    fn call_each(&self, programs: &mut [Box<dyn Program + '_>], last_first: bool) -> Vec<Duration> {
+        if last_first {
+            programs.reverse();
+        }
+        let mut done = Vec::from_iter(programs.iter_mut().map(|program| program.call()));
+        if last_first {
+            programs.reverse();
+            done.reverse();
+        }
         for (place, one) in done.iter().enumerate() {
             let which = || format!("{}: program {} beside the first", self.name, place + 1);
             assert_eq!(one.answer, done[0].answer, "{}", which());

@@ -1,11 +1,15 @@
-//! Times the proved library beside a plain Rust program, on full days of 1,440 minutes and 64 entries. It is
+//! Times the proved library beside two Rust programs, a plain one and one with the library's own algorithm: on seven
+//! full days of 1,440 minutes and 64 entries, on classes of such days, and on days of several lengths and sizes. It is
 //! no test, and the gate builds it and does not run it. From the repository's root:
 //!
 //!     bench/run
-//!     bench/run COMMIT    # beside the library as it was at COMMIT, too
+//!     bench/run COMMIT    # the seven days beside the library as it was at COMMIT, too
 
 mod before;
+mod classes;
 mod days;
+mod fast;
+mod growth;
 mod jobs;
 mod plain;
 mod table;
@@ -15,7 +19,6 @@ use days::FullDay;
 use dock_tests::day::Day;
 use dock_tests::narrow::{self, Narrowed};
 use dock_tests::{abi, check, flat};
-use jobs::Program;
 use std::env;
 use table::Row;
 
@@ -29,51 +32,70 @@ fn main() {
     }
 }
 
-/// Prints the table, with or without the library before.
+/// Prints all tables, with or without the library before.
 fn compare(mut before: Option<Before>) {
     println!("{}", table::text(before.as_ref()));
-    let mut rows = vec![];
-    for (place, FullDay { name: day, about, number, list }) in days::all().into_iter().enumerate() {
-        let fields = flat::of_day(&list);
-        let (answered, outcome) = outcome(&list);
-        assert_eq!(answered, number, "{day}");
-        println!("\n{day}: {about}\n  {outcome}");
-        for (at, job) in jobs::ALL.iter().enumerate().filter(|(_, job)| job.is_for(&fields)) {
-            let mut programs: Vec<Box<dyn Program + '_>> =
-                vec![Box::new(job.proved(&fields)), Box::new(job.plain(&fields))];
-            if let Some(before) = &mut before {
-                programs.push(Box::new(before.at(place, at)));
-            }
-            let row = Row { day, job: job.name, times: job.compare(&mut programs) };
-            println!("{row}");
-            rows.push(row);
-        }
-    }
-    println!("\n{}", table::worst(&rows));
+    let mut rows = seven_days(before.as_mut());
     if let Some(before) = before {
         println!("\n{}", table::since(&rows));
         before.end();
     }
+    rows.extend(classes::compare());
+    println!("\n{}", table::worst(&rows));
+    growth::compare();
 }
 
-/// The number that narrowing answers, and what it makes of a list, in words. The rounds are those of the tests'
-/// second narrowing, and must come to what the library answers.
-fn outcome(list: &Day) -> (u64, String) {
+/// Prints a line for each job with each of the seven days.
+fn seven_days(mut before: Option<&mut Before>) -> Vec<Row> {
+    let mut rows = vec![];
+    for (place, FullDay { name: day, about, number, list }) in days::all().into_iter().enumerate() {
+        let fields = flat::of_day(&list);
+        let Outcome { number: answered, words, .. } = outcome(&list);
+        assert_eq!(answered, number, "{day}");
+        println!("\n{day}: {about}\n  {words}");
+        for (at, job) in jobs::ALL.iter().enumerate().filter(|(_, job)| job.is_for(&fields)) {
+            let mut programs = job.programs(&fields);
+            if let Some(before) = &mut before {
+                programs.push(Box::new(before.at(place, at)));
+            }
+            let times = job.compare(&mut programs, &jobs::OF_SEVEN);
+            let row = Row { day: day.to_string(), number, job: job.name, times };
+            println!("{row}");
+            rows.push(row);
+        }
+    }
+    rows
+}
+
+/// What narrowing makes of a list: the number that it answers, how many rounds it takes and how many moves they make,
+/// up to a refusal, and the same in words.
+struct Outcome {
+    number: u64,
+    rounds: usize,
+    moves: u64,
+    words: String,
+}
+
+/// The rounds are those of the tests' second narrowing, and must come to what the library answers.
+fn outcome(list: &Day) -> Outcome {
     let (answer, _) = abi::settle(&flat::of_day(list));
     if answer.number == 9 {
         let [a, b, work] = answer.values;
-        return (9, format!("refused, from {a} to {b} work {work}"));
+        let words = format!("refused, from {a} to {b} work {work}");
+        return Outcome { number: 9, rounds: 0, moves: 0, words };
     }
     let rounds = narrow::rounds(list);
-    let words = match rounds.outcome_after(0) {
+    let (made, moves) = (rounds.done.len(), rounds.moves().iter().sum());
+    match rounds.outcome_after(0) {
         Ok(Narrowed { moves, .. }) => {
             assert_eq!((answer.number, answer.values[0]), (0, moves));
-            format!("settled, rounds {}, moves {moves}", rounds.done.len())
+            let words = format!("settled, rounds {made}, moves {moves}");
+            Outcome { number: 0, rounds: made, moves, words }
         }
         Err(refusal) => {
             assert_eq!(answer, check::refusing(&refusal));
-            format!("refused, entry {}, in round {}", answer.values[0], rounds.done.len() + 1)
+            let words = format!("refused, entry {}, in round {}", answer.values[0], made + 1);
+            Outcome { number: answer.number, rounds: made + 1, moves, words }
         }
-    };
-    (answer.number, words)
+    }
 }

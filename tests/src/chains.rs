@@ -16,9 +16,9 @@ struct Chain {
 /// The outermost entry may have any minutes of the day. All others end a minute before it and leave p - 1
 /// minutes free until then, one too few, so it comes to the right end. Then the second outermost comes to the
 /// left end of what is left in the same way, as all inside it begin a minute later; and so on.
-fn chain(h: u16, n: usize, p: u16) -> Chain {
+fn chain(h: u16, minutes: &[u16]) -> Chain {
     let mut chain = Chain { entries: vec![], settled: vec![], free: (0, h), window: (0, h) };
-    for turn in 0..n {
+    for (turn, &p) in minutes.iter().enumerate() {
         chain.entries.push((chain.window.0, chain.window.1, p));
         let (left, right) = chain.free;
         if turn % 2 == 0 {
@@ -38,8 +38,13 @@ fn chain(h: u16, n: usize, p: u16) -> Chain {
 /// the last place, so each round settles one more entry, from the last place to the first: there are n + 1
 /// rounds, and 2 n - 2 moves.
 pub fn settled_one_by_one(n: usize, p: u16) -> (Day, Day) {
-    let h = n as u16 * p;
-    let Chain { mut entries, mut settled, .. } = chain(h, n, p);
+    of_minutes(&vec![p; n])
+}
+
+/// The same with these minutes for the entries, from the outermost in.
+pub fn of_minutes(minutes: &[u16]) -> (Day, Day) {
+    let h = minutes.iter().sum();
+    let Chain { mut entries, mut settled, .. } = chain(h, minutes);
     entries.reverse();
     settled.reverse();
     let day = |entries: &[_]| samples::all_whole(samples::windows(h, entries));
@@ -50,11 +55,20 @@ pub fn settled_one_by_one(n: usize, p: u16) -> (Day, Day) {
 /// by a pause entry, place 1, so that the innermost whole entry, place 0, which needs two, has none when the
 /// chain is settled. Each round settles one entry of the chain, until the last of them, place 2, is refused.
 pub fn refused_in_the_end(n: usize) -> Day {
-    let h = 2 * (n as u16 - 2) + 3;
-    let Chain { mut entries, free, window, .. } = chain(h, n - 2, 2);
-    entries.push((free.0 + 1, free.0 + 2, 1));
-    entries.push((window.0, window.1, 2));
+    around_a_block(&vec![2; n - 2], 2, 1)
+}
+
+/// The same with these minutes for the entries of the chain, from the outermost in. The innermost whole entry needs
+/// `inner` minutes, and the pause entry leaves it so many: `before` in front of it, at least one, and at least one after
+/// it.
+pub fn around_a_block(minutes: &[u16], inner: u16, before: u16) -> Day {
+    let block = inner - 1;
+    let h = minutes.iter().sum::<u16>() + inner + block;
+    let Chain { mut entries, free, window, .. } = chain(h, minutes);
+    let first = free.0 + before;
+    entries.push((first, first + block, block));
+    entries.push((window.0, window.1, inner));
     entries.reverse();
-    let places: Vec<_> = (0..n).filter(|&place| place != 1).collect();
+    let places: Vec<_> = (0..entries.len()).filter(|&place| place != 1).collect();
     samples::whole(samples::windows(h, &entries), &places)
 }

@@ -87,12 +87,18 @@ pub fn refused(call: Call, fields: &Fields, room: usize, number: u64, carries: u
 /// day has minutes. Gives what planning answers.
 #[track_caller]
 pub fn ask_all(day: &Day) -> (Answer, Lent) {
+    ask_some(day, 0..day.entries.len())
+}
+
+/// The same with both plans of these places.
+#[track_caller]
+pub fn ask_some(day: &Day, places: impl IntoIterator<Item = usize>) -> (Answer, Lent) {
     let fields = flat::of_day(day);
     let room = usize::from(day.h) + 3;
     let expected = bounds::settle(Call::Plan, &flat::value(&fields), room);
-    for place in 0..day.entries.len() as u64 {
-        alike(Call::Early(place), &fields, room, &expected);
-        alike(Call::Late(place), &fields, room, &expected);
+    for place in places {
+        alike(Call::Early(place as u64), &fields, room, &expected);
+        alike(Call::Late(place as u64), &fields, room, &expected);
     }
     alike(Call::Plan, &fields, room, &expected)
 }

@@ -8,6 +8,11 @@ impl Told {
         self.0[number] += 1;
     }
 
+    /// How often any number was told.
+    pub fn all(&self) -> usize {
+        self.0.iter().sum()
+    }
+
     /// Each of these numbers was told at least so often.
     #[track_caller]
     pub fn at_least(&self, bounds: &[(usize, usize)]) {

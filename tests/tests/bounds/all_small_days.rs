@@ -1,11 +1,13 @@
-//! Every day of at most 4 minutes and 3 entries of both kinds: its plan, its bounds and both plans of every
+//! Every day of at most 5 minutes and 3 entries of both kinds: its plan, its bounds and both plans of every
 //! place, held against all plans in its settled windows. Windows, moves and bounds are found from all plans, by no rule
-//! for ties: "Settled windows, least ends and greatest starts keep their values" (document 02).
+//! for ties: "Settled windows, least ends and greatest starts keep their values" (document 02). Those of 6 minutes
+//! against the second planner.
 
 use dock_tests::abi::Call;
 use dock_tests::check_bounds::{ask, ask_all, by_trying_everything, calls, refused};
 use dock_tests::settled::Plans;
 use dock_tests::small::{days_of_both_kinds, days_up_to, NO_PLACE, OVERLOADED, SETTLED};
+use dock_tests::told::Told;
 use dock_tests::{brute, flat};
 
 #[test]
@@ -17,14 +19,25 @@ fn every_day_is_planned_as_trying_everything_says() {
     assert_eq!([seen[0], seen[9], seen[10]], [SETTLED, OVERLOADED, NO_PLACE]);
 }
 
-/// One minute more, and two entries.
+/// One minute more, and as many entries.
 #[test]
-fn the_days_of_5_minutes_and_2_entries() {
+fn the_days_of_5_minutes() {
     let mut seen = [0; 14];
-    for day in days_of_both_kinds(5, 2) {
+    for day in (0..=3).flat_map(|n| days_of_both_kinds(5, n)) {
         seen[by_trying_everything(&day) as usize] += 1;
     }
-    assert_eq!(seen[0] + seen[9] + seen[10], 70 * 70);
+    assert_eq!(seen[0] + seen[9] + seen[10], 1 + 70 + 70 * 70 + 70 * 70 * 70);
+}
+
+/// Two minutes more, planned as the second planner says.
+#[test]
+fn the_days_of_6_minutes() {
+    let mut told = Told::default();
+    for day in (0..=3).flat_map(|n| days_of_both_kinds(6, n)) {
+        told.count(ask(Call::Plan, &flat::of_day(&day), 6).0.number as usize);
+    }
+    told.more_than(10_000, &[0, 9, 10]);
+    assert_eq!(told.all(), 1 + 112 + 112 * 112 + 112 * 112 * 112);
 }
 
 /// The second planner says the same of every day, by all calls.

@@ -3,6 +3,7 @@
 mod all_small_days;
 mod buffers;
 mod clashes;
+mod classes;
 mod examples;
 mod full_days;
 mod ignored;

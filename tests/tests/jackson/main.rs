@@ -2,6 +2,7 @@
 
 mod all_small_days;
 mod buffer;
+mod classes;
 mod examples;
 mod ignored;
 mod limits;

@@ -1,9 +1,11 @@
-//! Every day of at most 4 minutes and 3 entries of both kinds, held against all its plans, all sets of
-//! windows inside those given and all lists of narrowing steps.
+//! Every day of at most 5 minutes and 3 entries of both kinds, held against all its plans, all sets of
+//! windows inside those given and all lists of narrowing steps; those of 6 minutes against the second narrowing.
 
+use dock_tests::check::number;
 use dock_tests::day::Day;
 use dock_tests::settled::{Plans, Windows};
 use dock_tests::small::{days_up_to as days, NO_PLACE, OVERLOADED, SETTLED};
+use dock_tests::told::Told;
 use dock_tests::{brute, check_narrow, flat, jackson, small};
 
 /// A day of h minutes can have 1, 4, 10 and 20 different entries, of two kinds each. With 0 to 2 of them in a
@@ -28,15 +30,26 @@ fn every_day_is_narrowed_as_trying_everything_says() {
     assert_eq!([seen[0], seen[9], seen[10]], [SETTLED, OVERLOADED, NO_PLACE]);
 }
 
-/// One minute more, and two entries.
+/// One minute more, and as many entries.
 #[test]
-fn the_days_of_5_minutes_and_2_entries() {
+fn the_days_of_5_minutes() {
     let mut count = 0;
-    for day in small::days_of_both_kinds(5, 2) {
+    for day in (0..=3).flat_map(|n| small::days_of_both_kinds(5, n)) {
         check_narrow::by_trying_everything(&day);
         count += 1;
     }
-    assert_eq!(count, 70 * 70);
+    assert_eq!(count, 1 + 70 + 70 * 70 + 70 * 70 * 70);
+}
+
+/// Two minutes more, against the second narrowing.
+#[test]
+fn the_days_of_6_minutes() {
+    let mut told = Told::default();
+    for day in (0..=3).flat_map(|n| small::days_of_both_kinds(6, n)) {
+        told.count(number(&check_narrow::settle(&flat::of_day(&day))));
+    }
+    told.more_than(10_000, &[0, 9, 10]);
+    assert_eq!(told.all(), 1 + 112 + 112 * 112 + 112 * 112 * 112);
 }
 
 /// The second narrowing says the same of every day.

@@ -1,6 +1,7 @@
 //! Narrowing a list's windows.
 
 mod all_small_days;
+mod classes;
 mod examples;
 mod fields;
 mod full_days;
