@@ -9,7 +9,8 @@ use borrow.Author.Tests.{le-leb, leb-true, lt-ltb, le-ltb}
 use lib.Dec.{leb, ltb}
 use Rattle.base.specs.Counting.{sum}
 use Rattle.base.proofs.Sums.{le-or-lt, same-cases, between-le, sum-cong, sum-more}
-use Rattle.base.proofs.Permutations.{once-in, once-sum}
+use Rattle.base.proofs.Permutations.{once-in, once-has, once-sum}
+use Rattle.base.proofs.Searches.{reverse-twice}
 use Rattle.jackson.specs.Windows.{Windows}
 use Rattle.jackson.specs.Intervals.{work, Fits}
 use Rattle.jackson.specs.RunningSums.{LatestReleaseFirst, entered}
@@ -61,11 +62,15 @@ module _ (v : Windows) (o : ℕ → ℕ) (p : ℕ) where
   raised-up b zero s = omega arith
   raised-up b (suc x) s = omega (arith, raised-up b x s, raised-next b x s)
 
+  -- the right end that a pass asks after j others
+  abbrev end : ℕ → ℕ
+  end j = v .d (o (v .n - suc j))
+
   passed-next : (unmoved : Bool) (d j s : ℕ) → passed v o p unmoved d j s ≤ passed v o p unmoved d (suc j) s
   unfolding passed
   passed-next unmoved d j s =
-      cond-cases (λ t. passed v o p unmoved d j s ≤ t) (ltb (passed v o p unmoved d j s) (v .d j) && asks unmoved d (v .d j)) _ _
-      (λ _. raised-up (v .d j) (v .n) (passed v o p unmoved d j s))
+      cond-cases (λ t. passed v o p unmoved d j s ≤ t) (ltb (passed v o p unmoved d j s) (end j) && asks unmoved d (end j)) _ _
+      (λ _. raised-up (end j) (v .n) (passed v o p unmoved d j s))
       (λ _. omega arith)
 
   pub passed-up : (unmoved : Bool) (d j s : ℕ) → s ≤ passed v o p unmoved d j s
@@ -198,26 +203,35 @@ module _ (v : Windows) (o : ℕ → ℕ) (order : LatestReleaseFirst v o) (p : �
     passed-barred busy zero = λ t from less. absurd (omega (arith, from, less))
     passed-barred busy (suc j) =
         let so = passed-barred busy j in
-        cond-cases (λ z. (t : ℕ) → s₀ ≤ t → t < z → Barred v p t) (ltb (at j) (v .d j) && asks unmoved d (v .d j)) _ _
+        cond-cases (λ z. (t : ℕ) → s₀ ≤ t → t < z → Barred v p t) (ltb (at j) (end v o p j) && asks unmoved d (end v o p j)) _ _
         (λ _ t from less.
         le-or-lt (at j) t
-        (λ q. raised-barred (v .d j) (at j) (λ i below high. busy i below (omega (arith, high, passed-up v o p unmoved d j s₀)))
+        (λ q. raised-barred (end v o p j) (at j) (λ i below high. busy i below (omega (arith, high, passed-up v o p unmoved d j s₀)))
         (v .n) (omega arith) t q less)
         (λ q. so t from q))
         (λ _. so)
 
     -- one that changes nothing has only right ends that make no jump, of those that it asks
-    pub passed-quiet : (j : ℕ) → at j ≡ s₀ → (i : ℕ) → i < j → s₀ < v .d i → asks unmoved d (v .d i) ≡ true → Quiet v p (v .d i) s₀
+    pass-quiet : (j : ℕ) → at j ≡ s₀ → (x : ℕ) → x < j → s₀ < end v o p x → asks unmoved d (end v o p x) ≡ true
+        → Quiet v p (end v o p x) s₀
     unfolding passed
-    passed-quiet zero e i below high asked = absurd (omega (arith, below))
-    passed-quiet (suc j) e i below high asked =
+    pass-quiet zero e x below high asked = absurd (omega (arith, below))
+    pass-quiet (suc j) e x below high asked =
         let before : at j ≡ s₀ = omega (arith, e, passed-up v o p unmoved d j s₀, passed-next v o p unmoved d j s₀) in
-        same-cases i j
+        same-cases x j
         (λ q _.
-        let row : raised v o (v .d j) p (v .n) s₀ ≡ s₀ =
-        rw (before, lt-ltb s₀ (v .d j) (rw q at high), rw q at asked) at e in
-        rw q (row-quiet (v .d j) s₀ row))
-        (λ ne _. passed-quiet j before i (omega (arith, below, ne)) high asked)
+        let row : raised v o (end v o p j) p (v .n) s₀ ≡ s₀ =
+        rw (before, lt-ltb s₀ (end v o p j) (rw q at high), rw q at asked) at e in
+        rw q (row-quiet (end v o p j) s₀ row))
+        (λ ne _. pass-quiet j before x (omega (arith, below, ne)) high asked)
+
+    -- each place has its turn
+    pub passed-quiet : at (v .n) ≡ s₀ → (i : ℕ) → i < v .n → s₀ < v .d i → asks unmoved d (v .d i) ≡ true → Quiet v p (v .d i) s₀
+    passed-quiet e i below high asked =
+        let z = once-has (v .n) o (order .once) i below in
+        let x = v .n - suc (z .0) in
+        let here : end v o p x ≡ v .d i = ap (λ (y : ℕ). v .d (o y)) (reverse-twice (v .n) (z .0) (z .1)) ∙ ap (v .d) (z .2) in
+        rw here at (pass-quiet (v .n) e x (omega (arith, z .1)) (rw here high) (rw here asked))
 
 -- where no right end makes a jump from s, every interval that would hold p minutes from s on has room for them
 pub quiet-clear : (v : Windows) (p s : ℕ) → ((j : ℕ) → j < v .n → Quiet v p (v .d j) s)

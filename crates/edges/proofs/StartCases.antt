@@ -1,7 +1,7 @@
 -- Jumps, rows, passes and the search for a start, in each case that the code meets.
 -- Assumes nothing.
 use mathlib.Core.Path.{_≡_, refl, sym, ap, _∙_, fun-ext}
-use mathlib.Core.Bool.{Bool, true, false, cond}
+use mathlib.Core.Bool.{Bool, true, false, cond, _&&_}
 use mathlib.Core.List.{List}
 use Prim.Native.Nat.{ℕ, suc, _+_, _*_, _-_, _<_, _≤_, min}
 use native.Mathlib.Numerals.{add-one}
@@ -67,35 +67,41 @@ module _ (v : Windows) (o : ℕ → ℕ) (b p s₀ : ℕ) where
   pub raised-all : (x work s : ℕ) → Raising v o b p s₀ x work s → v .n ≤ x → s ≡ raised v o b p (v .n) s₀
   raised-all x work s so end = let z : x ≡ v .n = omega (arith, so .passed) in so .start-is ∙ ap (λ (y : ℕ). raised v o b p y s₀) z
 
--- A pass: the right ends of j places are asked.
-pub record Passing (v : Windows) (o : ℕ → ℕ) (p : ℕ) (unmoved : Bool) (d s₀ j s : ℕ) : Type 0 where
-  pub over : j ≤ v .n
-  pub start-is : s ≡ passed v o p unmoved d j s₀
+-- A pass: the right ends of all places of the order but the first x are asked.
+pub record Passing (v : Windows) (o : ℕ → ℕ) (p : ℕ) (unmoved : Bool) (d s₀ x s : ℕ) : Type 0 where
+  pub left : x ≤ v .n
+  pub start-is : s ≡ passed v o p unmoved d (v .n - x) s₀
 
 module _ (v : Windows) (o : ℕ → ℕ) (p : ℕ) (unmoved : Bool) (d s₀ : ℕ) where
-  pub passing-none : Passing v o p unmoved d s₀ 0 s₀
+  pub passing-none : Passing v o p unmoved d s₀ (v .n) s₀
   unfolding passed
-  passing-none = record { over = omega arith; start-is = refl }
+  passing-none = let z : v .n - v .n ≡ 0 = omega arith in record { left = omega arith; start-is = rw z refl }
 
-  module _ (j s : ℕ) (so : Passing v o p unmoved d s₀ j s) (more : j < v .n) where
-    pub passing-low : v .d j ≤ s → Passing v o p unmoved d s₀ (j + 1) s
+  module _ (x s : ℕ) (so : Passing v o p unmoved d s₀ x s) (more : 0 < x) where
+    -- the next right end
+    abbrev b : ℕ
+    b = v .d (o (x - 1))
+
+    one-more-end : (t : ℕ) → cond (ltb s b && asks unmoved d b) (raised v o b p (v .n) s) s ≡ t → Passing v o p unmoved d s₀ (x - 1) t
     unfolding passed
-    passing-low low = record { over = omega (arith, more); start-is = rw (add-one, ← so .start-is, le-ltb s (v .d j) low) refl }
+    one-more-end t e =
+        let count : v .n - (x - 1) ≡ suc (v .n - x) = omega (arith, so .left, more) in
+        let here : v .n - suc (v .n - x) ≡ x - 1 = omega (arith, so .left, more) in
+        record { left = omega (arith, so .left); start-is = rw (count, here, ← so .start-is) (sym e) }
 
-    module _ (up : s < v .d j) (b : Bool) (is : b ≡ asks unmoved d (v .d j)) where
-      pub passing-not : b ≡ false → Passing v o p unmoved d s₀ (j + 1) s
-      unfolding passed
-      passing-not e =
-          record { over = omega (arith, more); start-is = rw (add-one, ← so .start-is, lt-ltb s (v .d j) up, ← is, e) refl }
+    pub passing-low : b ≤ s → Passing v o p unmoved d s₀ (x - 1) s
+    passing-low low = one-more-end s (rw (le-ltb s b low) refl)
 
-      pub passing-row : b ≡ true → Passing v o p unmoved d s₀ (j + 1) (raised v o (v .d j) p (v .n) s)
-      unfolding passed
-      passing-row e =
-          record { over = omega (arith, more); start-is = rw (add-one, ← so .start-is, lt-ltb s (v .d j) up, ← is, e) refl }
+    module _ (up : s < b) (asked : Bool) (is : asked ≡ asks unmoved d b) where
+      pub passing-not : asked ≡ false → Passing v o p unmoved d s₀ (x - 1) s
+      passing-not e = one-more-end s (rw (lt-ltb s b up, ← is, e) refl)
 
-  pub passed-all : (j s : ℕ) → Passing v o p unmoved d s₀ j s → v .n ≤ j → s ≡ passed v o p unmoved d (v .n) s₀
-  passed-all j s so end =
-      let z : j ≡ v .n = omega (arith, so .over) in so .start-is ∙ ap (λ (y : ℕ). passed v o p unmoved d y s₀) z
+      pub passing-row : asked ≡ true → Passing v o p unmoved d s₀ (x - 1) (raised v o b p (v .n) s)
+      passing-row e = one-more-end (raised v o b p (v .n) s) (rw (lt-ltb s b up, ← is, e) refl)
+
+  pub passed-all : (x s : ℕ) → Passing v o p unmoved d s₀ x s → x ≡ 0 → s ≡ passed v o p unmoved d (v .n) s₀
+  passed-all x s so end =
+      let z : v .n - x ≡ v .n = omega (arith, end) in so .start-is ∙ ap (λ (y : ℕ). passed v o p unmoved d y s₀) z
 
 -- The search: from s on it finds what it finds from the first start on, and so many passes more may be made.
 pub record Searching (v : Windows) (o : ℕ → ℕ) (r d p : ℕ) (all : Found) (s : ℕ) : Type 0 where

@@ -70,7 +70,7 @@ module _ (w : Windows) (formed : Formed w) (k : ℕ) (place : k < w .n) where
 
           go : (t : Bool) → asks (eqb s (w .r k)) (w .d k) (w .d j) ≡ t → s < w .d j → Quiet (others w k) (w .p k) (w .d j) s
           go true asked up =
-              passed-quiet (others w k) o (record { sorted = order .sorted; once = order .once }) (w .p k) (eqb s (w .r k)) (w .d k) s (w .n) e j below up
+              passed-quiet (others w k) o (record { sorted = order .sorted; once = order .once }) (w .p k) (eqb s (w .r k)) (w .d k) s e j below up
               asked
           go false out up = let z = beyond (eqb s (w .r k)) refl out in rw (z .0) (high-quiet (w .d j) (z .1))
 

@@ -29,12 +29,13 @@ raised v o b p (suc x) s =
 abbrev pub asks : Bool → ℕ → ℕ → Bool
 asks unmoved d b = cond unmoved (ltb b d) true
 
--- One pass: the start after the right ends of the first j places, as far as they are above the start and asked.
+-- One pass: the start after the right ends of the last j places of the order, the smallest r first, as far as they are above the start and
+-- asked. The papers name no order of the right ends; in this one a start that was raised is often raised on in the same pass.
 unfoldable pub passed : Windows → (ℕ → ℕ) → ℕ → Bool → ℕ → ℕ → ℕ → ℕ
 passed v o p unmoved d zero s = s
 passed v o p unmoved d (suc j) s =
     let t = passed v o p unmoved d j s in
-    let b = v .d j in
+    let b = v .d (o (v .n - suc j)) in
     cond (ltb t b && asks unmoved d b) (raised v o b p (v .n) t) t
 
 -- Passes from the start s on, until one changes nothing or the window [r, d) is used up. A pass that changes the start passes one at

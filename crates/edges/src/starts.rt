@@ -98,7 +98,7 @@ fn is_asked(unmoved: bool, d: u16, b: u16) -> bool
     if unmoved { b < d } else { true }
 }
 
-// One pass: the rows of all right ends that are above the start and asked.
+// One pass: the rows of all right ends that are above the start and asked, those of the smallest r first.
 fn pass(
     count: usize,
     r: &[u16; ENTRIES],
@@ -115,10 +115,11 @@ fn pass(
     ensures { λ s. ⌜ s ≡ passed (entriesIn count (now (r .entry)) (now (d .entry)) (now (minutes .entry))) (valueAt (now (order .entry))) p unmoved last count start ⌝ }
 {
     let mut s = start;
-    let mut j: usize = 0;
-    while j < count {
-        let b = d[j];
-        j += 1;
+    let mut x = count;
+    while 0 < x {
+        x -= 1;
+        let i = order[x];
+        let b = d[i];
         if wide(b) <= s {
             continue;
         }

@@ -1,33 +1,45 @@
 -- The loop's invariant is the pass so far; the measure is what is left of the right ends.
 -- Assumes nothing.
 use borrow.Author.Needs.{needs}
-use Prim.Native.Nat.{_-_}
+use Prim.Native.Nat.{_-_, _<_}
 use native.Mathlib.Omega.{arith}
+use borrow.Author.Tests.{not-true, not-false}
+use Rattle.list.specs.DayLists.{mostEntries}
 use Rattle.order.specs.Orders.{valueAt}
 use Rattle.edges.specs.Internal.{entriesIn}
-use borrow.Author.Tests.{not-true, not-false}
 use Rattle.edges.proofs.StartCases.{Passing, passing-none, passing-low, passing-not, passing-row, passed-all}
 use Rattle.edges.proofs.starts.pass.Statement.{statement}
 use Rattle.edges.proofs.starts.pass.Tie as tie
 
 abbrev Inv-loop : tie.InvT-loop
-Inv-loop count r d minutes order p unmoved last start s₀ j₀ s j =
-    Passing (entriesIn count r d minutes) (valueAt order) p unmoved last start j s
+Inv-loop count r d minutes order p unmoved last start s₀ x₀ s x =
+    Passing (entriesIn count r d minutes) (valueAt order) p unmoved last start x s
 
 abbrev μ-loop : tie.MeasureT-loop
-μ-loop count r d minutes order p unmoved last start s₀ j₀ s j = count - j
+μ-loop count r d minutes order p unmoved last start s₀ x₀ s x = x
 
 loop-holds : tie.Need-loop-holds Inv-loop μ-loop
 loop-holds c = passing-none _ _ _ _ _ _
 
+sub-x : tie.Need-sub-x Inv-loop μ-loop
+sub-x c = search needs
+
+mul-i : tie.Need-mul-i Inv-loop μ-loop
+mul-i c = search (needs, c .before .loop .inv .left)
+
+element-copy-out-i : tie.Need-element-copy-out-i Inv-loop μ-loop
+element-copy-out-i c = search (needs, c .before .loop .inv .left)
+
+-- the place that has its turn is one of the arrays'
+below : (c : tie.After-i Inv-loop μ-loop)
+    → valueAt (c .before .before .before .args .order .now) (c .before .before .loop .x - 1) < mostEntries
+below c = c .before .before .before .pre .1 _ (omega (arith, c .before .before .loop .inv .left, c .before .loop-test .taken))
+
 mul-b : tie.Need-mul-b Inv-loop μ-loop
-mul-b c = search needs
+mul-b c = search (needs, below c)
 
 element-copy-out-b : tie.Need-element-copy-out-b Inv-loop μ-loop
-element-copy-out-b c = search needs
-
-add-j : tie.Need-add-j Inv-loop μ-loop
-add-j c = search needs
+element-copy-out-b c = search (needs, below c)
 
 wide-requires : tie.Need-wide-requires Inv-loop μ-loop
 wide-requires c κs = search needs
@@ -37,7 +49,7 @@ loop-less c = search needs
 
 loop-again : tie.Need-loop-again Inv-loop μ-loop
 loop-again c =
-    passing-low _ _ _ _ _ _ _ _ (c .before .before .before .before .loop .inv) (c .before .before .before .loop-test .taken) (omega (arith, c .if1 .taken, c .before .wide .ensures))
+    passing-low _ _ _ _ _ _ _ _ (c .before .before .before .before .before .loop .inv) (c .before .before .before .before .loop-test .taken) (omega (arith, c .if1 .taken, c .before .wide .ensures))
 
 is-asked-requires : tie.Need-is-asked-requires Inv-loop μ-loop
 is-asked-requires c κs = search needs
@@ -47,7 +59,7 @@ loop-less-2 c = search needs
 
 loop-again-2 : tie.Need-loop-again-2 Inv-loop μ-loop
 loop-again-2 c =
-    passing-not _ _ _ _ _ _ _ _ (c .before .before .before .before .before .before .loop .inv) (c .before .before .before .before .before .loop-test .taken)
+    passing-not _ _ _ _ _ _ _ _ (c .before .before .before .before .before .before .before .loop .inv) (c .before .before .before .before .before .before .loop-test .taken)
     (omega (arith, c .before .before .if1 .left, c .before .before .before .wide .ensures)) _ (c .before .is-asked .ensures)
     (not-true _ (c .if2 .taken))
 
@@ -60,11 +72,11 @@ loop-less-3 c = search needs
 loop-again-3 : tie.Need-loop-again-3 Inv-loop μ-loop
 loop-again-3 c =
     rw (c .raise .ensures)
-    (passing-row _ _ _ _ _ _ _ _ (c .before .before .before .before .before .before .before .loop .inv) (c .before .before .before .before .before .before .loop-test .taken)
+    (passing-row _ _ _ _ _ _ _ _ (c .before .before .before .before .before .before .before .before .loop .inv) (c .before .before .before .before .before .before .before .loop-test .taken)
     (omega (arith, c .before .before .before .if1 .left, c .before .before .before .before .wide .ensures)) _ (c .before .before .is-asked .ensures) (not-false _ (c .before .if2 .left)))
 
 returns : tie.Need-returns Inv-loop μ-loop
-returns c = passed-all _ _ _ _ _ _ _ _ (c .before .loop .inv) (c .loop-test .left)
+returns c = passed-all _ _ _ _ _ _ _ _ (c .before .loop .inv) (omega (arith, c .loop-test .left))
 
 pub pass-spec : {M : Type 1} → statement M
 pass-spec =
@@ -73,9 +85,11 @@ pass-spec =
     Inv-loop
     μ-loop
     loop-holds
+    sub-x
+    mul-i
+    element-copy-out-i
     mul-b
     element-copy-out-b
-    add-j
     wide-requires
     loop-less
     loop-again
