@@ -7,7 +7,7 @@ use Rattle.base.specs.Outcomes.{code, Outcome, answered, refused, andThen}
 use Rattle.format.specs.Reading.{readOf}
 use Rattle.format.specs.Writing.{writeOf, bufferAfter}
 use Rattle.list.specs.declared.types.DayList.{DayList}
-use Rattle.jackson.specs.Windows.{windowsOf}
+use Rattle.windows.specs.Windows.{windowsOf}
 use Rattle.jackson.specs.Calls.{testOf, fillOf, planAfter}
 use Rattle.jackson.specs.Minutes.{schedule}
 use Rattle.narrow.specs.Rounds.{Narrowed}

@@ -4,18 +4,18 @@ use mathlib.Core.Path.{_≡_, refl, sym, _∙_}
 use mathlib.Core.Bool.{Bool, true, false, cond, true≢false}
 use Prim.Native.Nat.{ℕ, _+_, _-_, _<_, _≤_}
 use native.Mathlib.Omega.{arith}
-use Rattle.jackson.specs.Windows.{Windows, withD, fixedAt, Formed}
-use Rattle.jackson.specs.Plans.{Plan, IsEnd, endOf, placesIn, PlanBytes, Plannable, Consecutive}
+use Rattle.windows.specs.Windows.{Windows, withD, fixedAt, Formed}
+use Rattle.windows.specs.Plans.{Plan, IsEnd, endOf, placesIn, PlanBytes, Plannable, Consecutive}
 use Rattle.jackson.specs.Laws.{ScheduleLaw}
 use Rattle.base.proofs.Sums.{le-or-lt}
-use Rattle.jackson.proofs.PlanFacts.{minutes-within, other-windows, plan-end, end-due}
+use Rattle.windows.proofs.PlanFacts.{minutes-within, other-windows, plan-end, end-due}
 use Rattle.jackson.proofs.Law.{schedule-law}
 use Rattle.narrow.specs.Searching.{Test}
 use Rattle.narrow.specs.Settling.{Settled}
 use Rattle.narrow.proofs.Planners.{Planner}
-use Rattle.jackson.proofs.Room.{formed-roomy}
-use Rattle.jackson.proofs.Puts.{place-cases, put-same, with-d, consecutive-fixed, fixed-consecutive}
-use Rattle.jackson.proofs.Puts.{own-deadline, deadline-widen, deadline-formed}
+use Rattle.windows.proofs.Room.{formed-roomy}
+use Rattle.windows.proofs.Puts.{place-cases, put-same, with-d, consecutive-fixed, fixed-consecutive}
+use Rattle.windows.proofs.Puts.{own-deadline, deadline-widen, deadline-formed}
 use Rattle.bounds.specs.Ends.{leastEnd, Keeping}
 use Rattle.bounds.specs.ShownPlans.{earlyPlan, IsEarly}
 use Rattle.bounds.proofs.EndSearches.{deadline-exact, least-end-whole, least-end-first, least-end-range}

@@ -9,20 +9,20 @@ use lib.ListN.{getD, replicate}
 use Rattle.list.specs.DayLists.{byPlace}
 use Rattle.list.specs.Refusals.{verdictOf}
 use Rattle.list.specs.declared.types.Verdict.{Verdict}
-use Rattle.jackson.specs.Windows.{Windows, windowsIn, roomFault, Formed}
-use Rattle.jackson.specs.Plans.{Plannable}
-use Rattle.jackson.specs.Mirrors.{MirrorOf, mirror}
-use Rattle.jackson.specs.Intervals.{overloadOf}
-use Rattle.jackson.specs.declared.types.WindowSet.{WindowSet}
+use Rattle.windows.specs.Windows.{Windows, windowsIn, roomFault, Formed}
+use Rattle.windows.specs.Plans.{Plannable}
+use Rattle.windows.specs.Mirrors.{MirrorOf, mirror}
+use Rattle.windows.specs.Intervals.{overloadOf}
+use Rattle.windows.specs.declared.types.WindowSet.{WindowSet}
 use Rattle.list.proofs.ByPlace.{by-place, by-place-same}
 use Rattle.base.specs.Outcomes.{accepts}
 use Rattle.base.proofs.Inversion.{accepted-answered}
-use Rattle.jackson.proofs.Room.{passes-formed}
+use Rattle.windows.proofs.Room.{passes-formed}
 use Rattle.edges.specs.Ends.{closedEnd}
 use Rattle.edges.proofs.EndLaws.{end-law}
 use Rattle.narrow.proofs.OverloadPlanner.{overload-planner}
 use Rattle.narrow.proofs.MirrorSearches.{planner-in-mirror}
-use Rattle.jackson.proofs.MirrorWindows.{formed-mirror}
+use Rattle.windows.proofs.MirrorWindows.{formed-mirror}
 use Rattle.bounds.specs.Ends.{leastEnd, leastEnds, greatestStarts}
 use Rattle.bounds.specs.Calls.{HoldsBounds}
 use Rattle.bounds.proofs.EndSearches.{least-end-whole, least-end-found, least-end-range, closed-deadline, given-deadline}

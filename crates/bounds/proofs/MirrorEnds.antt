@@ -4,14 +4,14 @@ use mathlib.Core.Path.{_≡_, sym, ap}
 use mathlib.Core.Bool.{Bool, true, false, cond}
 use Prim.Native.Nat.{ℕ, _+_, _-_, _<_, _≤_}
 use native.Mathlib.Omega.{arith}
-use Rattle.jackson.specs.Windows.{Windows, withR, withD, Formed}
-use Rattle.jackson.specs.Mirrors.{mirror, mirrorBytes}
+use Rattle.windows.specs.Windows.{Windows, withR, withD, Formed}
+use Rattle.windows.specs.Mirrors.{mirror, mirrorBytes}
 use Rattle.jackson.specs.Minutes.{schedule}
 use Rattle.base.proofs.Searches.{first-cong}
 use Rattle.narrow.specs.Searching.{Test}
 use Rattle.base.specs.Outcomes.{accepts}
 use Rattle.narrow.proofs.Planners.{Planner}
-use Rattle.jackson.proofs.MirrorWindows.{with-r-mirror, with-d-mirror}
+use Rattle.windows.proofs.MirrorWindows.{with-r-mirror, with-d-mirror}
 use Rattle.narrow.proofs.MirrorSearches.{planner-in-mirror}
 use Rattle.narrow.proofs.StepsKeep.{keeps-r}
 use Rattle.narrow.proofs.Exact.{in-mirror}

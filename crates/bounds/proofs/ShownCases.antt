@@ -15,20 +15,20 @@ use Rattle.list.specs.declared.types.Refusal.the-variants.{PlanBufferShort, Unk
 use Rattle.list.specs.declared.types.Verdict.{Verdict}
 use Rattle.list.specs.declared.types.Verdict.the-variants.{Accepted, Refused}
 use Rattle.list.proofs.Verdicts.{by-accepted, by-refused}
-use Rattle.jackson.specs.Windows.{Windows, windowsIn, withD, roomFault, Formed, Searchable}
-use Rattle.jackson.specs.Plans.{idle, placesIn}
-use Rattle.jackson.specs.Mirrors.{mirror, mirrorBytes, MirrorOf}
-use Rattle.jackson.specs.Intervals.{overloadOf}
+use Rattle.windows.specs.Windows.{Windows, windowsIn, withD, roomFault, Formed, Searchable}
+use Rattle.windows.specs.Plans.{idle, placesIn}
+use Rattle.windows.specs.Mirrors.{mirror, mirrorBytes, MirrorOf}
+use Rattle.windows.specs.Intervals.{overloadOf}
+use Rattle.windows.specs.declared.types.WindowSet.{WindowSet}
 use Rattle.jackson.specs.Calls.{FillsWindows}
-use Rattle.jackson.specs.declared.types.WindowSet.{WindowSet}
 use Rattle.base.proofs.Sums.{le-or-lt, same-cases}
 use Rattle.base.proofs.Listed.{list-same, list-length}
-use Rattle.jackson.proofs.Room.{passes-formed}
+use Rattle.windows.proofs.Room.{passes-formed}
+use Rattle.windows.proofs.PlanFacts.{place-read, mirror-at}
 use Rattle.jackson.proofs.Schedules.{schedule-long}
 use Rattle.jackson.proofs.StoredPlans.{filled-with}
-use Rattle.jackson.proofs.PlanFacts.{place-read, mirror-at}
 use Rattle.narrow.proofs.OverloadPlanner.{overload-planner}
-use Rattle.jackson.proofs.MirrorWindows.{formed-mirror}
+use Rattle.windows.proofs.MirrorWindows.{formed-mirror}
 use Rattle.bounds.specs.Ends.{leastEnd, greatestStart}
 use Rattle.bounds.specs.ShownPlans.{earlyPlan, latePlan, shownPlan}
 use Rattle.bounds.specs.Calls.{showRows, StoresPlan}

@@ -5,7 +5,7 @@ use mathlib.Core.Bool.{Bool}
 use Prim.Native.Nat.{ℕ}
 use lib.ListN.{length}
 use Rattle.base.proofs.Listed.{list-length}
-use Rattle.jackson.specs.Windows.{Windows}
+use Rattle.windows.specs.Windows.{Windows}
 use Rattle.jackson.proofs.Schedules.{schedule-long}
 use Rattle.bounds.specs.Ends.{leastEnd, greatestStart}
 use Rattle.bounds.specs.ShownPlans.{earlyPlan, latePlan, boundOf, shownPlan}

@@ -5,15 +5,15 @@ use mathlib.Core.Bool.{Bool}
 use mathlib.Core.List.{List}
 use Prim.Native.Nat.{ℕ, _+_, _-_, _<_, _≤_, min}
 use native.Mathlib.Omega.{arith}
-use Rattle.jackson.specs.Windows.{Windows, Formed}
-use Rattle.jackson.specs.Plans.{IsStart, placesIn, PlanBytes, Consecutive}
-use Rattle.jackson.specs.Mirrors.{mirror, mirrorBytes}
-use Rattle.jackson.proofs.PlanFacts.{minutes-within, mirror-plan, mirror-at, mirror-bytes}
+use Rattle.windows.specs.Windows.{Windows, Formed}
+use Rattle.windows.specs.Plans.{IsStart, placesIn, PlanBytes, Consecutive}
+use Rattle.windows.specs.Mirrors.{mirror, mirrorBytes}
+use Rattle.windows.proofs.PlanFacts.{minutes-within, mirror-plan, mirror-at, mirror-bytes}
 use Rattle.narrow.specs.Searching.{Test}
 use Rattle.narrow.specs.Settling.{Settled}
 use Rattle.narrow.proofs.Planners.{Planner}
-use Rattle.jackson.proofs.MirrorWindows.{formed-mirror, mirror-back, with-d-mirror}
-use Rattle.jackson.proofs.MirrorMinutes.{mirror-bytes-twice, start-in-mirror, end-in-mirror, consecutive-same, consecutive-mirror}
+use Rattle.windows.proofs.MirrorWindows.{formed-mirror, mirror-back, with-d-mirror}
+use Rattle.windows.proofs.MirrorMinutes.{mirror-bytes-twice, start-in-mirror, end-in-mirror, consecutive-same, consecutive-mirror}
 use Rattle.jackson.proofs.OneSchedule.{follows-same}
 use Rattle.narrow.proofs.MirrorSettled.{settled-mirror}
 use Rattle.bounds.specs.Ends.{leastEnd, greatestStart, Keeping}

@@ -8,7 +8,7 @@ use lib.Dec.{leb}
 use Rattle.base.specs.Outcomes.{Outcome, answered, Row, row, firstOf, andThen, accepts}
 use Rattle.list.specs.DayLists.{mostEntries}
 use Rattle.list.specs.Refusals.{verdictOf}
-use Rattle.jackson.specs.Windows.{Windows, roomFault}
+use Rattle.windows.specs.Windows.{Windows, roomFault}
 use Rattle.jackson.specs.Calls.{bufferRow}
 use Rattle.bounds.specs.Ends.{leastEnds, greatestStarts}
 use Rattle.bounds.specs.ShownPlans.{boundOf, shownPlan}

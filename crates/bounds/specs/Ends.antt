@@ -5,9 +5,9 @@ use mathlib.Core.Bool.{Bool, true, cond}
 use mathlib.Core.List.{List}
 use Rattle.base.specs.Counting.{firstBelow}
 use Rattle.list.specs.DayLists.{byPlace}
-use Rattle.jackson.specs.Windows.{Windows, withR, withD}
-use Rattle.jackson.specs.Plans.{Plan, Consecutive}
-use Rattle.jackson.specs.Intervals.{overloadOf}
+use Rattle.windows.specs.Windows.{Windows, withR, withD}
+use Rattle.windows.specs.Plans.{Plan, Consecutive}
+use Rattle.windows.specs.Intervals.{overloadOf}
 use Rattle.narrow.specs.Searching.{Test}
 use Rattle.base.specs.Outcomes.{accepts}
 

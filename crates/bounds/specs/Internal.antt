@@ -1,10 +1,10 @@
--- What private functions promise each other, beside `Formed` and `Searchable` of the crate jackson. No public promise cites these.
+-- What private functions promise each other, beside `Formed` and `Searchable` of the crate windows. No public promise cites these.
 use Prim.Native.Nat.{ℕ}
 use mathlib.Core.Path.{_≡_}
 use mathlib.Core.Bool.{Bool}
 use mathlib.Core.List.{List, _++_}
 use lib.ListN.{drop}
-use Rattle.jackson.specs.Windows.{Windows}
+use Rattle.windows.specs.Windows.{Windows}
 use Rattle.bounds.specs.ShownPlans.{boundOf, shownPlan}
 use Rattle.bounds.specs.declared.types.Shown.{Shown}
 

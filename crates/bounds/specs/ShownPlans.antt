@@ -3,10 +3,10 @@ use Prim.Native.Nat.{ℕ}
 use mathlib.Core.Path.{_≡_}
 use mathlib.Core.Bool.{Bool}
 use mathlib.Core.List.{List}
-use Rattle.jackson.specs.Windows.{Windows, withR, withD}
-use Rattle.jackson.specs.Plans.{IsEnd, IsStart, placesIn, PlanBytes}
-use Rattle.jackson.specs.Mirrors.{mirror, mirrorPlan, mirrorBytes}
-use Rattle.jackson.specs.Intervals.{overloadOf}
+use Rattle.windows.specs.Windows.{Windows, withR, withD}
+use Rattle.windows.specs.Plans.{IsEnd, IsStart, placesIn, PlanBytes}
+use Rattle.windows.specs.Mirrors.{mirror, mirrorPlan, mirrorBytes}
+use Rattle.windows.specs.Intervals.{overloadOf}
 use Rattle.jackson.specs.Minutes.{schedule, FollowsJackson}
 use Rattle.bounds.specs.Ends.{leastEnd, greatestStart, Keeping}
 use Rattle.bounds.specs.declared.types.Shown.{Shown}

@@ -1,21 +1,21 @@
 // Least ends and greatest starts.
 use crate::types::Bounds;
 use edges::closed_ends;
-use jackson::mirrored;
-use jackson::room_fault;
-use jackson::types::WindowSet;
-use jackson::unchecked_overload;
-use jackson::zeros;
 use list::is_accepted;
 use list::places_held;
 use list::types::ENTRIES;
+use windows::mirrored;
+use windows::room_fault;
+use windows::types::WindowSet;
+use windows::unchecked_overload;
+use windows::zeros;
 ghost use mathlib.Core.Path.{_≡_};
 ghost use mathlib.Core.Bool.{true, cond};
 ghost use Prim.Native.Nat.{_+_, _≤_};
 ghost use Rattle.base.specs.Outcomes.{accepts};
 ghost use Rattle.list.specs.DayLists.{marked};
-ghost use Rattle.jackson.specs.Windows.{windowsIn, Formed, Searchable};
-ghost use Rattle.jackson.specs.Intervals.{overloadOf};
+ghost use Rattle.windows.specs.Windows.{windowsIn, Formed, Searchable};
+ghost use Rattle.windows.specs.Intervals.{overloadOf};
 ghost use Rattle.bounds.specs.Ends.{leastEnd, leastEnds, greatestStarts};
 ghost use Rattle.bounds.specs.Calls.{HoldsBounds};
 

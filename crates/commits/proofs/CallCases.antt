@@ -16,7 +16,7 @@ use Rattle.list.specs.declared.types.DayList.{DayList}
 use Rattle.list.specs.declared.types.Refusal.{Refusal}
 use Rattle.list.specs.declared.types.Verdict.{Verdict}
 use Rattle.list.specs.declared.types.Verdict.the-variants.{Accepted, Refused}
-use Rattle.jackson.specs.Windows.{windowsOf}
+use Rattle.windows.specs.Windows.{windowsOf}
 use Rattle.list.proofs.Verdicts.{by-verdict}
 use Rattle.narrow.specs.Rounds.{Narrowed}
 use Rattle.narrow.specs.Calls.{settleOf, Settles}

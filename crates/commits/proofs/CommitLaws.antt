@@ -10,7 +10,7 @@ use Rattle.list.specs.declared.types.Entry.{Entry}
 use Rattle.list.specs.declared.types.Verdict.{Verdict}
 use Rattle.list.specs.declared.types.Verdict.the-variants.{Accepted, Refused}
 use Rattle.list.proofs.Verdicts.{by-verdict}
-use Rattle.jackson.specs.Windows.{windowsOf}
+use Rattle.windows.specs.Windows.{windowsOf}
 use Rattle.narrow.specs.Rounds.{Narrowed}
 use Rattle.commits.specs.Calls.{commitOf, dayAfter, Asks, Commits}
 use Rattle.commits.specs.Laws.{AskLaw, CommitLaw}

@@ -17,8 +17,8 @@ use Rattle.list.specs.declared.types.Verdict.{Verdict}
 use Rattle.list.specs.declared.types.Verdict.the-variants.{Accepted, Refused}
 use Rattle.list.proofs.Verdicts.{by-verdict}
 use Rattle.list.proofs.Sound.{sound-list, list-apart, well-formed}
-use Rattle.jackson.specs.Windows.{windowsOf}
-use Rattle.jackson.specs.Intervals.{overloadOf}
+use Rattle.windows.specs.Windows.{windowsOf}
+use Rattle.windows.specs.Intervals.{overloadOf}
 use Rattle.narrow.specs.Rounds.{Narrowed, narrowing}
 use Rattle.narrow.specs.Calls.{settleOf}
 use Rattle.narrow.proofs.ListAnswers.{settle-keeps}

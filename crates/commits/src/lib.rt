@@ -3,7 +3,7 @@
 // again and appends the entry exactly when that gives a plan; `no_day` is what stands beside a refusal. Each is total: its contract states
 // the answer, the day and what the lent plan buffer holds by equality with definitions of specs/, for every value, and beside that demands
 // 2 and 3 of the longer list. The statement over every list of asks and commits is `RunLaw` of specs/Runs.antt. Uses the crates list,
-// narrow and planner by their stated answers, and of base and jackson definitions.
+// narrow and planner by their stated answers, and of base, windows and jackson definitions.
 mod calls;
 mod lists;
 pub mod types;

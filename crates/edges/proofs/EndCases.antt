@@ -15,11 +15,11 @@ use Rattle.base.proofs.Permutations.{once-in, once-has, once-one, once-sum}
 use Rattle.base.proofs.Listed.{list-is}
 use Rattle.list.specs.DayLists.{byPlace}
 use Rattle.order.specs.Orders.{valueAt, HoldsOrder}
-use Rattle.jackson.specs.Windows.{Windows, columns}
-use Rattle.jackson.specs.Intervals.{work}
-use Rattle.jackson.specs.RunningSums.{LatestReleaseFirst, entered}
-use Rattle.jackson.proofs.Puts.{put-cases}
-use Rattle.jackson.proofs.ArrayCases.{set-put}
+use Rattle.windows.specs.Windows.{Windows, columns}
+use Rattle.windows.specs.Intervals.{work}
+use Rattle.windows.specs.RunningSums.{LatestReleaseFirst, entered}
+use Rattle.windows.proofs.Puts.{put-cases}
+use Rattle.windows.proofs.ArrayCases.{set-put}
 use Rattle.edges.specs.Ends.{largest, closedEnd}
 use Rattle.edges.specs.Internal.{entriesIn, MinutesBy, DueBy, LaterEnd, workEnd, latestEnd, askedAfter, askedAt}
 use Rattle.edges.specs.Internal.{EndsBy, Raises, FirstEnds, AtPlaces}

@@ -4,13 +4,13 @@ use mathlib.Core.Path.{_≡_}
 use Prim.Native.Nat.{ℕ, suc, _+_, _-_, _<_, _≤_, min, max}
 use native.Mathlib.Omega.{arith}
 use Rattle.base.proofs.Sums.{le-or-lt, between-is, between-le}
-use Rattle.jackson.specs.Windows.{Windows, withD, withWindow, Formed}
-use Rattle.jackson.specs.Plans.{Plannable}
-use Rattle.jackson.specs.Intervals.{work, Fits}
-use Rattle.jackson.proofs.Endpoints.{Spans, work-wider, work-spans}
+use Rattle.windows.specs.Windows.{Windows, withD, withWindow, Formed}
+use Rattle.windows.specs.Plans.{Plannable}
+use Rattle.windows.specs.Intervals.{work, Fits}
+use Rattle.windows.proofs.Endpoints.{Spans, work-wider, work-spans}
+use Rattle.windows.proofs.Puts.{with-d, own-deadline, deadline-formed}
+use Rattle.windows.proofs.Room.{formed-roomy}
 use Rattle.jackson.proofs.Law.{plan-law}
-use Rattle.jackson.proofs.Puts.{with-d, own-deadline, deadline-formed}
-use Rattle.jackson.proofs.Room.{formed-roomy}
 use Rattle.edges.specs.Starts.{others}
 use Rattle.edges.specs.Ends.{largest, endAfter, askedOf, closedEnd}
 use Rattle.edges.specs.Laws.{EndLaw}

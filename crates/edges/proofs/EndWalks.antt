@@ -5,11 +5,11 @@ use Prim.Native.Nat.{ℕ, zero, suc, _+_, _-_, _<_, _≤_}
 use native.Mathlib.Omega.{arith}
 use Rattle.base.proofs.Sums.{le-or-lt, between-is, between-le}
 use Rattle.base.proofs.Permutations.{once-in, once-has}
-use Rattle.jackson.specs.Windows.{Windows}
-use Rattle.jackson.specs.Intervals.{work}
-use Rattle.jackson.specs.RunningSums.{LatestReleaseFirst}
-use Rattle.jackson.proofs.Endpoints.{work-wider}
-use Rattle.jackson.proofs.RunningSums.{falls, entered-within, entered-all}
+use Rattle.windows.specs.Windows.{Windows}
+use Rattle.windows.specs.Intervals.{work}
+use Rattle.windows.specs.RunningSums.{LatestReleaseFirst}
+use Rattle.windows.proofs.Endpoints.{work-wider}
+use Rattle.windows.proofs.RunningSums.{falls, entered-within, entered-all}
 use Rattle.edges.specs.Ends.{largest, endAfter, askedOf, closedEnd}
 use Rattle.edges.specs.Internal.{workEnd, latestEnd, askedAt, endAt}
 use Rattle.edges.proofs.Largest.{largest-over, largest-cases, largest-under, largest-same}

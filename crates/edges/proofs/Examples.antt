@@ -2,7 +2,7 @@
 -- Assumes nothing.
 use mathlib.Core.Path.{refl}
 use Rattle.base.specs.Counting.{sum, listOf}
-use Rattle.jackson.specs.Intervals.{work}
+use Rattle.windows.specs.Intervals.{work}
 use Rattle.edges.specs.Ends.{largest, closedEnd}
 use Rattle.edges.specs.Examples.{EndExamples}
 

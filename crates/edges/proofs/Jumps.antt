@@ -11,12 +11,12 @@ use Rattle.base.specs.Counting.{sum}
 use Rattle.base.proofs.Sums.{le-or-lt, same-cases, between-le, sum-cong, sum-more}
 use Rattle.base.proofs.Permutations.{once-in, once-has, once-sum}
 use Rattle.base.proofs.Searches.{reverse-twice}
-use Rattle.jackson.specs.Windows.{Windows}
-use Rattle.jackson.specs.Intervals.{work, Fits}
-use Rattle.jackson.specs.RunningSums.{LatestReleaseFirst, entered}
-use Rattle.jackson.proofs.IntervalWork.{inInterval}
-use Rattle.jackson.proofs.RunningSums.{falls}
-use Rattle.jackson.proofs.Endpoints.{work-wider, Spans, work-spans}
+use Rattle.windows.specs.Windows.{Windows}
+use Rattle.windows.specs.Intervals.{work, Fits}
+use Rattle.windows.specs.RunningSums.{LatestReleaseFirst, entered}
+use Rattle.windows.proofs.IntervalWork.{inInterval}
+use Rattle.windows.proofs.RunningSums.{falls}
+use Rattle.windows.proofs.Endpoints.{work-wider, Spans, work-spans}
 use Rattle.edges.specs.Starts.{jumped, raised, asks, passed}
 
 -- what holds of both answers of a test

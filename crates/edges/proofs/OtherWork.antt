@@ -10,14 +10,14 @@ use lib.Dec.{leb}
 use Rattle.base.specs.Counting.{sum}
 use Rattle.base.proofs.Sums.{between-is, between-le}
 use Rattle.base.proofs.Permutations.{sum-apart}
-use Rattle.jackson.specs.Windows.{Windows, withWindows, withWindow, put, Formed}
-use Rattle.jackson.specs.Plans.{Plannable}
-use Rattle.jackson.specs.Intervals.{work, Fits}
+use Rattle.windows.specs.Windows.{Windows, withWindows, withWindow, put, Formed}
+use Rattle.windows.specs.Plans.{Plannable}
+use Rattle.windows.specs.Intervals.{work, Fits}
+use Rattle.windows.proofs.IntervalWork.{inInterval}
+use Rattle.windows.proofs.Puts.{put-back}
+use Rattle.windows.proofs.Room.{formed-roomy}
 use Rattle.jackson.specs.Laws.{PlanLaw}
-use Rattle.jackson.proofs.IntervalWork.{inInterval}
 use Rattle.jackson.proofs.Law.{plan-law}
-use Rattle.jackson.proofs.Puts.{put-back}
-use Rattle.jackson.proofs.Room.{formed-roomy}
 use Rattle.edges.specs.Starts.{others}
 
 cond-none : (t : Bool) → _≡_ {A = ℕ} (cond t 0 0) 0

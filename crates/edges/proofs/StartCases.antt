@@ -13,10 +13,10 @@ use Rattle.base.specs.Counting.{sum}
 use Rattle.base.proofs.Permutations.{once-in}
 use Rattle.order.specs.Orders.{valueAt, HoldsOrder}
 use Rattle.order.proofs.OneOrder.{one-array}
-use Rattle.jackson.specs.Windows.{Windows, windowsIn, put}
-use Rattle.jackson.specs.declared.types.WindowSet.{WindowSet}
-use Rattle.jackson.proofs.ArrayCases.{set-put}
-use Rattle.jackson.specs.RunningSums.{entered}
+use Rattle.windows.specs.Windows.{Windows, windowsIn, put}
+use Rattle.windows.specs.declared.types.WindowSet.{WindowSet}
+use Rattle.windows.proofs.ArrayCases.{set-put}
+use Rattle.windows.specs.RunningSums.{entered}
 use Rattle.edges.specs.Starts.{jumped, raised, asks, passed, startFrom}
 use Rattle.edges.specs.declared.types.Found.{Found}
 use Rattle.edges.specs.declared.types.Found.the-variants.{Minute, NoMinute}

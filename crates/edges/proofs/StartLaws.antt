@@ -7,14 +7,14 @@ use native.Mathlib.Omega.{arith}
 use borrow.Author.Tests.{lt-ltb, le-ltb, ltb-true, ltb-false, eqb-true, eqb-false}
 use lib.Dec.{eqb, ltb}
 use Rattle.base.proofs.Sums.{le-or-lt}
-use Rattle.jackson.specs.Windows.{Windows, withWindow, fixedAt, Formed}
-use Rattle.jackson.specs.Plans.{Plannable}
-use Rattle.jackson.specs.Intervals.{work, Fits}
-use Rattle.jackson.specs.RunningSums.{LatestReleaseFirst}
-use Rattle.jackson.proofs.Endpoints.{work-wider}
+use Rattle.windows.specs.Windows.{Windows, withWindow, fixedAt, Formed}
+use Rattle.windows.specs.Plans.{Plannable}
+use Rattle.windows.specs.Intervals.{work, Fits}
+use Rattle.windows.specs.RunningSums.{LatestReleaseFirst}
+use Rattle.windows.proofs.Endpoints.{work-wider}
+use Rattle.windows.proofs.Puts.{put-other, fixed-formed}
+use Rattle.windows.proofs.Room.{formed-roomy}
 use Rattle.jackson.proofs.Law.{plan-law}
-use Rattle.jackson.proofs.Puts.{put-other, fixed-formed}
-use Rattle.jackson.proofs.Room.{formed-roomy}
 use Rattle.edges.specs.Starts.{others, asks, passed, startFrom, startByJumps}
 use Rattle.edges.specs.Laws.{NoStartBefore, LeastFound, StartLaw}
 use Rattle.edges.specs.declared.types.Found.{Found}

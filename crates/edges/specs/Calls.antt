@@ -3,8 +3,8 @@ use Prim.Native.Nat.{ℕ, _<_}
 use mathlib.Core.Path.{_≡_}
 use mathlib.Core.List.{List}
 use Rattle.order.specs.Orders.{valueAt, HoldsOrder}
-use Rattle.jackson.specs.Windows.{Windows, Formed}
-use Rattle.jackson.specs.Plans.{Plannable}
+use Rattle.windows.specs.Windows.{Windows, Formed}
+use Rattle.windows.specs.Plans.{Plannable}
 use Rattle.edges.specs.Starts.{startByJumps}
 use Rattle.edges.specs.Laws.{StartLaw}
 use Rattle.edges.specs.declared.types.Found.{Found}

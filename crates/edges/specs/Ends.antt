@@ -3,8 +3,8 @@
 use Prim.Native.Nat.{ℕ, zero, suc, _+_, min, max}
 use mathlib.Core.Bool.{cond, _&&_}
 use lib.Dec.{ltb}
-use Rattle.jackson.specs.Windows.{Windows}
-use Rattle.jackson.specs.Intervals.{work}
+use Rattle.windows.specs.Windows.{Windows}
+use Rattle.windows.specs.Intervals.{work}
 
 -- the largest of x and f 0, .., f (n - 1)
 unfoldable pub largest : ℕ → ℕ → (ℕ → ℕ) → ℕ

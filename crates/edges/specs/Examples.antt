@@ -3,7 +3,7 @@ use mathlib.Core.Path.{_≡_}
 use mathlib.Core.List.{[], _∷_, _++_}
 use lib.ListN.{replicate}
 use Rattle.list.specs.DayLists.{byPlace}
-use Rattle.jackson.specs.Windows.{Windows, columns}
+use Rattle.windows.specs.Windows.{Windows, columns}
 use Rattle.edges.specs.Ends.{endAfter, askedOf, closedEnd}
 
 -- a day of six minutes: [0, 6) p 2, and [1, 4) p 3, an interval that is full

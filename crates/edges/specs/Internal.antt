@@ -8,8 +8,8 @@ use lib.ListN.{length}
 use Rattle.base.specs.Counting.{sum}
 use Rattle.list.specs.DayLists.{mostEntries}
 use Rattle.order.specs.Orders.{valueAt}
-use Rattle.jackson.specs.Windows.{Windows, columns}
-use Rattle.jackson.specs.RunningSums.{entered}
+use Rattle.windows.specs.Windows.{Windows, columns}
+use Rattle.windows.specs.RunningSums.{entered}
 use Rattle.edges.specs.Starts.{jumped}
 use Rattle.edges.specs.Ends.{largest}
 use Rattle.edges.specs.declared.starts.Row.{Row}

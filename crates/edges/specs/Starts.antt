@@ -3,8 +3,8 @@
 use Prim.Native.Nat.{ℕ, zero, suc, _+_, _-_, min}
 use mathlib.Core.Bool.{Bool, true, cond, _&&_}
 use lib.Dec.{eqb, leb, ltb}
-use Rattle.jackson.specs.Windows.{Windows, put}
-use Rattle.jackson.specs.RunningSums.{entered}
+use Rattle.windows.specs.Windows.{Windows, put}
+use Rattle.windows.specs.RunningSums.{entered}
 use Rattle.edges.specs.declared.types.Found.{Found}
 use Rattle.edges.specs.declared.types.Found.the-variants.{Minute, NoMinute}
 

@@ -1,15 +1,15 @@
 // Least ends in closed form: for each right end one walk over the left ends, from the smallest r up, for all entries at once.
-use jackson::types::WindowSet;
 use list::places_held;
 use list::types::ENTRIES;
 use order::largest_first;
+use windows::types::WindowSet;
 ghost use mathlib.Core.Path.{_≡_};
 ghost use Prim.Native.Nat.{_+_, _*_, _≤_, max};
 ghost use lib.ListN.{length};
 ghost use Rattle.base.specs.Counting.{EachOnce};
 ghost use Rattle.list.specs.DayLists.{mostEntries, byPlace};
 ghost use Rattle.order.specs.Orders.{valueAt};
-ghost use Rattle.jackson.specs.Windows.{windowsIn};
+ghost use Rattle.windows.specs.Windows.{windowsIn};
 ghost use Rattle.edges.specs.Ends.{closedEnd};
 ghost use Rattle.edges.specs.Internal.{entriesIn, MinutesBy, DueBy, LaterEnd, askedAfter, EndsBy, Raises, FirstEnds, AtPlaces};
 

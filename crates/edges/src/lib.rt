@@ -2,8 +2,8 @@
 // entries, in closed form.
 // Promises: `least_start` finds the least start of an entry, `closed_ends` gives the least ends of all entries as pause entries. Each is
 // total: its contract states the answer by equality with definitions of specs/, for every value; what these are over all plans is stated in
-// specs/Laws.antt, for windows with room that have a plan. Uses the crates base, list and order, and of the crate jackson its windows, the
-// running sum and the law that a plan exists exactly without overload.
+// specs/Laws.antt, for windows with room that have a plan. Uses the crates base, list, order and windows, and of the crate jackson the law
+// that a plan exists exactly without overload.
 mod ends;
 mod starts;
 pub mod types;

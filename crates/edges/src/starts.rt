@@ -1,15 +1,15 @@
 // The search for an entry's least start by jumps.
 use crate::types::Found;
-use jackson::types::WindowSet;
 use list::places_held;
 use list::types::ENTRIES;
 use order::largest_first;
+use windows::types::WindowSet;
 ghost use mathlib.Core.Path.{_≡_};
 ghost use Prim.Native.Nat.{_+_, _<_, _≤_, min};
 ghost use lib.Dec.{eqb, ltb};
 ghost use Rattle.list.specs.DayLists.{mostEntries};
 ghost use Rattle.order.specs.Orders.{valueAt};
-ghost use Rattle.jackson.specs.Windows.{windowsIn};
+ghost use Rattle.windows.specs.Windows.{windowsIn};
 ghost use Rattle.edges.specs.Starts.{jumped, raised, asks, passed};
 ghost use Rattle.edges.specs.Calls.{FindsStart};
 ghost use Rattle.edges.specs.Internal.{entriesIn, ListsPlaces, Enters};

@@ -1,46 +1,18 @@
 -- Lists that are planned alike: those that differ in their opening minute, serials, seals and kinds alone, if the value check answers both
 -- alike, and so those equal by the documents' rule.
 -- Assumes nothing.
-use mathlib.Core.Path.{_≡_, refl, sym, ap, _∙_}
-use mathlib.Core.List.{List, [], _∷_, _++_, map}
+use mathlib.Core.Path.{_≡_, refl, ap}
+use mathlib.Core.List.{List, [], _∷_, _++_}
 use Prim.Native.Nat.{ℕ}
-use lib.ListN.{length, getD, drop, length-map, List·getD-map}
+use lib.ListN.{drop}
 use Rattle.base.specs.Outcomes.{Outcome, answered, refused, firstOf, andThen}
 use Rattle.list.specs.Checks.{checkOf}
-use Rattle.list.specs.DayLists.{entriesOf, blank, SameList}
-use Rattle.list.specs.declared.types.Entry.{Entry}
-use Rattle.list.specs.declared.types.Frame.{Frame}
 use Rattle.list.specs.declared.types.DayList.{DayList}
-use Rattle.jackson.specs.Windows.{Windows, windowsOf, plain, SameWindows}
+use Rattle.windows.specs.Windows.{Windows, windowsOf, SameWindows}
+use Rattle.windows.specs.Intervals.{overloadOf}
+use Rattle.windows.proofs.AlikeWindows.{alike-windows}
 use Rattle.jackson.specs.Minutes.{dayStart, schedule}
-use Rattle.jackson.specs.Intervals.{overloadOf}
 use Rattle.jackson.specs.Calls.{testOf, listBeside, bufferRow, fillOf, planAfter}
-
--- lists that are equal have the same numbers
-pub same-alike : {a b : DayList} → SameList a b → SameWindows a b
-same-alike s = record { h = ap (λ (f : Frame). f .h) (s .frame); n = s .n; entries = ap (map plain) (s .entries) }
-
-module _ {a b : DayList} (s : SameWindows a b) where
-  -- lists of the same numbers have the same windows
-  pub alike-windows : windowsOf a ≡ windowsOf b
-  alike-windows =
-      λ j.
-      record {
-        h = s .h j;
-        n = count j;
-        r = λ i. numbers i j .r;
-        d = λ i. numbers i j .d;
-        p = λ i. numbers i j .p;
-      }
-    where
-      count : length (entriesOf a) ≡ length (entriesOf b)
-      count = sym (length-map (entriesOf a) plain) ∙ ap length (s .entries) ∙ length-map (entriesOf b) plain
-
-      numbers : (i : ℕ) → plain (getD (entriesOf a) i blank) ≡ plain (getD (entriesOf b) i blank)
-      numbers i =
-          sym (List·getD-map plain (entriesOf a) i blank)
-          ∙ ap (λ (es : List Entry). getD es i blank) (s .entries)
-          ∙ List·getD-map plain (entriesOf b) i blank
 
 -- Where the value check answers both alike, as it does if both pass (`both-pass`) or have the same opening minute and serials
 -- (`serials-checked`), the calls answer the same, and leave the same in a plan buffer.

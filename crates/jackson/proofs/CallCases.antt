@@ -18,12 +18,13 @@ use Rattle.list.specs.declared.types.Verdict.the-variants.{Accepted, Refused}
 use Rattle.list.specs.declared.types.DayList.{DayList}
 use Rattle.list.proofs.Verdicts.{by-accepted, by-refused}
 use Rattle.base.specs.Counting.{listOf}
-use Rattle.jackson.specs.Windows.{Windows, windowsOf, windowsIn}
+use Rattle.windows.specs.Windows.{Windows, windowsOf, windowsIn}
+use Rattle.windows.specs.Intervals.{overloadOf}
+use Rattle.windows.specs.Calls.{Holds}
+use Rattle.windows.specs.declared.types.WindowSet.{WindowSet}
 use Rattle.jackson.specs.Minutes.{State, stateIn, dayStart, chosen, placeAt, schedule}
-use Rattle.jackson.specs.Intervals.{overloadOf}
-use Rattle.jackson.specs.Calls.{Holds, Tests, testOf, Advances, Starts, Fills, FillsWindows, listBeside, fillOf, planAfter}
+use Rattle.jackson.specs.Calls.{Tests, testOf, Advances, Starts, Fills, FillsWindows, listBeside, fillOf, planAfter}
 use Rattle.jackson.specs.Internal.{IsAfter, Fillable}
-use Rattle.jackson.specs.declared.types.WindowSet.{WindowSet}
 use Rattle.jackson.specs.declared.types.Day.{Day}
 use Rattle.jackson.specs.declared.types.DayAnswer.{DayAnswer}
 use Rattle.base.proofs.Listed.{list-length}

@@ -8,7 +8,7 @@ use native.Mathlib.Nat.{le-antisymm}
 use native.Mathlib.Decide.{decLt, ℕ-discrete}
 use borrow.Author.Tests.{leb-true, ltb-true, ltb-false, le-leb, le-ltb, lt-ltb, not-true}
 use lib.Dec.{leb, ltb}
-use Rattle.jackson.specs.Plans.{idle}
+use Rattle.windows.specs.Plans.{idle}
 use Rattle.jackson.specs.Rules.{Ready}
 use Rattle.jackson.specs.Minutes.{State, isReady, comesBefore, earliestDeadline, goesOn, chosen, Tied, Takes}
 use Rattle.base.proofs.Scans.{Ranks, Best, lex-smaller-ranks, of-lex-smaller, not-lex-smaller, best-cases, best-some}

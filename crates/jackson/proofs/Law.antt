@@ -5,16 +5,16 @@ use mathlib.Core.Path.{_≡_, refl}
 use Prim.Native.Nat.{ℕ, _≤_}
 use native.Mathlib.Omega.{arith}
 use Rattle.base.specs.Outcomes.{Code, Outcome, answered, refused}
-use Rattle.jackson.specs.Windows.{Windows, restFrom, Roomy}
-use Rattle.jackson.specs.Plans.{Plan, PlanBytes, placesIn, Plannable}
-use Rattle.jackson.specs.Intervals.{Fits, NoOverload, overloadOf}
+use Rattle.windows.specs.Windows.{Windows, restFrom, Roomy}
+use Rattle.windows.specs.Plans.{Plan, PlanBytes, placesIn, Plannable}
+use Rattle.windows.specs.Intervals.{Fits, NoOverload, overloadOf}
+use Rattle.windows.proofs.PlanWork.{plan-fits}
+use Rattle.windows.proofs.Endpoints.{fits-none, none-fits}
+use Rattle.windows.proofs.ShownInterval.{accepted-none, none-accepted, refused-shown}
 use Rattle.jackson.specs.Rules.{Follows}
 use Rattle.jackson.specs.Minutes.{schedule}
 use Rattle.jackson.specs.Laws.{PlanLaw, RuleLaw, ScheduleLaw}
-use Rattle.jackson.proofs.PlanWork.{plan-fits}
 use Rattle.jackson.proofs.RunningDays.{rest-of-day, run-plan}
-use Rattle.jackson.proofs.Endpoints.{fits-none, none-fits}
-use Rattle.jackson.proofs.ShownInterval.{accepted-none, none-accepted, refused-shown}
 use Rattle.jackson.proofs.Schedules.{schedule-bytes}
 use Rattle.jackson.proofs.OneSchedule.{schedule-follows, one-follows}
 

@@ -1,45 +1,31 @@
--- The law for lists: the windows of a well-formed list have room, so it holds of them; and what the public calls' outcomes decide.
+-- The law for lists: it holds of the windows of a well-formed list; and what the public calls' outcomes decide.
 -- Assumes nothing.
 use mathlib.Core.Path.{_≡_, refl}
-use Prim.Native.Nat.{ℕ, _≤_}
+use Prim.Native.Nat.{ℕ}
 use native.Mathlib.Omega.{arith}
 use lib.Dec.{ltb}
-use lib.ListN.{length-take}
 use Rattle.base.specs.Outcomes.{Code, Outcome, answered, refused, andThen}
 use Rattle.list.specs.Checks.{checkOf, WellFormed}
 use Rattle.list.specs.declared.types.DayList.{DayList}
 use Rattle.base.proofs.Inversion.{Says, by-row}
-use Rattle.list.proofs.Sound.{check-says, sound-list, sound-at}
-use Rattle.jackson.specs.Windows.{windowsOf, Formed}
-use Rattle.jackson.specs.Plans.{PlanBytes, placesIn, Plannable}
-use Rattle.jackson.specs.Intervals.{ShowsOverload, overloadOf}
+use Rattle.list.proofs.Sound.{check-says}
+use Rattle.windows.specs.Windows.{windowsOf}
+use Rattle.windows.specs.Plans.{PlanBytes, placesIn, Plannable}
+use Rattle.windows.specs.Intervals.{ShowsOverload, overloadOf}
+use Rattle.windows.proofs.Room.{formed-roomy}
+use Rattle.windows.proofs.FormedLists.{list-formed}
 use Rattle.jackson.specs.Laws.{PlanLaw, ScheduleLaw}
 use Rattle.jackson.specs.Minutes.{schedule, FollowsJackson}
 use Rattle.jackson.specs.Calls.{testOf, Decides, fillOf}
-use Rattle.jackson.proofs.Room.{formed-roomy}
 use Rattle.jackson.proofs.Law.{plan-law, schedule-law}
 
 module _ (l : DayList) (formed : WellFormed l) where
-  -- it has at most 64 entries
-  pub list-few : windowsOf l .n ≤ 64
-  list-few = omega (arith, length-take (l .n) (l .entries), sound-list l formed .header .room)
-
-  -- the windows of a well-formed list have room
-  pub list-formed : Formed (windowsOf l)
-  list-formed =
-      record {
-        few = omega (arith, list-few);
-        minutes = λ i h. sound-at l formed i h .some-minutes;
-        in-day = λ i h. sound-at l formed i h .in-day;
-        room = λ i h. sound-at l formed i h .room;
-      }
-
   -- the law holds of them
   pub list-law : PlanLaw (windowsOf l)
-  list-law = plan-law (windowsOf l) (formed-roomy (windowsOf l) list-formed) (list-formed .few)
+  list-law = plan-law (windowsOf l) (formed-roomy (windowsOf l) (list-formed l formed)) (list-formed l formed .few)
 
   pub list-schedule-law : ScheduleLaw (windowsOf l)
-  list-schedule-law = schedule-law (windowsOf l) (formed-roomy (windowsOf l) list-formed) (list-formed .few)
+  list-schedule-law = schedule-law (windowsOf l) (formed-roomy (windowsOf l) (list-formed l formed)) (list-formed l formed .few)
 
 -- What the calls' outcomes decide.
 

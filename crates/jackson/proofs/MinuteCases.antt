@@ -9,16 +9,16 @@ use borrow.Author.Tests.{le-leb, lt-leb, lt-ltb, le-ltb, eq-eqb, ne-eqb, not-tru
 use lib.Dec.{eqb, leb, ltb}
 use lib.ListN.{length, getD, set, List·getD-eq-default}
 use lib.Seq.{set-out, getD-set-same, getD-set-other}
-use Rattle.jackson.specs.Windows.{withLeft, windowsIn}
-use Rattle.jackson.specs.Plans.{idle}
+use Rattle.windows.specs.Windows.{withLeft, windowsIn}
+use Rattle.windows.specs.Plans.{idle}
+use Rattle.windows.specs.declared.types.WindowSet.{WindowSet}
 use Rattle.jackson.specs.Minutes.{State, isReady, comesBefore, earliestDeadline, chosen}
 use Rattle.jackson.specs.Internal.{stateAt, betterReady, IsAfterMinutes, IsAfter}
-use Rattle.jackson.specs.declared.types.WindowSet.{WindowSet}
 use Rattle.jackson.specs.declared.types.Day.{Day}
 use Rattle.base.proofs.Sums.{le-or-lt, eq-or-ne}
 use Rattle.base.proofs.Scans.{best-some}
+use Rattle.windows.proofs.ScanCases.{unfit, first, wins, stays}
 use Rattle.jackson.proofs.Choices.{comes-before-ranks}
-use Rattle.jackson.proofs.ScanCases.{unfit, first, wins, stays}
 
 module _ (t r left : ℕ) where
   pub released : r ≤ t → ltb 0 left ≡ leb r t && ltb 0 left

@@ -4,11 +4,11 @@
 use Prim.Native.Nat.{ℕ, suc, _-_, _≤_, _<_}
 use native.Mathlib.Omega.{arith}
 use Rattle.base.specs.Counting.{same}
-use Rattle.jackson.specs.Windows.{Windows, withLeft, restFrom}
-use Rattle.jackson.specs.Intervals.{work, Fits}
+use Rattle.windows.specs.Windows.{Windows, withLeft, restFrom}
+use Rattle.windows.specs.Intervals.{work, Fits}
 use Rattle.jackson.specs.Rules.{Ready, EarliestDeadlineFirst}
 use Rattle.base.proofs.Sums.{le-or-lt, same-refl, sum-lt}
-use Rattle.jackson.proofs.IntervalWork.{inInterval, in-interval-is, in-interval-le, work-under}
+use Rattle.windows.proofs.IntervalWork.{inInterval, in-interval-is, in-interval-le, work-under}
 
 module _ (w : Windows) (p : ℕ → ℕ) (t k : ℕ) where
   -- the rest of the day before and after place k has minute t

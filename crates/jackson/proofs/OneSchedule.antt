@@ -4,11 +4,11 @@ use mathlib.Core.Path.{_≡_, refl, _∙_, ap, fun-ext}
 use Prim.Native.Nat.{ℕ, zero, suc, _-_, _<_, _≤_}
 use native.Mathlib.Omega.{arith}
 use Rattle.base.specs.Counting.{sum}
-use Rattle.jackson.specs.Windows.{Windows, withLeft}
-use Rattle.jackson.specs.Plans.{minutesOf, placesIn}
+use Rattle.windows.specs.Windows.{Windows, withLeft}
+use Rattle.windows.specs.Plans.{minutesOf, placesIn}
 use Rattle.jackson.specs.Minutes.{dayStart, later, placeAt, schedule, hadBefore, stateAfter, FollowsJackson}
 use Rattle.base.proofs.Sums.{below-suc}
-use Rattle.jackson.proofs.PlanFacts.{minutes-same}
+use Rattle.windows.proofs.PlanFacts.{minutes-same}
 use Rattle.jackson.proofs.Choices.{takes-one}
 use Rattle.jackson.proofs.Schedules.{later-keeps, later-time, later-left, later-last, schedule-at, schedule-takes}
 

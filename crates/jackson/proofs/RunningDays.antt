@@ -6,12 +6,12 @@ use Prim.Native.Nat.{ℕ, suc, _+_, _-_, _≤_, _<_}
 use native.Mathlib.Nat.{max-zero}
 use native.Mathlib.Omega.{arith}
 use Rattle.base.specs.Counting.{sum, same}
-use Rattle.jackson.specs.Windows.{Windows, withLeft, restFrom}
-use Rattle.jackson.specs.Plans.{minutesOf, Plan}
-use Rattle.jackson.specs.Intervals.{work, Fits}
+use Rattle.windows.specs.Windows.{Windows, withLeft, restFrom}
+use Rattle.windows.specs.Plans.{minutesOf, Plan}
+use Rattle.windows.specs.Intervals.{work, Fits}
 use Rattle.jackson.specs.Rules.{Ready, Follows}
 use Rattle.base.proofs.Sums.{le-or-lt, from-to, same-cases, same-ne, sum-zero}
-use Rattle.jackson.proofs.IntervalWork.{inInterval, in-interval-is, work-over, work-under}
+use Rattle.windows.proofs.IntervalWork.{inInterval, in-interval-is, work-over, work-under}
 use Rattle.jackson.proofs.OneMinute.{minute-fits}
 
 -- at minute 0 the rest of the day is the day

@@ -10,14 +10,14 @@ use borrow.Author.Tests.{lt-ltb, le-ltb}
 use lib.Dec.{ltb}
 use lib.ListN.{length}
 use Rattle.base.specs.Counting.{same}
-use Rattle.jackson.specs.Windows.{Windows, withLeft, restFrom}
-use Rattle.jackson.specs.Plans.{Plan, PlanBytes, idle, placesIn}
+use Rattle.windows.specs.Windows.{Windows, withLeft, restFrom}
+use Rattle.windows.specs.Plans.{Plan, PlanBytes, idle, placesIn}
+use Rattle.windows.specs.Intervals.{Fits}
 use Rattle.jackson.specs.Rules.{EarliestDeadlineFirst, Follows}
 use Rattle.jackson.specs.Minutes.{State, dayStart, chosen, Takes, after, minuteOf, later, placeAt, schedule}
-use Rattle.jackson.specs.Intervals.{Fits}
 use Rattle.base.proofs.Sums.{le-or-lt}
 use Rattle.base.proofs.Listed.{list-length, list-at}
-use Rattle.jackson.proofs.PlanFacts.{plan-same}
+use Rattle.windows.proofs.PlanFacts.{plan-same}
 use Rattle.jackson.proofs.Choices.{chosen-takes}
 use Rattle.jackson.proofs.RunningDays.{rest-of-day, run-plan}
 

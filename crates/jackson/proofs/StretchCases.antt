@@ -6,11 +6,11 @@ use native.Mathlib.Numerals.{add-one}
 use native.Mathlib.Omega.{arith}
 use borrow.Author.Tests.{lt-ltb, le-ltb}
 use lib.ListN.{getD}
-use Rattle.jackson.specs.Windows.{windowsIn}
+use Rattle.windows.specs.Windows.{windowsIn}
+use Rattle.windows.specs.declared.types.WindowSet.{WindowSet}
 use Rattle.jackson.specs.Minutes.{stateIn, chosen, later}
 use Rattle.jackson.specs.Stretches.{sooner, nextRelease, stretchEnd, stretchOf, Stretches}
 use Rattle.jackson.specs.Internal.{afterMinutes, IsAfterMinutes}
-use Rattle.jackson.specs.declared.types.WindowSet.{WindowSet}
 use Rattle.jackson.specs.declared.types.Day.{Day}
 use Rattle.jackson.proofs.Schedules.{minute-on, minute-over}
 use Rattle.jackson.proofs.Stretches.{stretch-over, stretch-some, stretch-to, stretch-in-day, stretch-places, stretch-state}

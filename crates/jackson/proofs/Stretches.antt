@@ -8,7 +8,7 @@ use native.Mathlib.Omega.{arith}
 use borrow.Author.Tests.{ltb-true, ltb-false, lt-ltb, le-ltb, eq-eqb}
 use lib.Dec.{eqb, ltb}
 use Rattle.base.specs.Counting.{same}
-use Rattle.jackson.specs.Windows.{Windows, withLeft}
+use Rattle.windows.specs.Windows.{Windows, withLeft}
 use Rattle.jackson.specs.Rules.{Ready}
 use Rattle.jackson.specs.Minutes.{State, chosen, Takes, after, MinuteAnswer, minuteOf, later, placeAt}
 use Rattle.jackson.specs.Stretches.{sooner, nextRelease, finish, stretchEnd, stretchOf, afterStretch}

@@ -1,4 +1,4 @@
--- What the public functions promise: the windows of a list, the overload test, a day's minutes, starting a day, and filling a plan buffer.
+-- What the public functions promise: the overload test, a day's minutes, starting a day, and filling a plan buffer.
 use Prim.Native.Nat.{ℕ, _<_}
 use mathlib.Core.Path.{_≡_}
 use mathlib.Core.List.{List, [], _∷_, _++_}
@@ -10,19 +10,13 @@ use Rattle.list.specs.Checks.{checkOf}
 use Rattle.list.specs.DayLists.{emptyList}
 use Rattle.list.specs.declared.types.DayList.{DayList}
 use Rattle.list.specs.declared.types.Verdict.{Verdict}
-use Rattle.jackson.specs.Windows.{Windows, windowsOf, windowsIn}
-use Rattle.jackson.specs.Plans.{Plannable, placesIn, PlanBytes}
-use Rattle.jackson.specs.Intervals.{ShowsOverload, overloadOf}
+use Rattle.windows.specs.Windows.{Windows, windowsOf}
+use Rattle.windows.specs.Plans.{Plannable, placesIn, PlanBytes}
+use Rattle.windows.specs.Intervals.{ShowsOverload, overloadOf}
 use Rattle.jackson.specs.Minutes.{stateIn, dayStart, schedule, Takes, minuteOf, FollowsJackson}
-use Rattle.jackson.specs.declared.types.WindowSet.{WindowSet}
 use Rattle.jackson.specs.declared.types.Day.{Day}
 use Rattle.jackson.specs.declared.types.Minute.{Minute}
 use Rattle.jackson.specs.declared.types.DayAnswer.{DayAnswer}
-
--- arrays that hold the windows of a list, whatever the list is
-pub record Holds (l : DayList) (s : WindowSet) : Type 0 where
-  pub windows : windowsIn s ≡ windowsOf l
-  pub n : s .n ≡ l .n
 
 -- the value check, then row 9
 unfoldable pub testOf : DayList → Outcome (Unit {0})

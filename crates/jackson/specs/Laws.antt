@@ -1,17 +1,12 @@
--- The law of plans, which names no schedule, that of rules of earliest deadline, that of Jackson's schedule, and that of the mirror. The
--- crates above know this crate by them.
+-- The law of plans, which names no schedule, that of rules of earliest deadline, and that of Jackson's schedule. The crates above
+-- know this crate by them.
 use Prim.Native.Nat.{ℕ, _<_}
 use mathlib.Core.Path.{_≡_}
 use mathlib.Core.Logic.{_↔_}
-use lib.ListN.{getD}
 use Rattle.base.specs.Outcomes.{Code, answered, refused}
-use Rattle.list.specs.DayLists.{entriesOf, blank, SameBox}
-use Rattle.list.specs.Checks.{WellFormed}
-use Rattle.list.specs.declared.types.DayList.{DayList}
-use Rattle.jackson.specs.Windows.{Windows, windowsOf}
-use Rattle.jackson.specs.Plans.{Plan, Plannable, placesIn, PlanBytes}
-use Rattle.jackson.specs.Mirrors.{mirror, mirrorList}
-use Rattle.jackson.specs.Intervals.{Fits, NoOverload, ShowsOverload, overloadOf}
+use Rattle.windows.specs.Windows.{Windows}
+use Rattle.windows.specs.Plans.{Plan, Plannable, placesIn, PlanBytes}
+use Rattle.windows.specs.Intervals.{Fits, NoOverload, ShowsOverload, overloadOf}
 use Rattle.jackson.specs.Rules.{Follows}
 use Rattle.jackson.specs.Minutes.{schedule, FollowsJackson}
 
@@ -39,11 +34,3 @@ pub record ScheduleLaw (w : Windows) : Type 0 where
   pub plan : Plannable w ↔ PlanBytes w (schedule w)
   pub follows : FollowsJackson w (placesIn (schedule w))
   pub one : (m : ℕ → ℕ) → FollowsJackson w m → (t : ℕ) → t < w .h → m t ≡ placesIn (schedule w) t
-
--- the law of the mirrored list, for every list: it has opening minute 0, the mirrored windows, and the boxes of the list, "places kept"; it
--- is well-formed if the list is
-pub record MirrorLaw (l : DayList) : Type 0 where
-  pub opening : mirrorList l .frame .opening ≡ 0
-  pub windows : windowsOf (mirrorList l) ≡ mirror (windowsOf l)
-  pub boxes : (i : ℕ) → SameBox (getD (entriesOf (mirrorList l)) i blank) (getD (entriesOf l) i blank)
-  pub formed : WellFormed l → WellFormed (mirrorList l)

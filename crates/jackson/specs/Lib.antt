@@ -1,8 +1,3 @@
-pub mod Windows
-pub mod Plans
-pub mod Mirrors
-pub mod Intervals
-pub mod RunningSums
 pub mod Rules
 pub mod Minutes
 pub mod Stretches

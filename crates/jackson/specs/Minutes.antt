@@ -5,8 +5,8 @@ use mathlib.Core.Bool.{Bool, cond, not, _&&_}
 use mathlib.Core.List.{List}
 use lib.Dec.{leb, ltb}
 use Rattle.base.specs.Counting.{same, best, lexSmaller, listOf}
-use Rattle.jackson.specs.Windows.{Windows, withLeft, windowsIn}
-use Rattle.jackson.specs.Plans.{minutesOf, idle}
+use Rattle.windows.specs.Windows.{Windows, withLeft, windowsIn}
+use Rattle.windows.specs.Plans.{minutesOf, idle}
 use Rattle.jackson.specs.Rules.{Ready, EarliestDeadlineFirst}
 use Rattle.jackson.specs.declared.types.Day.{Day}
 

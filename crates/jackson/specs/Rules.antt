@@ -2,7 +2,7 @@
 use Prim.Native.Nat.{ℕ, suc, _-_, _<_, _≤_}
 use mathlib.Core.Path.{_≡_}
 use Rattle.base.specs.Counting.{same}
-use Rattle.jackson.specs.Windows.{Windows, withLeft}
+use Rattle.windows.specs.Windows.{Windows, withLeft}
 
 -- the entry at place i has its r reached at minute t, and has minutes left
 pub record Ready (w : Windows) (t i : ℕ) : Type 0 where

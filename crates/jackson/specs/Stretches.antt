@@ -4,7 +4,7 @@ use Prim.Native.Nat.{ℕ, zero, suc, _+_, _*_, _-_, _<_, _≤_, min}
 use mathlib.Core.Path.{_≡_}
 use mathlib.Core.Bool.{cond}
 use lib.Dec.{ltb}
-use Rattle.jackson.specs.Windows.{Windows}
+use Rattle.windows.specs.Windows.{Windows}
 use Rattle.jackson.specs.Minutes.{State, stateIn, chosen, minuteOf, later, placeAt}
 use Rattle.jackson.specs.declared.types.Day.{Day}
 use Rattle.jackson.specs.declared.types.Stretch.{Stretch}

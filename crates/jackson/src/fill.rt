@@ -1,20 +1,20 @@
 // Starting a day and filling a plan buffer.
-use crate::interval::unchecked_overload;
 use crate::types::Day;
 use crate::types::DayAnswer;
-use crate::types::WindowSet;
-use crate::window_set::no_windows;
-use crate::window_set::unchecked_windows;
 use list::types::DayList;
 use list::types::Refusal;
 use list::types::Verdict;
+use windows::no_windows;
+use windows::types::WindowSet;
+use windows::unchecked_overload;
+use windows::unchecked_windows;
 ghost use mathlib.Core.Path.{_≡_};
 ghost use mathlib.Core.List.{_++_};
 ghost use Prim.Native.Nat.{_+_, _≤_};
 ghost use lib.ListN.{length, drop};
 ghost use Rattle.base.specs.Counting.{listOf};
-ghost use Rattle.jackson.specs.Windows.{windowsIn};
-ghost use Rattle.jackson.specs.Plans.{idle};
+ghost use Rattle.windows.specs.Windows.{windowsIn};
+ghost use Rattle.windows.specs.Plans.{idle};
 ghost use Rattle.jackson.specs.Minutes.{stateIn, placeAt};
 ghost use Rattle.jackson.specs.Calls.{Starts, Fills, FillsWindows};
 ghost use Rattle.jackson.specs.Internal.{Fillable, stores};

@@ -1,16 +1,16 @@
 // Jackson's minute.
 use crate::types::Day;
 use crate::types::Minute;
-use crate::types::WindowSet;
 use list::places_held;
 use list::types::ENTRIES;
+use windows::types::WindowSet;
 ghost use mathlib.Core.Path.{_≡_};
 ghost use mathlib.Core.Bool.{_&&_};
 ghost use Prim.Native.Nat.{_+_, _-_, _<_, _≤_};
 ghost use lib.Dec.{leb, ltb};
 ghost use Rattle.base.specs.Counting.{lexLess};
-ghost use Rattle.jackson.specs.Windows.{windowsIn};
-ghost use Rattle.jackson.specs.Plans.{idle};
+ghost use Rattle.windows.specs.Windows.{windowsIn};
+ghost use Rattle.windows.specs.Plans.{idle};
 ghost use Rattle.jackson.specs.Minutes.{earliestDeadline, chosen};
 ghost use Rattle.jackson.specs.Calls.{Advances};
 ghost use Rattle.jackson.specs.Internal.{stateAt, betterReady, IsAfterMinutes, IsAfter};

@@ -3,14 +3,14 @@ use crate::minute::advanced_by;
 use crate::minute::choice;
 use crate::types::Day;
 use crate::types::Stretch;
-use crate::types::WindowSet;
 use list::places_held;
 use list::types::ENTRIES;
+use windows::types::WindowSet;
 ghost use mathlib.Core.Path.{_≡_};
 ghost use Prim.Native.Nat.{_+_, _<_, _≤_, min};
 ghost use lib.ListN.{getD};
 ghost use Rattle.list.specs.DayLists.{mostEntries};
-ghost use Rattle.jackson.specs.Windows.{windowsIn};
+ghost use Rattle.windows.specs.Windows.{windowsIn};
 ghost use Rattle.jackson.specs.Stretches.{sooner, nextRelease, stretchEnd, Stretches};
 
 // The first of an r and an end; an r of at most t does not count.

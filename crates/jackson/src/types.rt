@@ -1,15 +1,6 @@
 // The values that a day is planned by.
-use list::types::ENTRIES;
 use list::types::Verdict;
-
-// A set of windows, by place: the window [r, d) of each of the first n entries of a day of h minutes, and its p minutes of work.
-pub struct WindowSet {
-    pub h: u16,
-    pub n: u8,
-    pub r: [u16; ENTRIES],
-    pub d: [u16; ENTRIES],
-    pub p: [u16; ENTRIES],
-}
+use windows::types::WindowSet;
 
 // A day in planning: its minute t, the entry that had the minute before, 255 for none, and the windows, where p is the minutes left.
 pub struct Day {

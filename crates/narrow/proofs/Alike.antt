@@ -14,9 +14,9 @@ use Rattle.list.specs.declared.types.Entry.{Entry}
 use Rattle.list.specs.declared.types.Frame.{Frame}
 use Rattle.list.specs.declared.types.DayList.{DayList}
 use Rattle.list.proofs.Alike.{same-checked}
-use Rattle.jackson.specs.Windows.{Windows, plain, SameWindows}
-use Rattle.jackson.specs.Intervals.{overloadOf}
-use Rattle.jackson.proofs.Alike.{alike-windows}
+use Rattle.windows.specs.Windows.{Windows, plain, SameWindows}
+use Rattle.windows.specs.Intervals.{overloadOf}
+use Rattle.windows.proofs.AlikeWindows.{alike-windows}
 use Rattle.narrow.specs.Rounds.{Narrowed, unmoved, round, narrowing}
 use Rattle.narrow.specs.Calls.{bare, SameTimes, entryWith, entriesWith, listWith, settleOf, roundOf, listed}
 

@@ -15,14 +15,14 @@ use Rattle.list.specs.declared.types.Verdict.{Verdict}
 use Rattle.list.specs.declared.types.Verdict.the-variants.{Accepted, Refused}
 use Rattle.base.proofs.Inversion.{answered-refused}
 use Rattle.list.proofs.Verdicts.{by-accepted, by-refused}
-use Rattle.jackson.specs.Windows.{windowsOf, columns, windowsIn, roomFault, Formed}
-use Rattle.jackson.specs.Plans.{Plannable}
-use Rattle.jackson.specs.Intervals.{overloadOf}
-use Rattle.jackson.specs.Calls.{Holds}
-use Rattle.jackson.specs.declared.types.WindowSet.{WindowSet}
+use Rattle.windows.specs.Windows.{windowsOf, columns, windowsIn, roomFault, Formed}
+use Rattle.windows.specs.Plans.{Plannable}
+use Rattle.windows.specs.Intervals.{overloadOf}
+use Rattle.windows.specs.Calls.{Holds}
+use Rattle.windows.specs.declared.types.WindowSet.{WindowSet}
 use Rattle.base.proofs.Sums.{sum-most}
-use Rattle.jackson.proofs.Room.{formed-passes, passes-formed}
-use Rattle.jackson.proofs.ListLaws.{list-formed}
+use Rattle.windows.proofs.Room.{formed-passes, passes-formed}
+use Rattle.windows.proofs.FormedLists.{list-formed}
 use Rattle.narrow.specs.Rounds.{Narrowed, unmoved, round, allRounds, narrowing}
 use Rattle.narrow.specs.Calls.{listWith, narrowWindows, narrowedOf, settleOf, roundOf, AnswersAs, NarrowsWindows, Settles, MakesRound}
 use Rattle.narrow.specs.Internal.{narrowedBy, Countable}

@@ -10,16 +10,16 @@ use borrow.Author.Tests.{eqb-true, eqb-false}
 use lib.Dec.{eqb}
 use Rattle.base.specs.Outcomes.{code, Outcome, answered, refused, andThen, accepts}
 use Rattle.base.proofs.Inversion.{accepted-answered, Says, by-row}
-use Rattle.jackson.specs.Windows.{Windows, fixedAt, fixedUpTo, Formed}
-use Rattle.jackson.specs.Plans.{Plannable}
-use Rattle.jackson.specs.Mirrors.{mirror}
+use Rattle.windows.specs.Windows.{Windows, fixedAt, fixedUpTo, Formed}
+use Rattle.windows.specs.Plans.{Plannable}
+use Rattle.windows.specs.Mirrors.{mirror}
 use Rattle.base.proofs.Sums.{le-or-lt}
 use Rattle.base.proofs.Searches.{First, first-below}
 use Rattle.narrow.specs.Searching.{Test, trials, failedStarts, leastStart, greatestEnd, IsLeastStart, NoStart, IsGreatestEnd, NoEnd}
 use Rattle.narrow.specs.Searching.{SearchLaw}
 use Rattle.narrow.proofs.Planners.{Planner}
-use Rattle.jackson.proofs.Puts.{fixed-formed, up-to-formed}
-use Rattle.jackson.proofs.MirrorWindows.{plannable-mirror, mirror-plannable, formed-mirror, mirror-r, mirror-d, fixed-at-mirror}
+use Rattle.windows.proofs.Puts.{fixed-formed, up-to-formed}
+use Rattle.windows.proofs.MirrorWindows.{plannable-mirror, mirror-plannable, formed-mirror, mirror-r, mirror-d, fixed-at-mirror}
 use Rattle.narrow.proofs.MirrorSearches.{end-by-mirror}
 
 -- Outcomes of a search.

@@ -6,8 +6,8 @@ use Prim.Native.Nat.{ℕ, zero, suc, _<_, _≤_}
 use native.Mathlib.Omega.{arith}
 use Rattle.base.specs.Outcomes.{Outcome, answered, refused, andThen}
 use Rattle.base.proofs.Inversion.{Says, by-step, Anything}
-use Rattle.jackson.specs.Windows.{Windows, withWindows, withR, withD, withWindow, Formed}
-use Rattle.jackson.specs.Plans.{Plannable}
+use Rattle.windows.specs.Windows.{Windows, withWindows, withR, withD, withWindow, Formed}
+use Rattle.windows.specs.Plans.{Plannable}
 use Rattle.base.proofs.Sums.{le-or-lt, below-suc}
 use Rattle.narrow.specs.Searching.{Test, leastStart, greatestEnd}
 use Rattle.narrow.specs.Settling.{Settled, SettledInside, Widest}
@@ -16,7 +16,7 @@ use Rattle.narrow.specs.Rounds.{rounds, slack}
 use Rattle.narrow.specs.StepLists.{NothingLeft}
 use Rattle.narrow.proofs.Planners.{Planner}
 use Rattle.narrow.proofs.RoundsEnd.{rounds-by}
-use Rattle.jackson.proofs.Puts.{place-cases, put-same, put-back, with-r, with-d}
+use Rattle.windows.proofs.Puts.{place-cases, put-same, put-back, with-r, with-d}
 use Rattle.narrow.proofs.MirrorSettled.{SidePlan}
 use Rattle.narrow.proofs.SettledSteps.{Narrows, NarrowsOr, step-narrows, rounds-narrow}
 

@@ -11,9 +11,9 @@ use Rattle.list.specs.declared.types.Refusal.{Refusal}
 use Rattle.list.specs.declared.types.Verdict.{Verdict}
 use Rattle.list.specs.declared.types.Verdict.the-variants.{Accepted, Refused}
 use Rattle.base.proofs.Inversion.{answered-refused, refused-same}
-use Rattle.jackson.specs.Windows.{Windows, windowsOf, Formed}
-use Rattle.jackson.specs.Intervals.{overloadOf}
-use Rattle.jackson.proofs.ListLaws.{list-formed}
+use Rattle.windows.specs.Windows.{Windows, windowsOf, Formed}
+use Rattle.windows.specs.Intervals.{overloadOf}
+use Rattle.windows.proofs.FormedLists.{list-formed}
 use Rattle.narrow.specs.Rounds.{Narrowed, unmoved, round, allRounds, narrowing}
 use Rattle.narrow.specs.Laws.{RoundLaw, NarrowLaw}
 use Rattle.narrow.specs.Calls.{listWith, settleOf, roundOf, listed, AnswersAs, HoldsAnswer, Settles, MakesRound}

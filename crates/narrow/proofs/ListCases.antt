@@ -12,7 +12,7 @@ use Rattle.list.specs.declared.types.Entry.{Entry}
 use Rattle.list.specs.declared.types.DayList.{DayList}
 use Rattle.list.proofs.Filling.{blank-after, filled-list}
 use Rattle.list.proofs.Columns.{all-taken}
-use Rattle.jackson.specs.Windows.{Windows}
+use Rattle.windows.specs.Windows.{Windows}
 use Rattle.narrow.specs.Calls.{entryWith, entriesWith, listWith}
 use Rattle.narrow.proofs.Alike.{with-length}
 

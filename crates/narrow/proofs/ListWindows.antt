@@ -11,8 +11,8 @@ use Rattle.list.specs.declared.types.Entry.{Entry}
 use Rattle.list.specs.declared.types.DayList.{DayList}
 use Rattle.list.proofs.ClashFacts.{clash-carried}
 use Rattle.list.proofs.Sound.{Sound, every-at-places, sound-list, sound-at, list-apart, well-formed}
-use Rattle.jackson.specs.Windows.{Windows, windowsOf}
-use Rattle.jackson.proofs.EntryWindows.{WindowAt, windows-at}
+use Rattle.windows.specs.Windows.{Windows, windowsOf}
+use Rattle.windows.proofs.EntryWindows.{WindowAt, windows-at}
 use Rattle.base.proofs.Sums.{le-or-lt}
 use Rattle.narrow.specs.Calls.{listWith}
 use Rattle.narrow.proofs.StepsKeep.{Keeps, keeps-h, keeps-n, keeps-p}

@@ -7,15 +7,15 @@ use Prim.Native.Nat.{ℕ, _+_, _-_, _<_}
 use native.Mathlib.Omega.{arith}
 use lib.Dec.{eqb}
 use Rattle.base.specs.Outcomes.{Outcome, answered, refused, andThen, row, firstOf, accepts}
-use Rattle.jackson.specs.Windows.{Windows, withR, withD, fixedAt, fixedUpTo, Formed}
-use Rattle.jackson.specs.Mirrors.{mirror}
+use Rattle.windows.specs.Windows.{Windows, withR, withD, fixedAt, fixedUpTo, Formed}
+use Rattle.windows.specs.Mirrors.{mirror}
 use Rattle.base.proofs.Searches.{first-cong}
 use Rattle.narrow.specs.Searching.{Test, trials, failedStarts, failedEnds, leastStart, greatestEnd}
 use Rattle.narrow.specs.Rounds.{earliest, latest, step}
-use Rattle.jackson.proofs.MirrorWindows.{plannable-mirror, formed-mirror, mirror-back, mirror-plannable, mirror-r, mirror-d}
-use Rattle.jackson.proofs.MirrorWindows.{fixed-at-mirror, with-r-mirror}
+use Rattle.windows.proofs.MirrorWindows.{plannable-mirror, formed-mirror, mirror-back, mirror-plannable, mirror-r, mirror-d}
+use Rattle.windows.proofs.MirrorWindows.{fixed-at-mirror, with-r-mirror}
 use Rattle.narrow.proofs.Planners.{Planner}
-use Rattle.jackson.proofs.Puts.{up-to-formed}
+use Rattle.windows.proofs.Puts.{up-to-formed}
 
 -- two outcomes of a test are alike if one accepts exactly when the other does
 alike : (a b : Outcome (Unit {0})) → (a ≡ answered tt → b ≡ answered tt) → (b ≡ answered tt → a ≡ answered tt) → accepts a ≡ accepts b

@@ -4,15 +4,15 @@ use mathlib.Core.Path.{_≡_, refl}
 use mathlib.Core.Bool.{Bool}
 use Prim.Native.Nat.{ℕ, _+_, _-_, _<_}
 use native.Mathlib.Omega.{arith}
-use Rattle.jackson.specs.Windows.{Windows, withWindows, Formed}
-use Rattle.jackson.specs.Plans.{Plan, Consecutive}
-use Rattle.jackson.specs.Mirrors.{mirror}
-use Rattle.jackson.proofs.PlanFacts.{mirror-plan, plan-room}
+use Rattle.windows.specs.Windows.{Windows, withWindows, Formed}
+use Rattle.windows.specs.Plans.{Plan, Consecutive}
+use Rattle.windows.specs.Mirrors.{mirror}
+use Rattle.windows.proofs.PlanFacts.{mirror-plan, plan-room}
 use Rattle.narrow.specs.Settling.{Settled, SettledInside}
 use Rattle.narrow.specs.Rounds.{Side, earliest, latest}
-use Rattle.jackson.proofs.MirrorWindows.{plannable-mirror, mirror-r, mirror-d}
-use Rattle.jackson.proofs.MirrorMinutes.{consecutive-mirror}
-use Rattle.jackson.proofs.Room.{formed-inside}
+use Rattle.windows.proofs.MirrorWindows.{plannable-mirror, mirror-r, mirror-d}
+use Rattle.windows.proofs.MirrorMinutes.{consecutive-mirror}
+use Rattle.windows.proofs.Room.{formed-inside}
 use Rattle.narrow.proofs.StepsKeep.{inside-mirror}
 
 -- a plan with the minutes of k consecutive from its r on, or up to its d

@@ -7,13 +7,13 @@ use native.Mathlib.Omega.{arith}
 use borrow.Author.Tests.{eq-eqb, ne-eqb}
 use Rattle.base.specs.Outcomes.{Outcome, answered, refused, andThen}
 use Rattle.base.proofs.Inversion.{Says}
-use Rattle.jackson.specs.Windows.{Windows, Formed}
-use Rattle.jackson.specs.Mirrors.{mirror}
+use Rattle.windows.specs.Windows.{Windows, Formed}
+use Rattle.windows.specs.Mirrors.{mirror}
 use Rattle.narrow.specs.Searching.{Test}
 use Rattle.narrow.specs.Rounds.{earliest, latest, step, Narrowed, moved, movesOf, counted, narrowSide}
 use Rattle.narrow.proofs.Planners.{Planner}
-use Rattle.jackson.proofs.Puts.{place-cases}
-use Rattle.jackson.proofs.MirrorWindows.{formed-mirror, mirror-back, mirror-r, mirror-d}
+use Rattle.windows.proofs.Puts.{place-cases}
+use Rattle.windows.proofs.MirrorWindows.{formed-mirror, mirror-back, mirror-r, mirror-d}
 use Rattle.narrow.proofs.MirrorSearches.{planner-in-mirror, step-mirror}
 use Rattle.narrow.proofs.StepsKeep.{Keeps, keeps-h, keeps-n, RefusedAt, step-says}
 

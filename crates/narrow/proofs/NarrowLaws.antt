@@ -8,8 +8,8 @@ use Prim.Native.Nat.{ℕ, suc, _<_, _≤_}
 use native.Mathlib.Omega.{arith}
 use Rattle.base.specs.Outcomes.{Code, code, Outcome, answered, refused, andThen}
 use Rattle.base.proofs.Inversion.{Says, Anything}
-use Rattle.jackson.specs.Windows.{Windows, withWindows, Formed}
-use Rattle.jackson.specs.Plans.{Plannable}
+use Rattle.windows.specs.Windows.{Windows, withWindows, Formed}
+use Rattle.windows.specs.Plans.{Plannable}
 use Rattle.narrow.specs.Searching.{Test, SearchLaw}
 use Rattle.narrow.specs.Settling.{SettledInside, NoneSettled, Widest, minutesCut}
 use Rattle.narrow.specs.Rounds.{Narrowed, unmoved, round, rounds, slack, narrowing}
@@ -18,7 +18,7 @@ use Rattle.narrow.specs.RoundsByPlans.{RoundsGive, roundsSteps}
 use Rattle.narrow.specs.Laws.{RoomInside, Reason, FromSteps, RoundLaw, NarrowLaw}
 use Rattle.narrow.proofs.Planners.{Planner}
 use Rattle.narrow.proofs.StepsKeep.{Keeps, keeps-n, keeps-p}
-use Rattle.jackson.proofs.Room.{formed-inside}
+use Rattle.windows.proofs.Room.{formed-inside}
 use Rattle.narrow.proofs.Costs.{CostsOr, round-cost, round-refused, rounds-says}
 use Rattle.narrow.proofs.Exact.{search-law}
 use Rattle.narrow.proofs.SettledSteps.{Narrows, NarrowsOr, plannable-widen, round-narrows, rounds-narrow, steps-narrow, steps-none}

@@ -6,10 +6,10 @@ use mathlib.Core.Bool.{Bool}
 use mathlib.Core.List.{[], _∷_}
 use Prim.Native.Nat.{ℕ}
 use Rattle.base.specs.Outcomes.{Code, code, Outcome, answered, refused}
-use Rattle.jackson.specs.Windows.{Windows}
-use Rattle.jackson.specs.Intervals.{work, ShowsOverload}
-use Rattle.jackson.specs.Plans.{Plannable}
-use Rattle.jackson.proofs.ShownInterval.{shown-one}
+use Rattle.windows.specs.Windows.{Windows}
+use Rattle.windows.specs.Intervals.{work, ShowsOverload}
+use Rattle.windows.specs.Plans.{Plannable}
+use Rattle.windows.proofs.ShownInterval.{shown-one}
 use Rattle.narrow.specs.Searching.{Test}
 use Rattle.narrow.specs.Settling.{Widest}
 use Rattle.narrow.specs.Rounds.{Narrowed}

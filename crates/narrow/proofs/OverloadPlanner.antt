@@ -1,7 +1,7 @@
 -- The overload test is a planner's test: the one place where narrowing cites the law that a plan exists exactly without overload.
 -- Assumes nothing.
-use Rattle.jackson.specs.Intervals.{overloadOf}
-use Rattle.jackson.proofs.Room.{formed-roomy}
+use Rattle.windows.specs.Intervals.{overloadOf}
+use Rattle.windows.proofs.Room.{formed-roomy}
 use Rattle.jackson.proofs.Law.{plan-law}
 use Rattle.narrow.proofs.Planners.{Planner}
 

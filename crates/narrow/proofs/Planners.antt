@@ -3,9 +3,9 @@
 use mathlib.Core.Path.{_≡_}
 use mathlib.Core.Logic.{_↔_}
 use Rattle.base.specs.Outcomes.{Code, answered, refused}
-use Rattle.jackson.specs.Windows.{Windows, Formed}
-use Rattle.jackson.specs.Intervals.{ShowsOverload}
-use Rattle.jackson.specs.Plans.{Plannable}
+use Rattle.windows.specs.Windows.{Windows, Formed}
+use Rattle.windows.specs.Intervals.{ShowsOverload}
+use Rattle.windows.specs.Plans.{Plannable}
 use Rattle.narrow.specs.Searching.{Test}
 
 -- a test that accepts windows with room exactly when a plan exists, and else shows the interval of row 9

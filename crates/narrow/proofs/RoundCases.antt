@@ -9,10 +9,10 @@ use Rattle.base.specs.Outcomes.{Code, answered, refused}
 use Rattle.list.specs.Refusals.{outcomeOf}
 use Rattle.list.specs.declared.types.Verdict.{Verdict}
 use Rattle.list.specs.declared.types.Verdict.the-variants.{Accepted, Refused}
-use Rattle.jackson.specs.Windows.{Windows, columns, windowsIn, withR}
-use Rattle.jackson.specs.Mirrors.{mirror}
-use Rattle.jackson.specs.Intervals.{overloadOf}
-use Rattle.jackson.specs.declared.types.WindowSet.{WindowSet}
+use Rattle.windows.specs.Windows.{Windows, columns, windowsIn, withR}
+use Rattle.windows.specs.Mirrors.{mirror}
+use Rattle.windows.specs.Intervals.{overloadOf}
+use Rattle.windows.specs.declared.types.WindowSet.{WindowSet}
 use Rattle.base.proofs.Sums.{same-cases}
 use Rattle.narrow.specs.Searching.{Test, leastStart, SearchLaw}
 use Rattle.narrow.specs.Rounds.{earliest, latest, Narrowed, moved, movesOf, narrowSide}
@@ -20,11 +20,11 @@ use Rattle.narrow.specs.Internal.{foundOf, narrowedBy, Visitable}
 use Rattle.narrow.specs.Calls.{narrowedOf}
 use Rattle.narrow.specs.declared.types.WindowsAnswer.{WindowsAnswer}
 use Rattle.narrow.proofs.OverloadPlanner.{overload-planner}
-use Rattle.jackson.proofs.Puts.{put-same}
-use Rattle.jackson.proofs.MirrorWindows.{formed-mirror, plannable-mirror}
+use Rattle.windows.proofs.Puts.{put-same}
+use Rattle.windows.proofs.MirrorWindows.{formed-mirror, plannable-mirror}
 use Rattle.narrow.proofs.MirrorSides.{mirrorState, mirrorOutcome, side-by-mirror}
 use Rattle.narrow.proofs.Costs.{moved-same}
-use Rattle.jackson.proofs.ArrayCases.{held-r}
+use Rattle.windows.proofs.ArrayCases.{held-r}
 use Rattle.edges.specs.Laws.{StartLaw}
 use Rattle.edges.specs.Calls.{FindsStart}
 use Rattle.edges.specs.declared.types.Found.{Found}

@@ -7,7 +7,7 @@ use Prim.Native.Nat.{ℕ, zero, suc, _<_, _≤_}
 use native.Mathlib.Omega.{arith}
 use Rattle.base.specs.Outcomes.{Code, Outcome, answered, refused, andThen, accepts}
 use Rattle.base.proofs.Inversion.{Says, answered-same, refused-same, answered-refused}
-use Rattle.jackson.specs.Windows.{Windows, withR, withD, Formed}
+use Rattle.windows.specs.Windows.{Windows, withR, withD, Formed}
 use Rattle.narrow.specs.Searching.{Test, leastStart, greatestEnd, IsLeastStart, NoStart, IsGreatestEnd, NoEnd}
 use Rattle.narrow.specs.Rounds.{Side, earliest, latest, step, Narrowed, counted, narrowSide, visit, visits, round, rounds, slack}
 use Rattle.narrow.specs.StepLists.{Step, NamesWhole, stepsLeave, someRefused}

@@ -9,7 +9,7 @@ use lib.Dec.{eqb}
 use Rattle.base.specs.Outcomes.{Code, Outcome, answered, refused, andThen}
 use Rattle.narrow.specs.Searching.{Test}
 use Rattle.narrow.specs.Rounds.{Narrowed, round, rounds, slack}
-use Rattle.jackson.specs.Windows.{Formed}
+use Rattle.windows.specs.Windows.{Formed}
 use Rattle.narrow.proofs.Costs.{Costs, by-test, round-cost}
 
 module _ (test : Test) (whole : ℕ → Bool) (P : Narrowed → Outcome Narrowed → Type 0)

@@ -8,18 +8,18 @@ use native.Mathlib.Omega.{arith}
 use lib.Dec.{eqb}
 use Rattle.base.specs.Outcomes.{Outcome, answered, refused, andThen, accepts}
 use Rattle.base.proofs.Inversion.{Says, by-step}
-use Rattle.jackson.specs.Windows.{Windows, Inside, withWindows, withR, fixedAt, Formed}
-use Rattle.jackson.specs.Plans.{Plannable}
-use Rattle.jackson.specs.Mirrors.{mirror}
+use Rattle.windows.specs.Windows.{Windows, Inside, withWindows, withR, fixedAt, Formed}
+use Rattle.windows.specs.Plans.{Plannable}
+use Rattle.windows.specs.Mirrors.{mirror}
 use Rattle.base.proofs.Sums.{le-or-lt}
-use Rattle.jackson.proofs.PlanFacts.{widen}
+use Rattle.windows.proofs.PlanFacts.{widen}
 use Rattle.narrow.specs.Searching.{Test, leastStart, IsLeastStart, NoStart}
 use Rattle.narrow.specs.Settling.{SettledInside, NoneSettled}
 use Rattle.narrow.specs.Rounds.{Side, earliest, latest, step, Narrowed, narrowSide, visit, visits, round, rounds}
 use Rattle.narrow.specs.StepLists.{Step, NamesWhole, leftBy, stepsLeave, someRefused}
 use Rattle.narrow.proofs.Planners.{Planner}
-use Rattle.jackson.proofs.Puts.{put-same, put-under, fixed-consecutive, window-after-r, fixed-inside, consecutive-fixed}
-use Rattle.jackson.proofs.MirrorWindows.{plannable-mirror, formed-mirror, mirror-back}
+use Rattle.windows.proofs.Puts.{put-same, put-under, fixed-consecutive, window-after-r, fixed-inside, consecutive-fixed}
+use Rattle.windows.proofs.MirrorWindows.{plannable-mirror, formed-mirror, mirror-back}
 use Rattle.narrow.proofs.MirrorSearches.{planner-in-mirror, step-mirror}
 use Rattle.narrow.proofs.StepsKeep.{Keeps, keeps-same, keeps-n, keeps-trans, keeps-mirror, keeps-r}
 use Rattle.narrow.proofs.MirrorSettled.{SidePlan, earliest-mirror, set-formed, set-mirror}

@@ -5,7 +5,7 @@ use mathlib.Core.Bool.{Bool, true, false, cond}
 use Prim.Native.Nat.{ℕ, zero, suc, _+_}
 use native.Mathlib.Omega.{arith}
 use Rattle.base.specs.Outcomes.{Outcome, answered, refused, andThen}
-use Rattle.jackson.specs.Windows.{Windows}
+use Rattle.windows.specs.Windows.{Windows}
 use Rattle.narrow.specs.Searching.{Test}
 use Rattle.narrow.specs.Rounds.{Side, earliest, latest, step, Narrowed, unmoved, movesOf, counted, narrowSide, visit, visits}
 use Rattle.narrow.specs.Rounds.{movedBefore, round}

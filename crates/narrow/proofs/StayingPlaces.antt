@@ -13,13 +13,13 @@ use Rattle.base.specs.Outcomes.{Outcome, answered, andThen}
 use Rattle.base.proofs.Searches.{First, first-below, Passed, passed-next, passed-found, passed-all}
 use Rattle.list.specs.DayLists.{byPlace}
 use Rattle.list.proofs.ByPlace.{by-place}
-use Rattle.jackson.specs.Windows.{Windows, windowsIn, withWindows, Formed}
-use Rattle.jackson.specs.declared.types.WindowSet.{WindowSet}
-use Rattle.jackson.specs.Plans.{Plannable}
-use Rattle.jackson.specs.Intervals.{overloadOf}
-use Rattle.jackson.specs.Mirrors.{mirror}
-use Rattle.jackson.proofs.Puts.{put-back, with-d}
-use Rattle.jackson.proofs.MirrorWindows.{formed-mirror, plannable-mirror, mirror-r}
+use Rattle.windows.specs.Windows.{Windows, windowsIn, withWindows, Formed}
+use Rattle.windows.specs.declared.types.WindowSet.{WindowSet}
+use Rattle.windows.specs.Plans.{Plannable}
+use Rattle.windows.specs.Intervals.{overloadOf}
+use Rattle.windows.specs.Mirrors.{mirror}
+use Rattle.windows.proofs.Puts.{put-back, with-d}
+use Rattle.windows.proofs.MirrorWindows.{formed-mirror, plannable-mirror, mirror-r}
 use Rattle.edges.specs.Ends.{closedEnd}
 use Rattle.edges.proofs.EndLaws.{end-law}
 use Rattle.narrow.specs.Searching.{Test, leastStart, greatestEnd}

@@ -9,14 +9,14 @@ use borrow.Author.Tests.{eqb-false, le-ltb}
 use lib.Dec.{eqb}
 use Rattle.base.specs.Outcomes.{Code, code, answered}
 use Rattle.base.proofs.Inversion.{Says, by-row, by-step}
-use Rattle.jackson.specs.Windows.{Windows, Inside, withWindows, withR, Formed}
-use Rattle.jackson.specs.Mirrors.{mirror}
-use Rattle.jackson.proofs.Room.{formed-inside}
+use Rattle.windows.specs.Windows.{Windows, Inside, withWindows, withR, Formed}
+use Rattle.windows.specs.Mirrors.{mirror}
+use Rattle.windows.proofs.Room.{formed-inside}
 use Rattle.base.proofs.Searches.{first-below}
 use Rattle.narrow.specs.Searching.{Test, trials, failedStarts, leastStart}
 use Rattle.narrow.specs.Rounds.{Side, earliest, latest, step}
-use Rattle.jackson.proofs.Puts.{place-cases, put-other}
-use Rattle.jackson.proofs.MirrorWindows.{formed-mirror, mirror-back, mirror-r, mirror-d}
+use Rattle.windows.proofs.Puts.{place-cases, put-other}
+use Rattle.windows.proofs.MirrorWindows.{formed-mirror, mirror-back, mirror-r, mirror-d}
 use Rattle.narrow.proofs.MirrorSearches.{mirrorTest, any-in-mirror, step-mirror}
 
 -- from w to v: the same entries, with room, inside, and past the entries the same

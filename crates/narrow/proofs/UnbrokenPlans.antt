@@ -4,10 +4,10 @@ use mathlib.Core.Path.{_≡_, refl, ap}
 use mathlib.Core.Bool.{Bool, true, false, cond}
 use Prim.Native.Nat.{ℕ, _+_, _-_, _<_, _≤_, min}
 use native.Mathlib.Omega.{arith}
-use Rattle.jackson.specs.Windows.{Windows, withWindows, Formed}
-use Rattle.jackson.specs.Plans.{Plan, startOf, Consecutive}
+use Rattle.windows.specs.Windows.{Windows, withWindows, Formed}
+use Rattle.windows.specs.Plans.{Plan, startOf, Consecutive}
 use Rattle.base.proofs.Sums.{le-or-lt}
-use Rattle.jackson.proofs.PlanFacts.{minutes-within, other-windows, widen, plan-start, start-released}
+use Rattle.windows.proofs.PlanFacts.{minutes-within, other-windows, widen, plan-start, start-released}
 use Rattle.narrow.specs.Settling.{SettledInside, NoneSettled, Widest, Unbroken}
 
 module _ (whole : ℕ → Bool) (w : Windows) (formed : Formed w) (m : ℕ → ℕ) (plan : Plan w m) (unbroken : Unbroken whole w m) where

@@ -7,10 +7,10 @@ use Prim.Native.Nat.{ℕ, _+_, _<_, _≤_}
 use native.Mathlib.Numerals.{add-one}
 use native.Mathlib.Omega.{arith}
 use Rattle.base.specs.Outcomes.{code, answered, refused}
-use Rattle.jackson.specs.Windows.{Windows, Formed}
-use Rattle.jackson.specs.Plans.{Plannable}
-use Rattle.jackson.specs.Intervals.{overloadOf}
-use Rattle.jackson.proofs.Puts.{fixed-inside}
+use Rattle.windows.specs.Windows.{Windows, Formed}
+use Rattle.windows.specs.Plans.{Plannable}
+use Rattle.windows.specs.Intervals.{overloadOf}
+use Rattle.windows.proofs.Puts.{fixed-inside}
 use Rattle.narrow.specs.Searching.{leastStart}
 use Rattle.narrow.specs.Rounds.{Narrowed, visit, visits, round}
 use Rattle.narrow.proofs.OverloadPlanner.{overload-planner}

@@ -12,9 +12,9 @@ use Rattle.list.specs.Refusals.{codeOf}
 use Rattle.list.specs.declared.types.Refusal.{Refusal}
 use Rattle.list.specs.declared.types.Verdict.the-variants.{Accepted, Refused}
 use Rattle.base.proofs.Inversion.{Says}
-use Rattle.jackson.specs.Windows.{Windows, windowsIn}
-use Rattle.jackson.specs.Intervals.{overloadOf}
-use Rattle.jackson.specs.declared.types.WindowSet.{WindowSet}
+use Rattle.windows.specs.Windows.{Windows, windowsIn}
+use Rattle.windows.specs.Intervals.{overloadOf}
+use Rattle.windows.specs.declared.types.WindowSet.{WindowSet}
 use Rattle.base.proofs.Sums.{le-or-lt}
 use Rattle.narrow.specs.Searching.{Test}
 use Rattle.narrow.specs.Rounds.{Side, earliest, latest, Narrowed, step, counted, narrowSide, visit, visits, round, rounds, allRounds}

@@ -13,9 +13,9 @@ use Rattle.list.specs.declared.types.Entry.{Entry}
 use Rattle.list.specs.declared.types.DayList.{DayList}
 use Rattle.list.specs.declared.types.Refusal.{Refusal}
 use Rattle.list.specs.declared.types.Verdict.the-variants.{Accepted, Refused}
-use Rattle.jackson.specs.Windows.{Windows, windowsOf, windowsIn, roomFault, Formed}
-use Rattle.jackson.specs.declared.types.WindowSet.{WindowSet}
-use Rattle.jackson.specs.Intervals.{overloadOf}
+use Rattle.windows.specs.Windows.{Windows, windowsOf, windowsIn, roomFault, Formed}
+use Rattle.windows.specs.declared.types.WindowSet.{WindowSet}
+use Rattle.windows.specs.Intervals.{overloadOf}
 use Rattle.narrow.specs.Rounds.{Narrowed, unmoved, round, narrowing}
 use Rattle.narrow.specs.Laws.{RoundLaw, NarrowLaw}
 use Rattle.narrow.specs.declared.types.WindowsAnswer.{WindowsAnswer}

@@ -5,11 +5,11 @@ use mathlib.Core.List.{[], _∷_}
 use lib.Dec.{eqb}
 use Rattle.base.specs.Outcomes.{code, Outcome, answered, refused}
 use Rattle.base.specs.Counting.{firstBelow}
-use Rattle.jackson.specs.Windows.{Windows, windowsIn, Formed}
-use Rattle.jackson.specs.Plans.{Plannable}
-use Rattle.jackson.specs.Mirrors.{mirror}
+use Rattle.windows.specs.Windows.{Windows, windowsIn, Formed}
+use Rattle.windows.specs.Plans.{Plannable}
+use Rattle.windows.specs.Mirrors.{mirror}
 use Rattle.edges.specs.Ends.{closedEnd}
-use Rattle.jackson.specs.declared.types.WindowSet.{WindowSet}
+use Rattle.windows.specs.declared.types.WindowSet.{WindowSet}
 use Rattle.narrow.specs.Rounds.{Narrowed, slack}
 use Rattle.edges.specs.declared.types.Found.{Found}
 use Rattle.edges.specs.declared.types.Found.the-variants.{Minute, NoMinute}

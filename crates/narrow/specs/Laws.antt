@@ -5,9 +5,9 @@ use mathlib.Core.Logic.{_↔_, _⊎_}
 use mathlib.Core.Bool.{Bool, true}
 use mathlib.Core.List.{List, [], _∷_}
 use Rattle.base.specs.Outcomes.{Code, code, Outcome, answered, refused}
-use Rattle.jackson.specs.Windows.{Windows, Inside, withWindows}
-use Rattle.jackson.specs.Plans.{Plan, Plannable}
-use Rattle.jackson.specs.Intervals.{ShowsOverload}
+use Rattle.windows.specs.Windows.{Windows, Inside, withWindows}
+use Rattle.windows.specs.Plans.{Plan, Plannable}
+use Rattle.windows.specs.Intervals.{ShowsOverload}
 use Rattle.narrow.specs.Searching.{Test, SearchLaw}
 use Rattle.narrow.specs.Settling.{SettledInside, NoneSettled, Widest, Unbroken, minutesCut}
 use Rattle.narrow.specs.Rounds.{Narrowed, unmoved, movedBefore, slack}

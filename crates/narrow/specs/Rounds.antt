@@ -4,7 +4,7 @@ use mathlib.Core.Bool.{Bool, cond}
 use lib.Dec.{eqb}
 use Rattle.base.specs.Outcomes.{Outcome, answered, andThen}
 use Rattle.base.specs.Counting.{sum}
-use Rattle.jackson.specs.Windows.{Windows, withR, withD}
+use Rattle.windows.specs.Windows.{Windows, withR, withD}
 use Rattle.narrow.specs.Searching.{Test, leastStart, greatestEnd}
 
 -- a side of a window: r, its earliest minute, or d, its latest

@@ -6,8 +6,8 @@ use mathlib.Core.List.{[], _∷_}
 use lib.Dec.{eqb}
 use Rattle.base.specs.Outcomes.{code, Outcome, answered, refused, row, firstOf, accepts}
 use Rattle.base.specs.Counting.{firstBelow}
-use Rattle.jackson.specs.Windows.{Windows, fixedAt, fixedUpTo}
-use Rattle.jackson.specs.Plans.{Plannable}
+use Rattle.windows.specs.Windows.{Windows, fixedAt, fixedUpTo}
+use Rattle.windows.specs.Plans.{Plannable}
 
 -- a planner's test of windows: searches ask only whether it accepts them; of the windows given its refusal is handed on
 abbrev pub Test : Type 0

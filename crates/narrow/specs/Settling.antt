@@ -3,8 +3,8 @@ use Prim.Native.Nat.{ℕ, _+_, _-_, _<_}
 use mathlib.Core.Path.{_≡_}
 use mathlib.Core.Bool.{Bool, true}
 use Rattle.base.specs.Counting.{sum}
-use Rattle.jackson.specs.Windows.{Windows, Inside, withWindows}
-use Rattle.jackson.specs.Plans.{Plan, Plannable, Consecutive}
+use Rattle.windows.specs.Windows.{Windows, Inside, withWindows}
+use Rattle.windows.specs.Plans.{Plan, Plannable, Consecutive}
 
 -- "It is settled if a plan has every entry in its window, and if each whole entry has such a plan with its minutes consecutive from its
 -- r on, and one with them consecutive up to its d."

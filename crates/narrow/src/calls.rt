@@ -3,16 +3,16 @@ use crate::rounds::narrow_windows;
 use crate::rounds::untested_round;
 use crate::types::NarrowAnswer;
 use crate::types::WindowsAnswer;
-use jackson::types::WindowSet;
-use jackson::unchecked_windows;
 use list::places_held;
 use list::types::DayList;
 use list::types::Entry;
 use list::types::Verdict;
 use list::whole_places;
+use windows::types::WindowSet;
+use windows::unchecked_windows;
 ghost use mathlib.Core.Path.{_≡_};
 ghost use Rattle.list.specs.DayLists.{emptyList};
-ghost use Rattle.jackson.specs.Windows.{windowsIn};
+ghost use Rattle.windows.specs.Windows.{windowsIn};
 ghost use Rattle.narrow.specs.Calls.{entryWith, listWith, narrowedOf, AnswersAs, Settles, MakesRound};
 
 // An entry with another window.

@@ -1,7 +1,7 @@
 // What narrowing answers.
-use jackson::types::WindowSet;
 use list::types::DayList;
 use list::types::Verdict;
+use windows::types::WindowSet;
 
 // The narrowed windows and their moves beside Accepted. `narrow_windows` answers the windows given and 0 beside a refusal.
 pub struct WindowsAnswer {

@@ -11,9 +11,9 @@ use Rattle.list.specs.DayLists.{alwaysOpen, SameList, wholeIn}
 use Rattle.list.specs.declared.types.DayList.{DayList}
 use Rattle.list.proofs.OpeningLaws.{opening-law}
 use Rattle.list.proofs.Alike.{both-pass, same-checked}
-use Rattle.jackson.specs.Intervals.{overloadOf}
+use Rattle.windows.specs.Intervals.{overloadOf}
+use Rattle.windows.proofs.AlikeWindows.{alike-windows}
 use Rattle.jackson.specs.Minutes.{schedule}
-use Rattle.jackson.proofs.Alike.{alike-windows}
 use Rattle.narrow.specs.Rounds.{narrowing}
 use Rattle.narrow.specs.Calls.{SameTimes, listed}
 use Rattle.narrow.proofs.Alike.{same-times, times-windows, times-whole, same-listed}

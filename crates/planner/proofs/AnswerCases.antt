@@ -18,15 +18,15 @@ use Rattle.list.specs.declared.types.Refusal.{Refusal}
 use Rattle.list.specs.declared.types.Verdict.{Verdict}
 use Rattle.list.specs.declared.types.Verdict.the-variants.{Refused}
 use Rattle.list.specs.declared.types.DayList.{DayList}
-use Rattle.jackson.specs.Windows.{Windows, windowsOf, windowsIn}
-use Rattle.jackson.specs.Plans.{placesIn}
-use Rattle.jackson.specs.Intervals.{overloadOf}
+use Rattle.windows.specs.Windows.{Windows, windowsOf, windowsIn}
+use Rattle.windows.specs.Plans.{placesIn}
+use Rattle.windows.specs.Intervals.{overloadOf}
 use Rattle.jackson.specs.Minutes.{schedule}
 use Rattle.jackson.specs.Calls.{FillsWindows}
 use Rattle.narrow.specs.declared.types.WindowsAnswer.{WindowsAnswer}
 use Rattle.narrow.specs.Calls.{narrowedOf, narrowedIn}
 use Rattle.narrow.specs.declared.types.NarrowAnswer.{NarrowAnswer}
-use Rattle.jackson.proofs.ListLaws.{list-formed}
+use Rattle.windows.proofs.FormedLists.{list-formed}
 use Rattle.narrow.proofs.ListAnswers.{answers-refused}
 use Rattle.bounds.specs.Ends.{leastEnd, greatestStart}
 use Rattle.bounds.specs.ShownPlans.{earlyPlan, latePlan, boundOf, shownPlan}

@@ -11,10 +11,10 @@ use lib.Dec.{eqb}
 use lib.ListN.{length, getD, take}
 use lib.Seq.{getD-take}
 use Rattle.base.specs.Counting.{lastBelow, sum}
-use Rattle.jackson.specs.Windows.{Windows}
-use Rattle.jackson.specs.Plans.{idle, placesIn, startOf, endOf, minutesOf}
+use Rattle.windows.specs.Windows.{Windows}
+use Rattle.windows.specs.Plans.{idle, placesIn, startOf, endOf, minutesOf}
 use Rattle.base.proofs.Searches.{first-below, Passed, passed-none, passed-next, passed-found, passed-all}
-use Rattle.jackson.proofs.PlanFacts.{minutes-within, place-read}
+use Rattle.windows.proofs.PlanFacts.{minutes-within, place-read}
 use Rattle.planner.specs.BrokenEntries.{isBroken, brokenIn}
 use Rattle.planner.specs.Internal.{HoldsPlan, oneBroken}
 

@@ -8,9 +8,9 @@ use native.Mathlib.Omega.{arith}
 use borrow.Author.Tests.{eqb-false, ne-eqb, not-true}
 use lib.Dec.{eqb}
 use Rattle.base.specs.Counting.{sum}
-use Rattle.jackson.specs.Plans.{minutesOf, startOf, endOf, IsStart, IsEnd, Consecutive}
+use Rattle.windows.specs.Plans.{minutesOf, startOf, endOf, IsStart, IsEnd, Consecutive}
 use Rattle.base.proofs.Sums.{le-or-lt, same-cases}
-use Rattle.jackson.proofs.PlanFacts.{minutes-within, minutes-fill, start-is, end-is, start-to-end}
+use Rattle.windows.proofs.PlanFacts.{minutes-within, minutes-fill, start-is, end-is, start-to-end}
 use Rattle.planner.specs.BrokenEntries.{isBroken, Broken}
 
 -- a place that has every minute from a up to b has at least so many

@@ -20,14 +20,15 @@ use Rattle.list.specs.declared.types.Verdict.the-variants.{Accepted, Refused}
 use Rattle.list.specs.declared.types.DayList.{DayList}
 use Rattle.list.proofs.Sound.{sound-list}
 use Rattle.list.proofs.Verdicts.{by-verdict, by-accepted, by-refused}
-use Rattle.jackson.specs.Windows.{Windows, windowsOf, windowsIn, Formed}
-use Rattle.jackson.specs.Plans.{placesIn}
-use Rattle.jackson.specs.Intervals.{overloadOf}
+use Rattle.windows.specs.Windows.{Windows, windowsOf, windowsIn, Formed}
+use Rattle.windows.specs.Plans.{placesIn}
+use Rattle.windows.specs.Intervals.{overloadOf}
+use Rattle.windows.specs.Calls.{Holds}
+use Rattle.windows.specs.declared.types.WindowSet.{WindowSet}
+use Rattle.windows.proofs.Room.{formed-passes}
+use Rattle.windows.proofs.FormedLists.{list-few, list-formed}
 use Rattle.jackson.specs.Minutes.{schedule}
-use Rattle.jackson.specs.Calls.{Holds, bufferRow, bufferFault, FillsWindows}
-use Rattle.jackson.specs.declared.types.WindowSet.{WindowSet}
-use Rattle.jackson.proofs.Room.{formed-passes}
-use Rattle.jackson.proofs.ListLaws.{list-few, list-formed}
+use Rattle.jackson.specs.Calls.{bufferRow, bufferFault, FillsWindows}
 use Rattle.narrow.specs.Settling.{Widest}
 use Rattle.narrow.specs.Rounds.{Narrowed, narrowing}
 use Rattle.narrow.specs.Calls.{narrowWindows, narrowedOf, narrowedIn, settleOf, AnswersAs}

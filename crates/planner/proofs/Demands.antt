@@ -5,16 +5,16 @@ use mathlib.Core.Bool.{Bool}
 use Prim.Native.Nat.{ℕ, _<_}
 use native.Mathlib.Omega.{arith}
 use Rattle.base.specs.Outcomes.{answered}
-use Rattle.jackson.specs.Windows.{Windows, Formed}
-use Rattle.jackson.specs.Plans.{placesIn, PlanBytes, Plannable}
-use Rattle.jackson.specs.Intervals.{overloadOf}
+use Rattle.windows.specs.Windows.{Windows, Formed}
+use Rattle.windows.specs.Plans.{placesIn, PlanBytes, Plannable}
+use Rattle.windows.specs.Intervals.{overloadOf}
 use Rattle.jackson.specs.Minutes.{schedule}
 use Rattle.jackson.specs.Laws.{ScheduleLaw}
 use Rattle.jackson.proofs.Law.{schedule-law}
 use Rattle.narrow.specs.Settling.{Widest}
 use Rattle.narrow.specs.Rounds.{Narrowed, narrowing}
 use Rattle.narrow.specs.Laws.{NarrowLaw}
-use Rattle.jackson.proofs.Room.{formed-roomy}
+use Rattle.windows.proofs.Room.{formed-roomy}
 use Rattle.narrow.proofs.OverloadPlanner.{overload-planner}
 use Rattle.narrow.proofs.MirrorSettled.{set-formed}
 use Rattle.narrow.proofs.Fixpoints.{widest-set}

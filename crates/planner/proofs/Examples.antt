@@ -9,9 +9,9 @@ use Rattle.list.specs.Clashes.{firstClash}
 use Rattle.list.specs.Checks.{headerFault, openingFault, entriesFault, valuesFault, checkOf}
 use Rattle.format.specs.Reading.{readOf, decodeOf, openedOf, bodyOf, entriesFrom}
 use Rattle.base.specs.Counting.{sum, same, firstBelow, lastBelow, best, listOf}
-use Rattle.jackson.specs.Windows.{windowsOf}
-use Rattle.jackson.specs.Plans.{Plan, IsEnd, IsStart, placesIn}
-use Rattle.jackson.specs.Intervals.{work, leftEnd, rightEnd, overloadOf}
+use Rattle.windows.specs.Windows.{windowsOf}
+use Rattle.windows.specs.Plans.{Plan, IsEnd, IsStart, placesIn}
+use Rattle.windows.specs.Intervals.{work, leftEnd, rightEnd, overloadOf}
 use Rattle.jackson.specs.Minutes.{chosen, minuteOf, later, schedule}
 use Rattle.base.proofs.Sums.{le-or-lt, same-cases, same-ne}
 use Rattle.narrow.specs.Searching.{failedStarts, failedEnds, leastStart, greatestEnd}

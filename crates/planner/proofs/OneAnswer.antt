@@ -10,7 +10,7 @@ use lib.ListN.{length}
 use Rattle.base.specs.Outcomes.{Outcome, answered}
 use Rattle.list.specs.DayLists.{SameList}
 use Rattle.list.specs.declared.types.DayList.{DayList}
-use Rattle.jackson.specs.Windows.{Windows}
+use Rattle.windows.specs.Windows.{Windows}
 use Rattle.narrow.specs.Rounds.{Narrowed}
 use Rattle.narrow.specs.Calls.{listed, narrowAnswerOf, standing, AnswersAs}
 use Rattle.narrow.specs.declared.types.NarrowAnswer.{NarrowAnswer}

@@ -4,8 +4,8 @@ use mathlib.Core.Path.{_≡_}
 use mathlib.Core.Bool.{Bool, true, cond, not, _&&_}
 use lib.Dec.{eqb}
 use Rattle.base.specs.Counting.{sum}
-use Rattle.jackson.specs.Windows.{Windows}
-use Rattle.jackson.specs.Plans.{minutesOf, startOf, endOf, Consecutive}
+use Rattle.windows.specs.Windows.{Windows}
+use Rattle.windows.specs.Plans.{minutesOf, startOf, endOf, Consecutive}
 
 -- entry i is whole and does not have all the minutes from its start to its end
 abbrev pub isBroken : (ℕ → Bool) → ℕ → (ℕ → ℕ) → ℕ → Bool

@@ -11,9 +11,9 @@ use Rattle.list.specs.Checks.{checkOf}
 use Rattle.list.specs.declared.types.DayList.{DayList}
 use Rattle.list.specs.declared.types.Verdict.{Verdict}
 use Rattle.list.specs.declared.types.Verdict.the-variants.{Accepted}
-use Rattle.jackson.specs.Windows.{Windows, windowsOf}
-use Rattle.jackson.specs.Plans.{placesIn}
-use Rattle.jackson.specs.Intervals.{overloadOf}
+use Rattle.windows.specs.Windows.{Windows, windowsOf}
+use Rattle.windows.specs.Plans.{placesIn}
+use Rattle.windows.specs.Intervals.{overloadOf}
 use Rattle.jackson.specs.Minutes.{schedule}
 use Rattle.jackson.specs.Calls.{bufferRow}
 use Rattle.narrow.specs.Rounds.{Narrowed, narrowing}

@@ -4,8 +4,8 @@ use mathlib.Core.Path.{_≡_}
 use mathlib.Core.Logic.{_↔_}
 use mathlib.Core.Bool.{Bool, true}
 use mathlib.Core.List.{List}
-use Rattle.jackson.specs.Windows.{Windows}
-use Rattle.jackson.specs.Plans.{placesIn, PlanBytes}
+use Rattle.windows.specs.Windows.{Windows}
+use Rattle.windows.specs.Plans.{placesIn, PlanBytes}
 use Rattle.jackson.specs.Minutes.{schedule, FollowsJackson}
 use Rattle.planner.specs.BrokenEntries.{isBroken, brokenIn, Broken}
 

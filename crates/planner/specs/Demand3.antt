@@ -4,9 +4,9 @@ use mathlib.Core.Path.{_≡_}
 use mathlib.Core.Bool.{Bool}
 use mathlib.Core.List.{List}
 use Rattle.base.specs.Outcomes.{Outcome, answered}
-use Rattle.jackson.specs.Windows.{Windows}
-use Rattle.jackson.specs.Plans.{IsEnd, IsStart}
-use Rattle.jackson.specs.Intervals.{overloadOf}
+use Rattle.windows.specs.Windows.{Windows}
+use Rattle.windows.specs.Plans.{IsEnd, IsStart}
+use Rattle.windows.specs.Intervals.{overloadOf}
 use Rattle.narrow.specs.Rounds.{Narrowed}
 use Rattle.narrow.specs.Laws.{NarrowLaw}
 use Rattle.bounds.specs.Ends.{Keeping}

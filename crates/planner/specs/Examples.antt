@@ -11,8 +11,8 @@ use Rattle.list.specs.declared.types.Seal.the-variants.{Missing}
 use Rattle.list.specs.declared.types.Kind.the-variants.{Pause, Whole}
 use Rattle.list.specs.declared.types.Entry.{Entry}
 use Rattle.list.specs.declared.types.DayList.{DayList}
-use Rattle.jackson.specs.Windows.{Windows, windowsOf}
-use Rattle.jackson.specs.Plans.{Plan, IsEnd, IsStart}
+use Rattle.windows.specs.Windows.{Windows, windowsOf}
+use Rattle.windows.specs.Plans.{Plan, IsEnd, IsStart}
 use Rattle.jackson.specs.Minutes.{schedule}
 use Rattle.narrow.specs.Calls.{settleOf, roundOf, listed}
 use Rattle.bounds.specs.ShownPlans.{shownPlan}

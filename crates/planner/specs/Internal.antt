@@ -6,8 +6,8 @@ use lib.ListN.{length, take}
 use Rattle.base.specs.Outcomes.{Outcome}
 use Rattle.list.specs.DayLists.{mostEntries}
 use Rattle.list.specs.declared.types.DayList.{DayList}
-use Rattle.jackson.specs.Windows.{Windows}
-use Rattle.jackson.specs.Plans.{Plan, placesIn}
+use Rattle.windows.specs.Windows.{Windows}
+use Rattle.windows.specs.Plans.{Plan, placesIn}
 use Rattle.narrow.specs.Calls.{AnswersAs, HoldsAnswer}
 use Rattle.narrow.specs.declared.types.NarrowAnswer.{NarrowAnswer}
 use Rattle.planner.specs.BrokenEntries.{isBroken}

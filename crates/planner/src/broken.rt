@@ -1,13 +1,13 @@
 // Broken entries of a plan.
-use jackson::types::WindowSet;
 use list::places_held;
 use list::types::ENTRIES;
+use windows::types::WindowSet;
 ghost use mathlib.Core.Path.{_≡_};
 ghost use Prim.Native.Nat.{_<_, _≤_};
 ghost use lib.ListN.{length, take};
 ghost use Rattle.list.specs.DayLists.{marked};
-ghost use Rattle.jackson.specs.Windows.{windowsIn};
-ghost use Rattle.jackson.specs.Plans.{placesIn, startOf, endOf};
+ghost use Rattle.windows.specs.Windows.{windowsIn};
+ghost use Rattle.windows.specs.Plans.{placesIn, startOf, endOf};
 ghost use Rattle.planner.specs.BrokenEntries.{brokenIn};
 ghost use Rattle.planner.specs.Internal.{HoldsPlan, oneBroken};
 

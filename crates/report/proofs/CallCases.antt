@@ -11,8 +11,8 @@ use Rattle.base.specs.Outcomes.{code}
 use Rattle.list.specs.DayLists.{blank}
 use Rattle.list.specs.declared.types.Entry.{Entry}
 use Rattle.list.specs.declared.types.DayList.{DayList}
-use Rattle.jackson.specs.Plans.{placesIn}
-use Rattle.jackson.proofs.PlanFacts.{place-read}
+use Rattle.windows.specs.Plans.{placesIn}
+use Rattle.windows.proofs.PlanFacts.{place-read}
 use Rattle.codes.specs.declared.RefusalCode.{RefusalCode}
 use Rattle.report.specs.Text.{ascii, decimal, line}
 use Rattle.report.specs.Runs.{beginsRun, runEnd}

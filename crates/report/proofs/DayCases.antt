@@ -24,9 +24,9 @@ use Rattle.list.specs.declared.types.WriteAnswer.the-variants.{Written}
 use Rattle.list.proofs.Verdicts.{by-verdict}
 use Rattle.list.proofs.Sound.{sound-list}
 use Rattle.format.proofs.ReadLaws.{read-well-formed}
-use Rattle.jackson.specs.Windows.{Windows, windowsOf}
-use Rattle.jackson.specs.Intervals.{overloadOf}
-use Rattle.jackson.specs.Plans.{placesIn}
+use Rattle.windows.specs.Windows.{Windows, windowsOf}
+use Rattle.windows.specs.Intervals.{overloadOf}
+use Rattle.windows.specs.Plans.{placesIn}
 use Rattle.jackson.specs.Minutes.{schedule}
 use Rattle.narrow.specs.Rounds.{Narrowed, narrowing}
 use Rattle.narrow.specs.Calls.{listed, standing, entriesWith, listWith}

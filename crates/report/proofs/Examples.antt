@@ -7,7 +7,7 @@ use Rattle.list.specs.Clashes.{firstClash}
 use Rattle.list.specs.Checks.{headerFault, openingFault}
 use Rattle.format.specs.Reading.{entriesFrom, bodyOf, openedOf, decodeOf, mapPlace, readOf}
 use Rattle.base.specs.Counting.{sum, firstBelow, lastBelow, best, listOf}
-use Rattle.jackson.specs.Intervals.{work, leftEnd, rightEnd, overloadOf}
+use Rattle.windows.specs.Intervals.{work, leftEnd, rightEnd, overloadOf}
 use Rattle.jackson.specs.Minutes.{chosen, minuteOf, later, schedule}
 use Rattle.narrow.specs.Searching.{failedStarts, failedEnds, leastStart, greatestEnd}
 use Rattle.narrow.specs.Rounds.{narrowSide, visit, visits, rounds, narrowing}

@@ -17,12 +17,12 @@ use Rattle.list.specs.declared.types.DayList.{DayList}
 use Rattle.base.proofs.Inversion.{Says, Anything}
 use Rattle.list.proofs.Sound.{sound-list}
 use Rattle.format.proofs.ReadLaws.{read-well-formed, read-typed}
-use Rattle.jackson.specs.Windows.{Windows, windowsOf, Formed}
-use Rattle.jackson.specs.Plans.{idle, placesIn, PlanBytes}
-use Rattle.jackson.specs.Intervals.{overloadOf}
+use Rattle.windows.specs.Windows.{Windows, windowsOf, Formed}
+use Rattle.windows.specs.Plans.{idle, placesIn, PlanBytes}
+use Rattle.windows.specs.Intervals.{overloadOf}
 use Rattle.jackson.specs.Minutes.{schedule}
 use Rattle.base.proofs.Sums.{sum-most}
-use Rattle.jackson.proofs.ListLaws.{list-few, list-formed}
+use Rattle.windows.proofs.FormedLists.{list-few, list-formed}
 use Rattle.narrow.specs.Settling.{Settled, Widest, minutesCut}
 use Rattle.narrow.specs.Rounds.{Narrowed, narrowing}
 use Rattle.narrow.specs.Laws.{NarrowLaw}

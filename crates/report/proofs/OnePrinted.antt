@@ -5,8 +5,8 @@ use mathlib.Core.List.{List}
 use Prim.Native.Nat.{ℕ, _<_}
 use Rattle.list.specs.declared.types.DayList.{DayList}
 use Rattle.base.proofs.Inversion.{answered-same, refused-same, answered-refused}
-use Rattle.jackson.specs.Windows.{windowsOf}
-use Rattle.jackson.specs.Plans.{placesIn}
+use Rattle.windows.specs.Windows.{windowsOf}
+use Rattle.windows.specs.Plans.{placesIn}
 use Rattle.jackson.specs.Minutes.{schedule}
 use Rattle.narrow.specs.Rounds.{Narrowed}
 use Rattle.list.specs.DayLists.{wholeIn}

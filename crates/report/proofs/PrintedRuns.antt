@@ -8,7 +8,7 @@ use native.Mathlib.Omega.{arith}
 use borrow.Author.Tests.{leb-true, ltb-true, le-leb, lt-ltb}
 use lib.ListN.{length, getD}
 use lib.Dec.{leb, ltb}
-use Rattle.jackson.specs.Plans.{idle}
+use Rattle.windows.specs.Plans.{idle}
 use Rattle.base.proofs.Sums.{le-or-lt, same-cases}
 use Rattle.report.specs.Text.{decimal}
 use Rattle.report.specs.Runs.{beginsRun, runEnd, Run}

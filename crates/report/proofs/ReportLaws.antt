@@ -17,9 +17,9 @@ use Rattle.list.specs.declared.types.DayList.{DayList}
 use Rattle.list.specs.declared.types.Verdict.the-variants.{Accepted}
 use Rattle.base.proofs.Inversion.{answered-same, answered-refused}
 use Rattle.format.proofs.ReadLaws.{read-places, read-well-formed}
-use Rattle.jackson.specs.Windows.{Windows, windowsOf, Formed}
-use Rattle.jackson.specs.Intervals.{overloadOf}
-use Rattle.jackson.specs.Plans.{idle, placesIn}
+use Rattle.windows.specs.Windows.{Windows, windowsOf, Formed}
+use Rattle.windows.specs.Intervals.{overloadOf}
+use Rattle.windows.specs.Plans.{idle, placesIn}
 use Rattle.jackson.specs.Minutes.{schedule}
 use Rattle.base.proofs.Listed.{list-is}
 use Rattle.narrow.specs.Settling.{Widest}
@@ -30,7 +30,7 @@ use Rattle.narrow.specs.declared.types.NarrowAnswer.{NarrowAnswer}
 use Rattle.narrow.proofs.OverloadPlanner.{overload-planner}
 use Rattle.narrow.proofs.NarrowLaws.{narrow-law}
 use Rattle.narrow.proofs.Alike.{listed-entries}
-use Rattle.jackson.proofs.ListLaws.{list-formed}
+use Rattle.windows.proofs.FormedLists.{list-formed}
 use Rattle.narrow.proofs.ListAnswers.{settles}
 use Rattle.bounds.specs.Ends.{leastEnd, greatestStart}
 use Rattle.planner.specs.BrokenEntries.{brokenIn}

@@ -8,9 +8,9 @@ use native.Mathlib.Omega.{arith}
 use borrow.Author.Tests.{eq-eqb, ne-eqb, eqb-false, not-true}
 use lib.Dec.{eqb}
 use lib.ListN.{length, getD}
-use Rattle.jackson.specs.Plans.{placesIn}
+use Rattle.windows.specs.Plans.{placesIn}
 use Rattle.base.proofs.Sums.{le-or-lt}
-use Rattle.jackson.proofs.PlanFacts.{place-read}
+use Rattle.windows.proofs.PlanFacts.{place-read}
 use Rattle.base.proofs.Searches.{first-below, one-first}
 use Rattle.report.specs.Runs.{beginsRun, runEnd}
 

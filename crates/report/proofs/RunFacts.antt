@@ -7,7 +7,7 @@ use native.Mathlib.Omega.{arith}
 use borrow.Author.Tests.{eqb-false, eq-eqb, ne-eqb, not-true}
 use lib.Dec.{eqb}
 use Rattle.base.specs.Counting.{firstBelow}
-use Rattle.jackson.specs.Plans.{idle}
+use Rattle.windows.specs.Plans.{idle}
 use Rattle.base.proofs.Sums.{le-or-lt, same-cases}
 use Rattle.base.proofs.Inversion.{both}
 use Rattle.base.proofs.Searches.{First, first-below}

@@ -12,7 +12,7 @@ use Rattle.list.specs.declared.types.Entry.{Entry}
 use Rattle.list.specs.declared.types.DayList.{DayList}
 use Rattle.list.specs.declared.types.WriteAnswer.{WriteAnswer}
 use Rattle.list.specs.declared.types.WriteAnswer.the-variants.{Written, NotWritten}
-use Rattle.jackson.specs.Plans.{placesIn}
+use Rattle.windows.specs.Plans.{placesIn}
 use Rattle.planner.specs.declared.types.PlanAnswer.{PlanAnswer}
 use Rattle.report.specs.Text.{ascii, decimal, line}
 use Rattle.report.specs.Reports.{headLine, entryLines, runLineAt, runLines}

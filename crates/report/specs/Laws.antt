@@ -8,8 +8,8 @@ use Rattle.base.specs.Outcomes.{Code, answered, refused}
 use Rattle.format.specs.Reading.{readOf}
 use Rattle.format.specs.Laws.{ReadRefusal}
 use Rattle.list.specs.declared.types.DayList.{DayList}
-use Rattle.jackson.specs.Windows.{windowsOf}
-use Rattle.jackson.specs.Plans.{placesIn}
+use Rattle.windows.specs.Windows.{windowsOf}
+use Rattle.windows.specs.Plans.{placesIn}
 use Rattle.list.specs.DayLists.{wholeIn}
 use Rattle.narrow.specs.Calls.{listWith}
 use Rattle.planner.specs.Demand3.{Demand3}

@@ -14,8 +14,8 @@ use Rattle.list.specs.declared.types.Kind.the-variants.{Pause, Whole}
 use Rattle.list.specs.declared.types.Entry.{Entry}
 use Rattle.list.specs.declared.types.DayList.{DayList}
 use Rattle.base.specs.Counting.{listOf}
-use Rattle.jackson.specs.Windows.{Windows, windowsOf}
-use Rattle.jackson.specs.Plans.{idle}
+use Rattle.windows.specs.Windows.{Windows, windowsOf}
+use Rattle.windows.specs.Plans.{idle}
 use Rattle.bounds.specs.ShownPlans.{earlyPlan, latePlan}
 use Rattle.planner.specs.Demand3.{Told}
 use Rattle.report.specs.Text.{ascii, saysAfter}

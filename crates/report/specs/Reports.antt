@@ -15,9 +15,9 @@ use Rattle.list.specs.declared.types.Kind.{Kind}
 use Rattle.list.specs.declared.types.Kind.the-variants.{Pause, Whole}
 use Rattle.list.specs.declared.types.Entry.{Entry}
 use Rattle.list.specs.declared.types.DayList.{DayList}
-use Rattle.jackson.specs.Windows.{windowsOf}
-use Rattle.jackson.specs.Intervals.{overloadOf}
-use Rattle.jackson.specs.Plans.{placesIn}
+use Rattle.windows.specs.Windows.{windowsOf}
+use Rattle.windows.specs.Intervals.{overloadOf}
+use Rattle.windows.specs.Plans.{placesIn}
 use Rattle.jackson.specs.Minutes.{schedule}
 use Rattle.narrow.specs.Rounds.{Narrowed, narrowing}
 use Rattle.narrow.specs.Calls.{listWith}

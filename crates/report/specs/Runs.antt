@@ -5,7 +5,7 @@ use mathlib.Core.Logic.{_↔_}
 use mathlib.Core.Bool.{Bool, true, not, _&&_, _||_}
 use lib.Dec.{eqb}
 use Rattle.base.specs.Counting.{firstBelow}
-use Rattle.jackson.specs.Plans.{idle}
+use Rattle.windows.specs.Plans.{idle}
 
 -- a run begins at minute t: an entry has it that did not have the minute before
 abbrev pub beginsRun : (ℕ → ℕ) → ℕ → Bool

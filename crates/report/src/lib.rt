@@ -5,7 +5,7 @@
 // as it was. REPORT_BYTES are enough for every text, and REFUSAL_BYTES for every line.
 // The top theorem, demands 2 and 3 of the numbers printed, is `report-law` of proofs/ReportLaws.antt.
 // Uses `read` of the crate format, the types of list, `plan_day` of planner and the type `RefusalCode` of codes; definitions and laws of
-// base, jackson, narrow and bounds.
+// base, windows, jackson, narrow and bounds.
 mod day;
 mod lines;
 mod runs;

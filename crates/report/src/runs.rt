@@ -3,7 +3,7 @@ use crate::lines::put_run;
 ghost use mathlib.Core.Path.{_≡_};
 ghost use Prim.Native.Nat.{_<_};
 ghost use lib.ListN.{length};
-ghost use Rattle.jackson.specs.Plans.{placesIn};
+ghost use Rattle.windows.specs.Plans.{placesIn};
 ghost use Rattle.report.specs.Runs.{beginsRun, runEnd};
 ghost use Rattle.report.specs.Internal.{Puts, runTextAt, runsText};
 

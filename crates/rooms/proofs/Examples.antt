@@ -10,7 +10,7 @@ use Rattle.format.specs.Forms.{entryBytes}
 use Rattle.format.specs.Headers.{headerBytes}
 use Rattle.format.specs.Reading.{entriesFrom, mapPlace}
 use Rattle.format.specs.Writing.{bytesOfEntries, bytesOf}
-use Rattle.jackson.specs.Intervals.{work, leftEnd, rightEnd, overloadOf}
+use Rattle.windows.specs.Intervals.{work, leftEnd, rightEnd, overloadOf}
 use Rattle.narrow.specs.Searching.{failedStarts, failedEnds, leastStart, greatestEnd}
 use Rattle.narrow.specs.Rounds.{narrowSide, visit, visits, rounds, narrowing}
 use Rattle.narrow.specs.Calls.{entriesWith, listWith, roundOf, settleOf}

@@ -21,7 +21,7 @@ use Rattle.format.specs.Writing.{bytesOfEntries, bytesOf}
 use Rattle.format.proofs.FormCases.{entry-length}
 use Rattle.format.proofs.WriteCases.{form-length}
 use Rattle.format.proofs.EntryTrip.{EntryFits}
-use Rattle.jackson.specs.Windows.{Windows, windowsOf}
+use Rattle.windows.specs.Windows.{Windows, windowsOf}
 use Rattle.narrow.specs.Rounds.{Narrowed}
 use Rattle.narrow.specs.Calls.{entryWith, entriesWith, listWith, listed}
 use Rattle.narrow.proofs.StepsKeep.{Keeps}

@@ -14,9 +14,9 @@ use Rattle.list.specs.Machine.{Bytes}
 use Rattle.list.specs.DayLists.{wholeIn}
 use Rattle.list.specs.declared.types.DayList.{DayList}
 use Rattle.list.proofs.Sound.{sound-list}
-use Rattle.jackson.specs.Windows.{windowsOf}
-use Rattle.jackson.specs.Intervals.{overloadOf}
-use Rattle.jackson.proofs.ListLaws.{list-few, list-formed}
+use Rattle.windows.specs.Windows.{windowsOf}
+use Rattle.windows.specs.Intervals.{overloadOf}
+use Rattle.windows.proofs.FormedLists.{list-few, list-formed}
 use Rattle.narrow.specs.Rounds.{Narrowed, narrowing}
 use Rattle.narrow.specs.Calls.{settleOf, listed}
 use Rattle.shares.specs.Shares.{frontOf}

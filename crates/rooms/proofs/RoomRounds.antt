@@ -12,9 +12,9 @@ use Rattle.base.proofs.Sums.{eq-or-ne}
 use Rattle.list.specs.DayLists.{wholeIn}
 use Rattle.list.specs.Checks.{WellFormed}
 use Rattle.list.specs.declared.types.DayList.{DayList}
-use Rattle.jackson.specs.Windows.{Windows, windowsOf, Formed}
-use Rattle.jackson.specs.Intervals.{overloadOf}
-use Rattle.jackson.proofs.ListLaws.{list-formed}
+use Rattle.windows.specs.Windows.{Windows, windowsOf, Formed}
+use Rattle.windows.specs.Intervals.{overloadOf}
+use Rattle.windows.proofs.FormedLists.{list-formed}
 use Rattle.narrow.specs.Searching.{Test}
 use Rattle.narrow.specs.Rounds.{Narrowed, unmoved, round, rounds, slack}
 use Rattle.narrow.specs.Calls.{listWith, roundOf, listed}

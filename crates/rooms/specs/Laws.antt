@@ -8,8 +8,8 @@ use Rattle.base.specs.Outcomes.{Code, code, Outcome, answered, refused}
 use Rattle.list.specs.DayLists.{wholeIn}
 use Rattle.list.specs.declared.types.DayList.{DayList}
 use Rattle.format.specs.Writing.{bytesOf}
-use Rattle.jackson.specs.Windows.{windowsOf}
-use Rattle.jackson.specs.Intervals.{ShowsOverload, overloadOf}
+use Rattle.windows.specs.Windows.{windowsOf}
+use Rattle.windows.specs.Intervals.{ShowsOverload, overloadOf}
 use Rattle.narrow.specs.Laws.{WholeRefused}
 use Rattle.narrow.specs.Calls.{roundOf, listed}
 use Rattle.shares.specs.Shares.{frontOf}

@@ -6,8 +6,8 @@ use lib.Dec.{eqb, leb}
 use Rattle.base.specs.Outcomes.{Outcome, answered, refused, andThen}
 use Rattle.list.specs.DayLists.{wholeIn}
 use Rattle.list.specs.declared.types.DayList.{DayList}
-use Rattle.jackson.specs.Windows.{windowsOf}
-use Rattle.jackson.specs.Intervals.{overloadOf}
+use Rattle.windows.specs.Windows.{windowsOf}
+use Rattle.windows.specs.Intervals.{overloadOf}
 use Rattle.narrow.specs.Rounds.{slack}
 use Rattle.narrow.specs.Calls.{roundOf, settleOf, listed}
 use Rattle.shares.specs.Shares.{frontOf, shareWith}

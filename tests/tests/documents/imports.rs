@@ -41,7 +41,7 @@ fn files(folder: &str, ending: &str) -> Vec<String> {
     names(&root().join(folder), ending).iter().map(|name| format!("{folder}/{name}.{ending}")).collect()
 }
 
-/// The definitions and proofs that a file imports, by lines "use Rattle.jackson.specs.Windows.{Windows}" and
+/// The definitions and proofs that a file imports, by lines "use Rattle.windows.specs.Windows.{Windows}" and
 /// "ghost use ..". There is no other way to name another file, and each such line must lead to one. Modules of
 /// `specs.declared` are made from the code's types and import nothing.
 #[track_caller]
@@ -57,7 +57,7 @@ fn definitions(file: &str) -> Vec<String> {
     modules.filter_map(|module| definition(file, module)).collect()
 }
 
-/// The file of a module "jackson·specs.specs.Windows.{Windows}".
+/// The file of a module "windows·specs.specs.Windows.{Windows}".
 #[track_caller]
 fn definition(file: &str, import: &str) -> Option<String> {
     let module = import.split(".{").next().and_then(|part| part.split(" as ").next()).expect("a module");
@@ -72,7 +72,7 @@ fn definition(file: &str, import: &str) -> Option<String> {
 }
 
 /// The code that a file names: by lines "use crate::search::Found;", "use list::types::Verdict;", "use
-/// jackson::mirrored;" and, in lib.rt, "pub use mirror::mirrored;", and where it is called, "list::check(list)".
+/// windows::mirrored;" and, in lib.rt, "pub use mirror::mirrored;", and where it is called, "list::check(list)".
 #[track_caller]
 fn code(file: &str) -> Vec<String> {
     let own = file.split('/').nth(1).expect("a crate");
@@ -96,7 +96,7 @@ fn paths(line: &str) -> Vec<String> {
         .collect()
 }
 
-/// The file that declares "crate::search::Found", "list::types::Verdict" or "jackson::mirrored".
+/// The file that declares "crate::search::Found", "list::types::Verdict" or "windows::mirrored".
 #[track_caller]
 fn source(file: &str, own: &str, import: &str) -> String {
     let parts: Vec<&str> = import.split("::").collect();
@@ -173,8 +173,11 @@ fn code_of_windows_and_bounds_does_not_call_jacksons_minute() {
 /// the smallest d, whatever it does with ties.
 #[test]
 fn the_steps_of_the_law_of_plans_know_no_tie_rule() {
-    let steps = ["PlanWork", "OneMinute", "RunningDays", "Endpoints", "IntervalWork", "ShownInterval"];
-    let files = steps.map(|name| format!("crates/jackson/proofs/{name}.antt"));
+    let windows = ["PlanWork", "Endpoints", "IntervalWork", "ShownInterval"];
+    let windows = windows.map(|name| format!("crates/windows/proofs/{name}.antt"));
+    let jackson = ["OneMinute", "RunningDays"];
+    let jackson = jackson.map(|name| format!("crates/jackson/proofs/{name}.antt"));
+    let files = [&windows[..], &jackson[..]].concat();
     never_reach_minutes(&files, 10);
 }
 
@@ -188,5 +191,5 @@ fn plans_are_defined_proved_and_coded_with_the_tie_rule() {
     let met = met("crates/bounds/src/shown.rt", code);
     assert!(met.contains_key("crates/jackson/src/fill.rt"), "{met:?}");
     assert!(page("crates/jackson/src/fill.rt").contains("use crate::types::Day;"));
-    assert!(code("crates/narrow/src/rounds.rt").contains(&"crates/jackson/src/interval.rt".to_string()));
+    assert!(code("crates/narrow/src/rounds.rt").contains(&"crates/windows/src/interval.rt".to_string()));
 }

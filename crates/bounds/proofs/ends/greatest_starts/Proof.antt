@@ -6,7 +6,7 @@ use Prim.Native.Nat.{_-_, _<_}
 use native.Mathlib.Omega.{arith}
 use lib.ListN.{getD}
 use Rattle.list.specs.DayLists.{marked}
-use Rattle.jackson.specs.Windows.{windowsIn}
+use Rattle.windows.specs.Windows.{windowsIn}
 use Rattle.list.proofs.ByPlace.{Placed, placed-none, placed-next, placed-all}
 use Rattle.bounds.proofs.EndCases.{formed-in-mirror, planned-in-mirror, mirror-end-in-day}
 use Rattle.bounds.proofs.EndCases.{starts-by-mirror}

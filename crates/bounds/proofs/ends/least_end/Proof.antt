@@ -5,8 +5,8 @@ use mathlib.Core.Path.{_≡_, ap, _∙_}
 use Prim.Native.Nat.{ℕ, _<_}
 use native.Mathlib.Omega.{arith}
 use Rattle.base.specs.Outcomes.{Outcome, accepts}
-use Rattle.jackson.specs.Windows.{windowsIn}
-use Rattle.jackson.specs.Intervals.{overloadOf}
+use Rattle.windows.specs.Windows.{windowsIn}
+use Rattle.windows.specs.Intervals.{overloadOf}
 use Rattle.bounds.proofs.EndCases.{closed-at, closed-small, end-least}
 use Rattle.bounds.proofs.ends.least_end.Statement.{statement}
 use Rattle.bounds.proofs.ends.least_end.Tie as tie

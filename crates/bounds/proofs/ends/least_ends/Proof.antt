@@ -6,8 +6,8 @@ use Prim.Native.Nat.{_-_, _<_, _≤_}
 use native.Mathlib.Omega.{arith}
 use Rattle.list.specs.DayLists.{marked}
 use Rattle.list.proofs.ByPlace.{Placed, placed-none, placed-next, placed-all}
-use Rattle.jackson.specs.Windows.{windowsIn}
-use Rattle.jackson.specs.Intervals.{overloadOf}
+use Rattle.windows.specs.Windows.{windowsIn}
+use Rattle.windows.specs.Intervals.{overloadOf}
 use Rattle.bounds.specs.Ends.{leastEnd}
 use Rattle.bounds.proofs.EndCases.{closed-at, closed-small, end-least}
 use Rattle.bounds.proofs.ends.least_ends.Statement.{statement}

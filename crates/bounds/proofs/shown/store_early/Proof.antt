@@ -4,8 +4,8 @@ use borrow.Author.Needs.{needs}
 use mathlib.Core.Path.{_≡_}
 use native.Mathlib.Omega.{arith}
 use lib.ListN.{length}
-use Rattle.jackson.specs.Windows.{windowsIn}
-use Rattle.jackson.proofs.ArrayCases.{held-d}
+use Rattle.windows.specs.Windows.{windowsIn}
+use Rattle.windows.proofs.ArrayCases.{held-d}
 use Rattle.bounds.proofs.ShownCases.{stored-early}
 use Rattle.bounds.proofs.shown.store_early.Statement.{statement}
 use Rattle.bounds.proofs.shown.store_early.Tie as tie

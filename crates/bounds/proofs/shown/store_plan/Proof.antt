@@ -4,7 +4,7 @@ use borrow.Author.Needs.{needs}
 use Prim.Native.Nat.{_<_, _≤_}
 use native.Mathlib.Omega.{arith}
 use lib.ListN.{length}
-use Rattle.jackson.specs.Windows.{windowsIn}
+use Rattle.windows.specs.Windows.{windowsIn}
 use Rattle.bounds.proofs.ShownCases.{stores-no-room, no-place, no-buffer, stored-formed, plan-stored}
 use Rattle.bounds.proofs.shown.store_plan.Statement.{statement}
 use Rattle.bounds.proofs.shown.store_plan.Tie as tie

@@ -3,7 +3,7 @@
 use borrow.Author.Needs.{needs}
 use mathlib.Core.Path.{ap}
 use native.Mathlib.Omega.{arith}
-use Rattle.jackson.specs.Windows.{Windows}
+use Rattle.windows.specs.Windows.{Windows}
 use Rattle.bounds.proofs.ShownCases.{searchable-mirror, end-in-day, stored-late}
 use Rattle.bounds.proofs.shown.store_shown.Statement.{statement}
 use Rattle.bounds.proofs.shown.store_shown.Tie as tie

@@ -1,7 +1,7 @@
 -- Row 11, then the schedule from the day's first state.
 -- Assumes nothing.
 use borrow.Author.Needs.{needs}
-use Rattle.jackson.specs.Windows.{windowsIn}
+use Rattle.windows.specs.Windows.{windowsIn}
 use Rattle.jackson.proofs.CallCases.{start-fillable, fill-no-room, fill-room}
 use Rattle.jackson.proofs.fill.unchecked_schedule.Statement.{statement}
 use Rattle.jackson.proofs.fill.unchecked_schedule.Tie as tie

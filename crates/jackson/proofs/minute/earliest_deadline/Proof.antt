@@ -3,11 +3,11 @@
 use borrow.Author.Needs.{needs}
 use Prim.Native.Nat.{_-_}
 use native.Mathlib.Omega.{arith}
-use Rattle.jackson.specs.Plans.{idle}
+use Rattle.windows.specs.Plans.{idle}
+use Rattle.windows.proofs.ScanCases.{Searched, search-start, search-next, search-done, search-found}
 use Rattle.jackson.specs.Minutes.{isReady, comesBefore}
 use Rattle.jackson.specs.Internal.{stateAt}
 use Rattle.jackson.proofs.Choices.{comes-before-ranks}
-use Rattle.jackson.proofs.ScanCases.{Searched, search-start, search-next, search-done, search-found}
 use Rattle.jackson.proofs.minute.earliest_deadline.Statement.{statement}
 use Rattle.jackson.proofs.minute.earliest_deadline.Tie as tie
 

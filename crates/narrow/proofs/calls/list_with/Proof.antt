@@ -7,7 +7,7 @@ use native.Mathlib.Omega.{arith}
 use lib.ListN.{length}
 use Rattle.list.specs.declared.types.DayList.{DayList}
 use Rattle.base.proofs.Walk.{length-mapped}
-use Rattle.jackson.specs.Windows.{windowsIn}
+use Rattle.windows.specs.Windows.{windowsIn}
 use Rattle.narrow.proofs.ListCases.{Filled, filled-none, filled-next, filled-all}
 use Rattle.narrow.proofs.calls.list_with.Statement.{statement}
 use Rattle.narrow.proofs.calls.list_with.Tie as tie

@@ -1,7 +1,7 @@
 -- The loop's invariant is `Rounded`, the measure the minutes that can still be cut.
 -- Assumes nothing.
 use borrow.Author.Needs.{needs}
-use Rattle.jackson.specs.Windows.{windowsIn}
+use Rattle.windows.specs.Windows.{windowsIn}
 use Rattle.narrow.specs.Rounds.{slack}
 use Rattle.list.specs.DayLists.{marked}
 use Rattle.narrow.proofs.VisitCases.{Rounded, rounded-none, rounded-stopped, rounded-last, rounded-less, rounded-next}

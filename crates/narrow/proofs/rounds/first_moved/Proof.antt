@@ -5,7 +5,7 @@ use Prim.Native.Nat.{_-_, _<_, _≤_}
 use native.Mathlib.Omega.{arith}
 use Rattle.base.proofs.Searches.{Passed, passed-none}
 use Rattle.list.specs.DayLists.{marked}
-use Rattle.jackson.specs.Windows.{windowsIn}
+use Rattle.windows.specs.Windows.{windowsIn}
 use Rattle.narrow.specs.Internal.{movesAt}
 use Rattle.narrow.proofs.StayingPlaces.{move-found, move-passed, none-moved}
 use Rattle.narrow.proofs.rounds.first_moved.Statement.{statement}

@@ -4,7 +4,7 @@ use borrow.Author.Needs.{needs}
 use mathlib.Core.Path.{_≡_, sym, _∙_}
 use native.Mathlib.Omega.{arith}
 use lib.ListN.{length, getD}
-use Rattle.jackson.specs.Intervals.{overloadOf}
+use Rattle.windows.specs.Intervals.{overloadOf}
 use Rattle.narrow.proofs.RoundCases.{jumps-least, start-refused, moved-one, placed-r}
 use Rattle.narrow.proofs.rounds.narrow_start.Statement.{statement}
 use Rattle.narrow.proofs.rounds.narrow_start.Tie as tie

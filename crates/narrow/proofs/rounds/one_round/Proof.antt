@@ -4,7 +4,7 @@ use borrow.Author.Needs.{needs}
 use Prim.Native.Nat.{_-_, _<_, _≤_}
 use native.Mathlib.Omega.{arith}
 use Rattle.list.specs.DayLists.{marked}
-use Rattle.jackson.specs.Windows.{windowsIn}
+use Rattle.windows.specs.Windows.{windowsIn}
 use Rattle.narrow.specs.Internal.{narrowedBy}
 use Rattle.narrow.proofs.VisitCases.{Visited, visited-first, next-ready, next-few, visited-next, visited-stopped, visited-all}
 use Rattle.narrow.proofs.rounds.one_round.Statement.{statement}

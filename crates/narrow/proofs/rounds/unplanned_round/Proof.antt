@@ -5,7 +5,7 @@ use mathlib.Core.Path.{_∙_}
 use Prim.Native.Nat.{_-_, _<_, _≤_}
 use native.Mathlib.Omega.{arith}
 use Rattle.list.specs.DayLists.{marked}
-use Rattle.jackson.specs.Windows.{windowsIn}
+use Rattle.windows.specs.Windows.{windowsIn}
 use Rattle.narrow.specs.Internal.{narrowedBy}
 use Rattle.narrow.proofs.UnplannedCases.{PausesBelow, pauses-none, pauses-all, pauses-next, first-refused}
 use Rattle.narrow.proofs.rounds.unplanned_round.Statement.{statement}

@@ -4,7 +4,7 @@ use borrow.Author.Needs.{needs}
 use Prim.Native.Nat.{_+_, _-_, _<_, _≤_}
 use native.Mathlib.Omega.{arith}
 use Rattle.list.specs.DayLists.{marked}
-use Rattle.jackson.specs.Windows.{windowsIn}
+use Rattle.windows.specs.Windows.{windowsIn}
 use Rattle.planner.proofs.BrokenCases.{BrokenSoFar, counted-none, counted-next, counted-all}
 use Rattle.planner.proofs.broken.broken_in.Statement.{statement}
 use Rattle.planner.proofs.broken.broken_in.Tie as tie
