@@ -27,5 +27,7 @@ mod RoundCases
 mod StayingPlaces
 mod VisitCases
 mod UnplannedCases
+-- The fast way.
+pub mod FastLaws
 mod ListCases
 mod CallCases

@@ -9,14 +9,15 @@ use Rattle.base.specs.Outcomes.{Code, answered, refused}
 use Rattle.list.specs.Refusals.{outcomeOf}
 use Rattle.list.specs.declared.types.Verdict.{Verdict}
 use Rattle.list.specs.declared.types.Verdict.the-variants.{Accepted, Refused}
-use Rattle.windows.specs.Windows.{Windows, columns, windowsIn, withR}
+use Rattle.windows.specs.Windows.{Windows, columns, windowsIn, withR, Formed}
 use Rattle.windows.specs.Mirrors.{mirror}
 use Rattle.windows.specs.Intervals.{overloadOf}
 use Rattle.windows.specs.declared.types.WindowSet.{WindowSet}
 use Rattle.base.proofs.Sums.{same-cases}
 use Rattle.narrow.specs.Searching.{Test, leastStart, SearchLaw}
 use Rattle.narrow.specs.Rounds.{earliest, latest, Narrowed, moved, movesOf, narrowSide}
-use Rattle.narrow.specs.Internal.{foundOf, narrowedBy, Visitable}
+use Rattle.narrow.specs.Internal.{narrowedBy, Visitable}
+use Rattle.narrow.specs.FastRounds.{foundOf}
 use Rattle.narrow.specs.Calls.{narrowedOf}
 use Rattle.narrow.specs.declared.types.WindowsAnswer.{WindowsAnswer}
 use Rattle.narrow.proofs.OverloadPlanner.{overload-planner}
@@ -31,15 +32,14 @@ use Rattle.edges.specs.declared.types.Found.{Found}
 use Rattle.edges.specs.declared.types.Found.the-variants.{Minute, NoMinute}
 use Rattle.narrow.proofs.Exact.{search-law}
 
--- what the search by jumps finds is what document 01's search answers
-pub jumps-least : (s : WindowSet) (k : ℕ) → Visitable s k → (f : Found) → FindsStart (windowsIn s) k f
-    → foundOf k f ≡ leastStart overloadOf (windowsIn s) k
-jumps-least s k ready f finds = go f (finds .law (ready .formed) (ready .planned) (ready .place))
+-- what is found by jumps is what document 01's search answers
+pub found-least : (w : Windows) → Formed w → (k : ℕ) → k < w .n → (f : Found) → StartLaw w k f → foundOf k f ≡ leastStart overloadOf w k
+found-least w formed k place = go
   where
-    exact : SearchLaw overloadOf (windowsIn s) k
-    exact = search-law overload-planner (windowsIn s) (ready .formed) k (ready .place)
+    exact : SearchLaw overloadOf w k
+    exact = search-law overload-planner w formed k place
 
-    go : (f : Found) → StartLaw (windowsIn s) k f → foundOf k f ≡ leastStart overloadOf (windowsIn s) k
+    go : (f : Found) → StartLaw w k f → foundOf k f ≡ leastStart overloadOf w k
     go (Minute x) found =
         sym
         (exact .start-is x .1
@@ -50,9 +50,12 @@ jumps-least s k ready f finds = go f (finds .law (ready .formed) (ready .planned
           least = λ y from less. found .least y from less (omega (arith, less, found .room));
         }))
     go NoMinute none =
-        sym
-        (exact .no-start .1
-        (λ x from room. none x from (omega (arith, room, ready .formed .minutes k (ready .place))) room))
+        sym (exact .no-start .1 (λ x from room. none x from (omega (arith, room, formed .minutes k place)) room))
+
+pub jumps-least : (s : WindowSet) (k : ℕ) → Visitable s k → (f : Found) → FindsStart (windowsIn s) k f
+    → foundOf k f ≡ leastStart overloadOf (windowsIn s) k
+jumps-least s k ready f finds =
+    found-least (windowsIn s) (ready .formed) k (ready .place) f (finds .law (ready .formed) (ready .planned) (ready .place))
 
 pub moved-none : (x y : ℕ) → x ≡ y → 0 ≡ moved x y
 moved-none x y e = rw (eq-eqb x y e)

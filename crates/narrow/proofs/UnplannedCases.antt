@@ -3,7 +3,7 @@
 use mathlib.Core.Path.{_≡_, refl, sym, ap, _∙_}
 use mathlib.Core.Bool.{Bool, true, false}
 use mathlib.Core.List.{[], _∷_}
-use Prim.Native.Nat.{ℕ, _+_, _<_, _≤_}
+use Prim.Native.Nat.{ℕ, zero, suc, _+_, _<_, _≤_}
 use native.Mathlib.Numerals.{add-one}
 use native.Mathlib.Omega.{arith}
 use Rattle.base.specs.Outcomes.{code, answered, refused}
@@ -57,3 +57,16 @@ module _ (whole : ℕ → Bool) (s : Narrowed) where
       first-refused formed none e =
           let z = stops e (unplanned-start (s .windows) formed k h none) in
           sym (visits-stay overloadOf whole s (code 10 (k ∷ [])) (k + 1) _ (omega (arith, h)) z)
+
+-- the places before the first whole one
+pub pauses-below : (whole : ℕ → Bool) (s : Narrowed) (k : ℕ) → k ≤ s .windows .n → ((i : ℕ) → i < k → whole i ≡ true → ⊥)
+    → PausesBelow whole s k
+pauses-below whole s zero most none = pauses-none whole s
+pauses-below whole s (suc k) most none =
+    rw add-one at
+    (pauses-next whole s k (pauses-below whole s k (omega (arith, most)) (λ i l. none i (omega (arith, l)))) (omega (arith, most))
+    (is-false (whole k) (none k (omega arith))))
+  where
+    is-false : (t : Bool) → (t ≡ true → ⊥) → t ≡ false
+    is-false true h = absurd (h refl)
+    is-false false h = refl

@@ -19,7 +19,8 @@ use Rattle.base.proofs.Sums.{le-or-lt}
 use Rattle.narrow.specs.Searching.{Test}
 use Rattle.narrow.specs.Rounds.{Side, earliest, latest, Narrowed, step, counted, narrowSide, visit, visits, round, rounds, allRounds}
 use Rattle.narrow.specs.Rounds.{slack}
-use Rattle.narrow.specs.Internal.{narrowedBy, Visitable, Countable, firstMoved}
+use Rattle.narrow.specs.Internal.{narrowedBy, Visitable, Countable}
+use Rattle.narrow.specs.FastRounds.{firstMoved}
 use Rattle.narrow.specs.Calls.{narrowedOf}
 use Rattle.narrow.specs.declared.types.WindowsAnswer.{WindowsAnswer}
 use Rattle.narrow.proofs.StepsKeep.{keeps-n}

@@ -3,6 +3,7 @@ pub mod Settling
 pub mod Rounds
 pub mod StepLists
 pub mod RoundsByPlans
+pub mod FastRounds
 pub mod Laws
 pub mod Calls
 pub mod Internal

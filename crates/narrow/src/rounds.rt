@@ -21,7 +21,8 @@ ghost use Rattle.windows.specs.Intervals.{overloadOf};
 ghost use Rattle.narrow.specs.Rounds.{earliest, latest, moved, narrowSide, visit, round, allRounds};
 ghost use Rattle.list.specs.DayLists.{marked};
 ghost use Rattle.narrow.specs.Calls.{narrowedOf, NarrowsWindows};
-ghost use Rattle.narrow.specs.Internal.{Visitable, Countable, narrowedBy, wouldMove, firstMoved};
+ghost use Rattle.narrow.specs.Internal.{Visitable, Countable, narrowedBy};
+ghost use Rattle.narrow.specs.FastRounds.{wouldMove, firstMoved};
 
 // "A changed r is one move, a changed d another."
 fn moved_from(before: u16, after: u16) -> u32

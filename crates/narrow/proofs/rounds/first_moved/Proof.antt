@@ -6,7 +6,7 @@ use native.Mathlib.Omega.{arith}
 use Rattle.base.proofs.Searches.{Passed, passed-none}
 use Rattle.list.specs.DayLists.{marked}
 use Rattle.windows.specs.Windows.{windowsIn}
-use Rattle.narrow.specs.Internal.{movesAt}
+use Rattle.narrow.specs.FastRounds.{movesAt}
 use Rattle.narrow.proofs.StayingPlaces.{move-found, move-passed, none-moved}
 use Rattle.narrow.proofs.rounds.first_moved.Statement.{statement}
 use Rattle.narrow.proofs.rounds.first_moved.Tie as tie
