@@ -1,8 +1,8 @@
 -- Laws of the list of a function's first values.
 -- Assumes nothing.
-use mathlib.Core.Path.{_≡_, refl, sym, _∙_}
-use mathlib.Core.List.{List, []}
-use Prim.Native.Nat.{ℕ, zero, suc, _<_}
+use mathlib.Core.Path.{_≡_, refl, sym, ap, _∙_}
+use mathlib.Core.List.{List, [], _∷_, _++_, append-assoc, append-nil}
+use Prim.Native.Nat.{ℕ, zero, suc, _+_, _<_}
 use native.Mathlib.Omega.{arith}
 use lib.ListN.{length, getD, length-append, List·getD-append}
 use lib.Seq.{getD-append-seam, ext-getD}
@@ -33,3 +33,13 @@ list-is n f z xs long each =
 -- and lists of the same values are the same
 pub list-same : (n : ℕ) (f g : ℕ → ℕ) → ((t : ℕ) → t < n → f t ≡ g t) → listOf n f ≡ listOf n g
 list-same n f g e = list-is n f 0 (listOf n g) (list-length n g) (λ t h. e t h ∙ sym (list-at n g 0 t h))
+
+-- the first values, and those after them
+pub list-append : (a b : ℕ) (f : ℕ → ℕ) → listOf a f ++ listOf b (λ i. f (a + i)) ≡ listOf (a + b) f
+unfolding listOf
+list-append a zero f = let z : a + 0 ≡ a = omega arith in rw z (append-nil (listOf a f))
+list-append a (suc b) f =
+    let z : a + suc b ≡ suc (a + b) = omega arith in
+    rw z
+    (sym (append-assoc (listOf a f) (listOf b (λ i. f (a + i))) (f (a + b) ∷ []))
+    ∙ ap (λ (xs : List ℕ). xs ++ (f (a + b) ∷ [])) (list-append a b f))

@@ -15,7 +15,7 @@ use Rattle.jackson.specs.declared.types.Day.{Day}
 use Rattle.jackson.specs.declared.types.Stretch.{Stretch}
 use Rattle.base.proofs.Listed.{list-length}
 use Rattle.jackson.proofs.Schedules.{later-time, later-h}
-use Rattle.jackson.proofs.Stretches.{stretch-some, stretch-in-day}
+use Rattle.jackson.proofs.Stretches.{later-later, stretch-some, stretch-in-day}
 
 -- a place is stored for i of its m minutes
 pub record StoredFor (old : List ℕ) (from x m : ℕ) (new : List ℕ) (i : ℕ) : Type 0 where
@@ -44,14 +44,6 @@ module _ (old : List ℕ) (from x m : ℕ) where
 
     pub place-long : length new ≡ length old
     place-long = ap length (so .bytes) ∙ stores-long i
-
--- minutes after minutes
-later-later : (s : State) (i m : ℕ) → later m (later i s) ≡ later (i + m) s
-unfolding later
-later-later s i zero = let e : i + 0 ≡ i = omega arith in rw e
-later-later s i (suc m) =
-    let e : i + suc m ≡ suc (i + m) = omega arith in
-    rw e (ap (λ (z : State). minuteOf z .next) (later-later s i m))
 
 -- the first i of h places are stored, and the day has gone i minutes on from s, of whose day h are left
 pub record Stored (s : State) (h : ℕ) (old new : List ℕ) (day : Day) (i : ℕ) : Type 0 where

@@ -11,7 +11,8 @@ pub mod ListLaws
 pub mod StoredPlans
 -- The stretches of a day, and how many they are.
 pub mod Stretches
-pub mod StretchCounts
+mod StretchCounts
+pub mod StretchBytes
 -- Lists that are planned alike.
 pub mod Alike
 -- What the code's proofs cite, case by case.

@@ -9,7 +9,7 @@ use borrow.Author.Tests.{lt-ltb, le-ltb, eq-eqb}
 use lib.Dec.{eqb, ltb}
 use Rattle.base.specs.Counting.{sum}
 use Rattle.jackson.specs.Minutes.{State, chosen, later}
-use Rattle.jackson.specs.Stretches.{stretchOf, afterStretch, afterStretches, StretchLaw}
+use Rattle.jackson.specs.Stretches.{stretchOf, afterStretch, afterStretches}
 use Rattle.jackson.specs.Internal.{afterMinutes}
 use Rattle.base.proofs.Sums.{le-or-lt, cond-most, sum-le, sum-most, sum-lt}
 use Rattle.jackson.proofs.Schedules.{later-h, later-n}
@@ -106,17 +106,17 @@ module _ (s : State) (few : s .windows .n ≤ 255) (on : s .t < s .windows .h) w
       (λ i l h e _. at-arrival i l h e) (λ place e _. at-finish place e) (λ e h. absurd (omega arith)) (stretch-to s few on))
 
 -- a day past its end stays
-stretch-stays : (s : State) → s .windows .h ≤ s .t → afterStretch s ≡ s
+pub stretch-stays : (s : State) → s .windows .h ≤ s .t → afterStretch s ≡ s
 unfolding later
 stretch-stays s h = rw (stretch-over s h)
 
 module _ (s : State) (few : s .windows .n ≤ 255) where
-  stretches-h : (j : ℕ) → afterStretches j s .windows .h ≡ s .windows .h
+  pub stretches-h : (j : ℕ) → afterStretches j s .windows .h ≡ s .windows .h
   unfolding afterStretches
   stretches-h zero = refl
   stretches-h (suc j) = later-h (afterStretches j s) (stretchOf (afterStretches j s)) ∙ stretches-h j
 
-  stretches-n : (j : ℕ) → afterStretches j s .windows .n ≡ s .windows .n
+  pub stretches-n : (j : ℕ) → afterStretches j s .windows .n ≡ s .windows .n
   unfolding afterStretches
   stretches-n zero = refl
   stretches-n (suc j) = later-n (afterStretches j s) (stretchOf (afterStretches j s)) ∙ stretches-n j
@@ -137,7 +137,7 @@ module _ (s : State) (few : s .windows .n ≤ 255) where
         pending-after j (omega (arith, stretches-h j)),
       ))
 
-pub stretch-law : StretchLaw
-stretch-law s few =
+pub stretches-few : (s : State) → s .windows .n ≤ 255 → s .windows .h ≤ afterStretches (2 * s .windows .n + 1) s .t
+stretches-few s few =
     le-or-lt (s .windows .h) (afterStretches (2 * s .windows .n + 1) s .t) (λ h. h)
     (λ h. absurd (omega (arith, pending-after s few (2 * s .windows .n + 1) h, pending-most s)))

@@ -186,6 +186,14 @@ module _ (w : Windows) (t k : ℕ) where
               omega (arith, within, finish-cases (λ x. x ≤ t + w .p k) (λ _ _. omega arith) (λ late. late place));
         }
 
+-- minutes after minutes
+pub later-later : (s : State) (i m : ℕ) → later m (later i s) ≡ later (i + m) s
+unfolding later
+later-later s i zero = let e : i + 0 ≡ i = omega arith in rw e
+later-later s i (suc m) =
+    let e : i + suc m ≡ suc (i + m) = omega arith in
+    rw e (ap (λ (z : State). minuteOf z .next) (later-later s i m))
+
 -- The stretch that begins in a state.
 
 -- one of a day past its end has no minutes

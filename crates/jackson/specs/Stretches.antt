@@ -3,9 +3,11 @@
 use Prim.Native.Nat.{ℕ, zero, suc, _+_, _*_, _-_, _<_, _≤_, min}
 use mathlib.Core.Path.{_≡_}
 use mathlib.Core.Bool.{cond}
+use mathlib.Core.List.{List, [], _++_}
 use lib.Dec.{ltb}
+use Rattle.base.specs.Counting.{listOf}
 use Rattle.windows.specs.Windows.{Windows}
-use Rattle.jackson.specs.Minutes.{State, stateIn, chosen, minuteOf, later, placeAt}
+use Rattle.jackson.specs.Minutes.{State, stateIn, dayStart, chosen, minuteOf, later, placeAt, schedule}
 use Rattle.jackson.specs.declared.types.Day.{Day}
 use Rattle.jackson.specs.declared.types.Stretch.{Stretch}
 
@@ -48,7 +50,14 @@ unfoldable pub afterStretches : ℕ → State → State
 afterStretches zero s = s
 afterStretches (suc k) s = afterStretch (afterStretches k s)
 
--- the law of stretches: from whatever state of at most 255 entries, a day's first among them, n entries make at most 2n + 1 stretches up to
--- the day's end
-abbrev pub StretchLaw : Type 0
-StretchLaw = (s : State) → s .windows .n ≤ 255 → s .windows .h ≤ afterStretches (2 * s .windows .n + 1) s .t
+-- the bytes of k stretches, one after the other: each place as often as its stretch has minutes
+unfoldable pub stretchBytes : ℕ → State → List ℕ
+stretchBytes zero s = []
+stretchBytes (suc k) s = let z = afterStretches k s in stretchBytes k s ++ listOf (stretchOf z) (λ _. minuteOf z .place)
+
+-- the law of stretches, for at most 255 entries
+pub record StretchLaw : Type 0 where
+  -- from whatever state, a day's first among them, n entries make at most 2n + 1 stretches up to the day's end
+  pub few : (s : State) → s .windows .n ≤ 255 → s .windows .h ≤ afterStretches (2 * s .windows .n + 1) s .t
+  -- and those of a day are its schedule, byte for byte
+  pub bytes : (w : Windows) → w .n ≤ 255 → stretchBytes (2 * w .n + 1) (dayStart w) ≡ schedule w

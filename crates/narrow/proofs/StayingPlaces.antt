@@ -169,46 +169,46 @@ module _ (whole : ℕ → Bool) (s : Narrowed) (k : ℕ) (is : whole k ≡ true)
     visit-found y f = rw (is, e, f) refl
 
 module _ (whole : ℕ → Bool) (s : Narrowed) (formed : Formed (s .windows)) (planned : Plannable (s .windows)) (k : ℕ) (place : k < s .windows .n)
-    where
-  abbrev w : Windows
-  w = s .windows
+  where
+    abbrev w : Windows
+    w = s .windows
 
-  whole-stays : whole k ≡ true → visit overloadOf whole k s ≡ answered s → Stays w k
-  whole-stays is same = go (leastStart overloadOf w k) refl
-    where
-      both : (x y : ℕ) → leastStart overloadOf w k ≡ answered x → greatestEnd overloadOf (withR w k x) k ≡ answered y
-          → withD (withR w k x) k y ≡ w → Stays w k
-      both x y e f back =
-          let r : x ≡ w .r k = sym (put-same k x (w .r)) ∙ ap (λ (v : Windows). v .r k) back in
-          let d : y ≡ w .d k = sym (put-same k y (w .d)) ∙ ap (λ (v : Windows). v .d k) back in
-          let own : withR w k (w .r k) ≡ w = ap (λ (g : ℕ → ℕ). withWindows w g (w .d)) (put-back k (w .r)) in
-          kept-stays w formed planned k place (e ∙ ap answered r)
-          (sym (ap (λ (v : Windows). greatestEnd overloadOf v k) (ap (withR w k) r ∙ own)) ∙ (f ∙ ap answered d))
+    whole-stays : whole k ≡ true → visit overloadOf whole k s ≡ answered s → Stays w k
+    whole-stays is same = go (leastStart overloadOf w k) refl
+      where
+        both : (x y : ℕ) → leastStart overloadOf w k ≡ answered x → greatestEnd overloadOf (withR w k x) k ≡ answered y
+            → withD (withR w k x) k y ≡ w → Stays w k
+        both x y e f back =
+            let r : x ≡ w .r k = sym (put-same k x (w .r)) ∙ ap (λ (v : Windows). v .r k) back in
+            let d : y ≡ w .d k = sym (put-same k y (w .d)) ∙ ap (λ (v : Windows). v .d k) back in
+            let own : withR w k (w .r k) ≡ w = ap (λ (g : ℕ → ℕ). withWindows w g (w .d)) (put-back k (w .r)) in
+            kept-stays w formed planned k place (e ∙ ap answered r)
+            (sym (ap (λ (v : Windows). greatestEnd overloadOf v k) (ap (withR w k) r ∙ own)) ∙ (f ∙ ap answered d))
 
-      ends : (x : ℕ) → leastStart overloadOf w k ≡ answered x → (o : Outcome ℕ) → greatestEnd overloadOf (withR w k x) k ≡ o → Stays w k
-      ends x e (answered y) f = both x y e f (ap windowsLeft (sym (visit-found whole s k is x e y f) ∙ same))
-        where
-          windowsLeft : Outcome Narrowed → Windows
-          windowsLeft (answered v) = v .windows
-          windowsLeft (refused c) = w
-      ends x e (refused c) f = absurd (answered-refused same (visit-no-end whole s k is x e c f))
+        ends : (x : ℕ) → leastStart overloadOf w k ≡ answered x → (o : Outcome ℕ) → greatestEnd overloadOf (withR w k x) k ≡ o → Stays w k
+        ends x e (answered y) f = both x y e f (ap windowsLeft (sym (visit-found whole s k is x e y f) ∙ same))
+          where
+            windowsLeft : Outcome Narrowed → Windows
+            windowsLeft (answered v) = v .windows
+            windowsLeft (refused c) = w
+        ends x e (refused c) f = absurd (answered-refused same (visit-no-end whole s k is x e c f))
 
-      go : (o : Outcome ℕ) → leastStart overloadOf w k ≡ o → Stays w k
-      go (answered x) e = ends x e (greatestEnd overloadOf (withR w k x) k) refl
-      go (refused c) e = absurd (answered-refused same (visit-no-start whole s k is c e))
+        go : (o : Outcome ℕ) → leastStart overloadOf w k ≡ o → Stays w k
+        go (answered x) e = ends x e (greatestEnd overloadOf (withR w k x) k) refl
+        go (refused c) e = absurd (answered-refused same (visit-no-start whole s k is c e))
 
-  pub visit-unmoved : (movesAt whole w k ≡ false) ↔ (visit overloadOf whole k s ≡ answered s)
-  visit-unmoved =
-      (λ e. visit-stays whole s formed planned k place (λ is. stays-there whole w k is (λ q. true≢false (sym q ∙ e))), back)
-    where
-      back : visit overloadOf whole k s ≡ answered s → movesAt whole w k ≡ false
-      back same = go (whole k) refl
-        where
-          go : (t : Bool) → whole k ≡ t → wouldMove t (w .r k) (mirror w .r k) (w .p k) (closedEnd w k) (closedEnd (mirror w) k) ≡ false
-          go true is =
-              let so = whole-stays is same in
-              rw (eq-eqb _ _ (so .end), eq-eqb _ _ (so .mirror-end)) refl
-          go false is = refl
+    pub visit-unmoved : (movesAt whole w k ≡ false) ↔ (visit overloadOf whole k s ≡ answered s)
+    visit-unmoved =
+        (λ e. visit-stays whole s formed planned k place (λ is. stays-there whole w k is (λ q. true≢false (sym q ∙ e))), back)
+      where
+        back : visit overloadOf whole k s ≡ answered s → movesAt whole w k ≡ false
+        back same = go (whole k) refl
+          where
+            go : (t : Bool) → whole k ≡ t → wouldMove t (w .r k) (mirror w .r k) (w .p k) (closedEnd w k) (closedEnd (mirror w) k) ≡ false
+            go true is =
+                let so = whole-stays is same in
+                rw (eq-eqb _ _ (so .end), eq-eqb _ _ (so .mirror-end)) refl
+            go false is = refl
 
 -- The search for the first place that a visit would move, as code makes it: t holds the mirror of the windows s.
 module _ (whole : ℕ → Bool) (s t : WindowSet) (mirrors : windowsIn t ≡ mirror (windowsIn s)) (ends late : List ℕ)
