@@ -9,3 +9,5 @@ pub mod ShownFacts
 -- What the code's proofs cite, case by case.
 mod EndCases
 mod ShownCases
+-- The fast way.
+pub mod FastBounds

@@ -1,4 +1,5 @@
 pub mod Ends
+pub mod FastEnds
 pub mod ShownPlans
 pub mod Calls
 pub mod Internal

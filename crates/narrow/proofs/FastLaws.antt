@@ -36,7 +36,7 @@ use Rattle.narrow.proofs.StayingPlaces.{visits-same, visit-unmoved}
 use Rattle.narrow.proofs.UnplannedCases.{PausesBelow, pauses-below, pauses-all, first-refused}
 
 -- what follows an outcome is the same if it is the same for each answer
-then-same : {A B : Type 0} (o : Outcome A) (f g : A → Outcome B) → ((x : A) → o ≡ answered x → f x ≡ g x) → andThen o f ≡ andThen o g
+pub then-same : {A B : Type 0} (o : Outcome A) (f g : A → Outcome B) → ((x : A) → o ≡ answered x → f x ≡ g x) → andThen o f ≡ andThen o g
 then-same (answered x) f g same = same x refl
 then-same (refused k) f g same = refl
 

@@ -7,6 +7,8 @@ pub mod Alike
 pub mod Examples
 -- The contracts, and demand 3 alone, leave one answer.
 pub mod OneAnswer
+-- The fast way and the defined way.
+pub mod FasterDays
 -- What the code's proofs cite, case by case. The crates above are to cite the last, for refusals of their own.
 mod BrokenCases
 mod CallCases

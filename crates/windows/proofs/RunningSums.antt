@@ -9,6 +9,7 @@ use borrow.Author.Tests.{le-leb, lt-leb}
 use lib.Dec.{leb}
 use Rattle.base.specs.Counting.{sum}
 use Rattle.base.proofs.Sums.{le-or-lt, same-cases, cond-most, sum-cong, sum-most, sum-rest, sum-more}
+use Rattle.order.proofs.SomeOrder.{some-order}
 use Rattle.base.proofs.Permutations.{once-sum}
 use Rattle.windows.specs.Windows.{Windows, withLeft}
 use Rattle.windows.specs.Intervals.{work}
@@ -205,3 +206,7 @@ module _ (w : Windows) (o : ℕ → ℕ) (order : LatestReleaseFirst w o) (b : �
 
 pub sum-law : SumLaw
 sum-law w o order b s t walk = walk-law w o order b s walk .1
+
+-- whatever the windows are, their places have such an order
+pub some-releases : (w : Windows) → (o : ℕ → ℕ) × LatestReleaseFirst w o
+some-releases w = some-order (w .n) (w .r)

@@ -1,0 +1,33 @@
+-- The fast way and the defined way find the same bounds.
+-- Assumes nothing.
+use mathlib.Core.Path.{_≡_, refl, sym, ap, _∙_}
+use mathlib.Core.Bool.{Bool, true}
+use Prim.Native.Nat.{ℕ, _-_, _<_}
+use Rattle.base.specs.Outcomes.{accepts}
+use Rattle.list.proofs.ByPlace.{by-place-same}
+use Rattle.windows.specs.Windows.{Windows, Formed}
+use Rattle.windows.specs.Plans.{Plannable}
+use Rattle.windows.specs.Mirrors.{mirror}
+use Rattle.windows.specs.Intervals.{overloadOf}
+use Rattle.windows.proofs.MirrorWindows.{formed-mirror, plannable-mirror}
+use Rattle.edges.specs.Ends.{closedEnd}
+use Rattle.narrow.proofs.OverloadPlanner.{overload-planner}
+use Rattle.bounds.specs.Ends.{leastEnd}
+use Rattle.bounds.specs.FastEnds.{fastEnd, FastBounds}
+use Rattle.bounds.proofs.EndCases.{end-least}
+use Rattle.bounds.proofs.MirrorEnds.{start-by-mirror}
+
+end-same : (whole : ℕ → Bool) (w : Windows) → Formed w → Plannable w → (k : ℕ) → k < w .n → fastEnd whole w k ≡ leastEnd overloadOf whole w k
+end-same whole w formed planned k place =
+    end-least w formed k place true (ap accepts (sym (overload-planner .exact w formed .0 planned))) (closedEnd w k) refl whole
+
+pub fast-bounds : (whole : ℕ → Bool) (w : Windows) → Formed w → Plannable w → FastBounds whole w
+fast-bounds whole w formed planned =
+    record {
+      ends = by-place-same (w .n) _ _ (end-same whole w formed planned);
+      starts =
+          by-place-same (w .n) _ _
+          (λ k place.
+          ap (λ (x : ℕ). w .h - x) (end-same whole (mirror w) (formed-mirror w formed) (plannable-mirror w planned) k place)
+          ∙ sym (start-by-mirror overload-planner w formed k place whole));
+    }
