@@ -71,7 +71,7 @@ fn definition(file: &str, import: &str) -> Option<String> {
     Some(found)
 }
 
-/// The code that a file names: by lines "use crate::search::Found;", "use list::types::Verdict;", "use
+/// The code that a file names: by lines "use crate::types::Found;", "use list::types::Verdict;", "use
 /// windows::mirrored;" and, in lib.rt, "pub use mirror::mirrored;", and where it is called, "list::check(list)".
 #[track_caller]
 fn code(file: &str) -> Vec<String> {
@@ -96,7 +96,7 @@ fn paths(line: &str) -> Vec<String> {
         .collect()
 }
 
-/// The file that declares "crate::search::Found", "list::types::Verdict" or "windows::mirrored".
+/// The file that declares "crate::types::Found", "list::types::Verdict" or "windows::mirrored".
 #[track_caller]
 fn source(file: &str, own: &str, import: &str) -> String {
     let parts: Vec<&str> = import.split("::").collect();

@@ -84,7 +84,7 @@ fn the_command_names_what_will_be_proved() {
     assert_eq!(
         String::from_utf8_lossy(&output.stderr),
         "dock-report: first these are proved, which takes some minutes: base list format order windows jackson \
-         codes narrow bounds planner report dock\ndock-report: base proved (1 s)\n"
+         edges codes narrow bounds planner report dock\ndock-report: base proved (1 s)\n"
     );
 }
 
