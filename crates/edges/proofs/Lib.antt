@@ -13,3 +13,5 @@ mod StartCases
 mod EndCases
 -- Examples.
 mod Examples
+-- The source documents, judged.
+pub mod Papers

@@ -24,7 +24,7 @@ use Rattle.edges.proofs.Jumps.{cond-cases, Barred, Quiet, Busy, passed-
 
 module _ (w : Windows) (formed : Formed w) (k : ℕ) (place : k < w .n) where
   -- a barred start has no plan
-  barred-none : (s : ℕ) → s + w .p k ≤ w .d k → Barred (others w k) (w .p k) s → Plannable (fixedAt w k s) → ⊥
+  pub barred-none : (s : ℕ) → s + w .p k ≤ w .d k → Barred (others w k) (w .p k) s → Plannable (fixedAt w k s) → ⊥
   barred-none s room bar plan =
       omega (
         arith,

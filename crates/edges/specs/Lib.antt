@@ -3,4 +3,5 @@ pub mod Ends
 pub mod Laws
 pub mod Calls
 pub mod Examples
+pub mod Papers
 pub mod Internal
