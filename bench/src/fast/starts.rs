@@ -27,11 +27,13 @@ pub fn greatest_end(windows: &Windows, place: usize) -> Option<u32> {
     least_start(&windows.mirrored(), place).map(|s| windows.h - s)
 }
 
-/// Jumps over all right ends, each from where the last one led. At the entry's r none from its d on gives a jump.
+/// Jumps over all right ends, those of the smallest r first, each from where the last one led. At the entry's r none from
+/// its d on gives a jump.
 fn pass(others: &Windows, order: &Order, place: usize, p: u32, first: u32) -> u32 {
     let limit = if first == others.r[place] { others.d[place] - 1 } else { u32::MAX };
     let mut s = first;
-    for &b in &others.d[..others.n] {
+    for &i in order.places().iter().rev() {
+        let b = others.d[i];
         if s < b && b <= limit {
             s = jump(others, order, p, s, b);
         }

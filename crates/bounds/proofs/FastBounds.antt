@@ -17,7 +17,8 @@ use Rattle.bounds.specs.FastEnds.{fastEnd, FastBounds}
 use Rattle.bounds.proofs.EndCases.{end-least}
 use Rattle.bounds.proofs.MirrorEnds.{start-by-mirror}
 
-end-same : (whole : ℕ → Bool) (w : Windows) → Formed w → Plannable w → (k : ℕ) → k < w .n → fastEnd whole w k ≡ leastEnd overloadOf whole w k
+end-same : (whole : ℕ → Bool) (w : Windows) → Formed w → Plannable w → (k : ℕ) → k < w .n
+    → fastEnd whole w k ≡ leastEnd overloadOf whole w k
 end-same whole w formed planned k place =
     end-least w formed k place true (ap accepts (sym (overload-planner .exact w formed .0 planned))) (closedEnd w k) refl whole
 

@@ -1,5 +1,5 @@
--- Least ends and greatest starts the fast way (request 7): those of pause entries are the closed form of edge-finding, in the windows and in
--- their mirror. That they are those of Ends.antt, where each end is tried, is `FastBounds`.
+-- Least ends and greatest starts the fast way (request 7): those of pause entries are the closed form of edge-finding, in the windows and
+-- in their mirror. That they are those of Ends.antt, where each end is tried, is `FastBounds`.
 use Prim.Native.Nat.{ℕ, _+_, _-_}
 use mathlib.Core.Path.{_≡_}
 use mathlib.Core.Bool.{Bool, cond}

@@ -51,8 +51,8 @@ pub(crate) fn least_end(windows: WindowSet, k: usize, whole: bool) -> u16
     )
 }
 
-// The least ends of the entries of these windows, of which `whole` marks the whole ones; `planned` says whether there is a plan. Places from
-// n on are 0.
+// The least ends of the entries of these windows, of which `whole` marks the whole ones; `planned` says whether there is a plan. Places
+// from n on are 0.
 fn least_ends(whole: [bool; ENTRIES], windows: WindowSet, planned: bool) -> [u16; ENTRIES]
     requires { ⌜ Formed (windowsIn windows) ⌝ }
     requires { ⌜ planned ≡ accepts (overloadOf (windowsIn windows)) ⌝ }

@@ -16,7 +16,7 @@ use Rattle.windows.specs.Intervals.{work, Fits}
 use Rattle.windows.specs.RunningSums.{LatestReleaseFirst, entered}
 use Rattle.windows.proofs.IntervalWork.{inInterval}
 use Rattle.windows.proofs.RunningSums.{falls}
-use Rattle.windows.proofs.Endpoints.{work-wider, Spans, work-spans}
+use Rattle.windows.proofs.Endpoints.{work-wider, work-spans}
 use Rattle.edges.specs.Starts.{jumped, raised, asks, passed}
 
 -- what holds of both answers of a test

@@ -7,7 +7,6 @@ use Prim.Native.Nat.{ℕ, _+_, _-_, _<_, _≤_}
 use native.Mathlib.Omega.{arith}
 use borrow.Author.Tests.{eq-eqb, ne-eqb}
 use lib.Dec.{leb}
-use Rattle.base.specs.Counting.{sum}
 use Rattle.base.proofs.Sums.{between-is, between-le}
 use Rattle.base.proofs.Permutations.{sum-apart}
 use Rattle.windows.specs.Windows.{Windows, withWindows, withWindow, put, Formed}

@@ -2,9 +2,9 @@
 -- Assumes nothing.
 use mathlib.Core.Path.{_≡_, refl, sym}
 use mathlib.Core.Bool.{Bool, true, false, _&&_, true≢false}
-use Prim.Native.Nat.{ℕ, zero, suc, _+_, _<_, _≤_, min, max}
+use Prim.Native.Nat.{ℕ, _+_, _<_, _≤_, min}
 use native.Mathlib.Omega.{arith}
-use borrow.Author.Tests.{leb-true, ltb-true, ltb-false}
+use borrow.Author.Tests.{ltb-true}
 use lib.Dec.{leb, ltb}
 use Rattle.base.specs.Outcomes.{Code, answered, refused}
 use Rattle.base.specs.Counting.{sum, firstBelow, best}
@@ -18,7 +18,7 @@ use Rattle.windows.proofs.Room.{passes-formed, formed-roomy}
 use Rattle.jackson.proofs.Law.{plan-law}
 use Rattle.edges.specs.Starts.{others}
 use Rattle.edges.specs.Ends.{largest}
-use Rattle.edges.specs.Laws.{NoStartBefore, LeastFound}
+use Rattle.edges.specs.Laws.{NoStartBefore}
 use Rattle.edges.specs.Papers.{setWork, says, partDone, onePass, sixMinutes, fourMinutes, Papers}
 use Rattle.edges.proofs.Jumps.{cond-cases, Barred}
 use Rattle.edges.proofs.Largest.{largest-cases}

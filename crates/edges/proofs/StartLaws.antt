@@ -1,15 +1,15 @@
 -- The search by jumps finds the least start that has a plan, or that there is none.
 -- Assumes nothing.
-use mathlib.Core.Path.{_≡_, refl, sym, ap, _∙_}
+use mathlib.Core.Path.{_≡_, refl, ap}
 use mathlib.Core.Bool.{Bool, true, false, cond, true≢false}
 use Prim.Native.Nat.{ℕ, zero, suc, _+_, _-_, _<_, _≤_, min}
 use native.Mathlib.Omega.{arith}
-use borrow.Author.Tests.{lt-ltb, le-ltb, ltb-true, ltb-false, eqb-true, eqb-false}
+use borrow.Author.Tests.{lt-ltb, ltb-true, ltb-false, eqb-true, eqb-false}
 use lib.Dec.{eqb, ltb}
 use Rattle.base.proofs.Sums.{le-or-lt}
-use Rattle.windows.specs.Windows.{Windows, withWindow, fixedAt, Formed}
+use Rattle.windows.specs.Windows.{Windows, fixedAt, Formed}
 use Rattle.windows.specs.Plans.{Plannable}
-use Rattle.windows.specs.Intervals.{work, Fits}
+use Rattle.windows.specs.Intervals.{Fits}
 use Rattle.windows.specs.RunningSums.{LatestReleaseFirst}
 use Rattle.windows.proofs.Endpoints.{work-wider}
 use Rattle.windows.proofs.Puts.{put-other, fixed-formed}
@@ -17,7 +17,6 @@ use Rattle.windows.proofs.Room.{formed-roomy}
 use Rattle.jackson.proofs.Law.{plan-law}
 use Rattle.edges.specs.Starts.{others, asks, passed, startFrom, startByJumps}
 use Rattle.edges.specs.Laws.{NoStartBefore, LeastFound, StartLaw}
-use Rattle.edges.specs.declared.types.Found.{Found}
 use Rattle.edges.specs.declared.types.Found.the-variants.{Minute, NoMinute}
 use Rattle.edges.proofs.OtherWork.{others-fit, fit-with-own, plan-clears, clear-plan}
 use Rattle.edges.proofs.Jumps.{cond-cases, Barred, Quiet, Busy, passed-up, passed-barred, passed-quiet, quiet-clear, low-quiet}
@@ -70,8 +69,8 @@ module _ (w : Windows) (formed : Formed w) (k : ℕ) (place : k < w .n) where
 
           go : (t : Bool) → asks (eqb s (w .r k)) (w .d k) (w .d j) ≡ t → s < w .d j → Quiet (others w k) (w .p k) (w .d j) s
           go true asked up =
-              passed-quiet (others w k) o (record { sorted = order .sorted; once = order .once }) (w .p k) (eqb s (w .r k)) (w .d k) s e j below up
-              asked
+              passed-quiet (others w k) o (record { sorted = order .sorted; once = order .once }) (w .p k) (eqb s (w .r k)) (w .d k) s e j
+              below up asked
           go false out up = let z = beyond (eqb s (w .r k)) refl out in rw (z .0) (high-quiet (w .d j) (z .1))
 
       -- all starts passed are barred

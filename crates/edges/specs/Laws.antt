@@ -1,6 +1,5 @@
 -- What edge-finding finds, over all plans: the two laws by which the crates above know it.
 use Prim.Native.Nat.{ℕ, _+_, _<_, _≤_}
-use mathlib.Core.Path.{_≡_}
 use Rattle.windows.specs.Windows.{Windows, fixedAt, withD}
 use Rattle.windows.specs.Plans.{Plannable}
 use Rattle.edges.specs.Ends.{closedEnd}

@@ -25,8 +25,8 @@ says w k j i = ltb 0 (setWork w k j i) && ltb (w .d j) (min (w .r i) (w .r k) + 
 abbrev pub partDone : Windows → ℕ → ℕ → ℕ → ℕ → ℕ
 partDone w k j i x = cond (leb (w .r i) (w .r x) && ltb 0 (setWork w k j x)) (w .r x + setWork w k j x) 0
 
--- "the earliest start time at which each activity A could start if all the other activities were interruptible": the largest of its r and of
--- all these, as one pass over them gives it
+-- "the earliest start time at which each activity A could start if all the other activities were interruptible": the largest of its r and
+-- of all these, as one pass over them gives it
 unfoldable pub onePass : Windows → ℕ → ℕ
 onePass w k = largest (w .r k) (w .n) (λ j. largest 0 (w .n) (λ i. cond (says w k j i) (largest 0 (w .n) (partDone w k j i)) 0))
 

@@ -17,7 +17,8 @@ others w k = record { h = 0; n = w .n; r = w .r; d = w .d; p = put k 0 (w .p) }
 abbrev pub jumped : ℕ → ℕ → ℕ → ℕ → ℕ → ℕ
 jumped b p a work s = cond (ltb s (a + work) && ltb b (min a s + work + p)) (a + work) s
 
--- One right end b: the start after the first x places of the order, which has the largest r first. The work is the running sum of request 3.
+-- One right end b: the start after the first x places of the order, which has the largest r first. The work is the running sum of request
+-- 3.
 unfoldable pub raised : Windows → (ℕ → ℕ) → ℕ → ℕ → ℕ → ℕ → ℕ
 raised v o b p zero s = s
 raised v o b p (suc x) s =

@@ -137,7 +137,8 @@ fn ends_by_position(
 ) -> [u32; ENTRIES]
     requires { ⌜ count ≤ mostEntries ⌝ }
     requires { ⌜ EachOnce count (valueAt (now order)) ⌝ }
-    ensures { λ xs. ⌜ EndsBy (entriesIn count (now (r .entry)) (now (d .entry)) (now (p .entry))) (valueAt (now (order .entry))) count xs ⌝ }
+    ensures { λ xs.
+        ⌜ EndsBy (entriesIn count (now (r .entry)) (now (d .entry)) (now (p .entry))) (valueAt (now (order .entry))) count xs ⌝ }
 {
     let mut ends = first_ends(count, r, p, order);
     let mut j: usize = 0;

@@ -73,7 +73,9 @@ fn raise(
 ) -> u32
     requires { ⌜ count ≤ mostEntries ⌝ }
     requires { ⌜ ListsPlaces count (now order) ⌝ }
-    ensures { λ s. ⌜ s ≡ raised (entriesIn count (now (r .entry)) (now (d .entry)) (now (minutes .entry))) (valueAt (now (order .entry))) b p count start ⌝ }
+    ensures { λ s.
+        ⌜ s ≡ raised (entriesIn count (now (r .entry)) (now (d .entry)) (now (minutes .entry))) (valueAt (now (order .entry))) b p count
+        start ⌝ }
 {
     let mut row = Row {
         work: 0,
@@ -112,7 +114,9 @@ fn pass(
 ) -> u32
     requires { ⌜ count ≤ mostEntries ⌝ }
     requires { ⌜ ListsPlaces count (now order) ⌝ }
-    ensures { λ s. ⌜ s ≡ passed (entriesIn count (now (r .entry)) (now (d .entry)) (now (minutes .entry))) (valueAt (now (order .entry))) p unmoved last count start ⌝ }
+    ensures { λ s.
+        ⌜ s ≡ passed (entriesIn count (now (r .entry)) (now (d .entry)) (now (minutes .entry))) (valueAt (now (order .entry))) p unmoved
+        last count start ⌝ }
 {
     let mut s = start;
     let mut x = count;

@@ -1,14 +1,12 @@
 -- The fast way and the defined way narrow alike.
 -- Assumes nothing.
 use mathlib.Core.Path.{_≡_, refl, sym, ap, _∙_}
-use mathlib.Core.Logic.{_↔_}
-use mathlib.Core.Bool.{Bool, true, false, cond, true≢false}
-use mathlib.Core.List.{[], _∷_}
-use Prim.Native.Nat.{ℕ, zero, suc, _+_, _-_, _<_, _≤_}
+use mathlib.Core.Bool.{Bool, true, false, cond}
+use Prim.Native.Nat.{ℕ, zero, suc, _<_, _≤_}
 use native.Mathlib.Omega.{arith}
-use borrow.Author.Tests.{lt-ltb, le-ltb, eqb-true, eqb-false}
-use lib.Dec.{eqb, ltb}
-use Rattle.base.specs.Outcomes.{Code, code, Outcome, answered, refused, andThen, accepts}
+use borrow.Author.Tests.{lt-ltb, le-ltb}
+use lib.Dec.{eqb}
+use Rattle.base.specs.Outcomes.{Outcome, answered, refused, andThen, accepts}
 use Rattle.base.specs.Counting.{firstBelow}
 use Rattle.base.proofs.Sums.{le-or-lt}
 use Rattle.base.proofs.Searches.{First, first-below}
@@ -24,7 +22,7 @@ use Rattle.edges.proofs.StartLaws.{start-law}
 use Rattle.narrow.specs.Searching.{leastStart}
 use Rattle.narrow.specs.Rounds.{Side, earliest, latest, Narrowed, step, counted, unmoved, narrowSide, visit, visits, round, rounds}
 use Rattle.narrow.specs.Rounds.{slack, narrowing}
-use Rattle.narrow.specs.FastRounds.{foundOf, movesAt, firstMoved, unplannedRound, fastStep, fastSide, fastVisit, fastVisits, fastRound}
+use Rattle.narrow.specs.FastRounds.{foundOf, firstMoved, unplannedRound, fastStep, fastSide, fastVisit, fastVisits, fastRound}
 use Rattle.narrow.specs.FastRounds.{fastRounds, fastNarrowing, fastOneRound, FastLaw}
 use Rattle.narrow.proofs.OverloadPlanner.{overload-planner}
 use Rattle.narrow.proofs.MirrorSearches.{planner-in-mirror, step-mirror}

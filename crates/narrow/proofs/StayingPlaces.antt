@@ -168,8 +168,8 @@ module _ (whole : ℕ → Bool) (s : Narrowed) (k : ℕ) (is : whole k ≡ true)
     unfolding visit narrowSide
     visit-found y f = rw (is, e, f) refl
 
-module _ (whole : ℕ → Bool) (s : Narrowed) (formed : Formed (s .windows)) (planned : Plannable (s .windows)) (k : ℕ) (place : k < s .windows .n)
-  where
+module _ (whole : ℕ → Bool) (s : Narrowed) (formed : Formed (s .windows)) (planned : Plannable (s .windows)) where
+  module _ (k : ℕ) (place : k < s .windows .n) where
     abbrev w : Windows
     w = s .windows
 
@@ -211,9 +211,11 @@ module _ (whole : ℕ → Bool) (s : Narrowed) (formed : Formed (s .windows)) (p
             go false is = refl
 
 -- The search for the first place that a visit would move, as code makes it: t holds the mirror of the windows s.
-module _ (whole : ℕ → Bool) (s t : WindowSet) (mirrors : windowsIn t ≡ mirror (windowsIn s)) (ends late : List ℕ)
-    (is-end : ends ≡ byPlace (windowsIn s .n) (closedEnd (windowsIn s))) (is-late : late ≡ byPlace (windowsIn t .n) (closedEnd (windowsIn t)))
-  where
+abbrev EndsOf : WindowSet → List ℕ → Type 0
+EndsOf s xs = xs ≡ byPlace (windowsIn s .n) (closedEnd (windowsIn s))
+
+module _ (whole : ℕ → Bool) (s t : WindowSet) (mirrors : windowsIn t ≡ mirror (windowsIn s)) where
+  module _ (ends late : List ℕ) (is-end : EndsOf s ends) (is-late : EndsOf t late) where
     -- the test of a place
     module _ (k : ℕ) (place : k < windowsIn s .n) (b : Bool)
         (test : b ≡ wouldMove (whole k) (getD (s .r) k 0) (getD (t .r) k 0) (getD (s .p) k 0) (getD ends k 0) (getD late k 0)) where

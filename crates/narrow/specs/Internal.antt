@@ -1,18 +1,10 @@
 -- What private functions promise each other. No public promise cites these.
 use Prim.Native.Nat.{ℕ, _+_, _<_, _≤_}
-use mathlib.Core.Bool.{Bool, not, _&&_}
-use mathlib.Core.List.{[], _∷_}
-use lib.Dec.{eqb}
-use Rattle.base.specs.Outcomes.{code, Outcome, answered, refused}
-use Rattle.base.specs.Counting.{firstBelow}
-use Rattle.windows.specs.Windows.{Windows, windowsIn, Formed}
+use mathlib.Core.Bool.{Bool}
+use Rattle.windows.specs.Windows.{windowsIn, Formed}
 use Rattle.windows.specs.Plans.{Plannable}
-use Rattle.windows.specs.Mirrors.{mirror}
-use Rattle.edges.specs.Ends.{closedEnd}
 use Rattle.windows.specs.declared.types.WindowSet.{WindowSet}
 use Rattle.narrow.specs.Rounds.{Narrowed, slack}
-use Rattle.edges.specs.declared.types.Found.{Found}
-use Rattle.edges.specs.declared.types.Found.the-variants.{Minute, NoMinute}
 
 -- windows and moves, as the rules have them
 abbrev pub narrowedBy : WindowSet → ℕ → Narrowed

@@ -96,8 +96,8 @@ fn visit(whole: bool, windows: WindowSet, moves: u32, k: usize) -> WindowsAnswer
     narrow_end(started.windows, started.moves, k)
 }
 
-// Whether a visit would move an entry: it is whole, and its least end as a pause entry is not r + p, or in the mirror, where its r is `from`
-// and its least end `late`, not from + p.
+// Whether a visit would move an entry: it is whole, and its least end as a pause entry is not r + p, or in the mirror, where its r is
+// `from` and its least end `late`, not from + p.
 fn would_move(whole: bool, r: u16, from: u16, p: u16, end: u32, late: u32) -> bool
     ensures { λ b. ⌜ b ≡ wouldMove whole r from p end late ⌝ }
 {

@@ -1,10 +1,9 @@
 -- The fast way and the defined way refuse alike or agree, and the calls answer what both do.
 -- Assumes nothing.
-use mathlib.Core.Path.{_≡_, refl, sym, ap, _∙_}
+use mathlib.Core.Path.{_≡_, refl, ap, _∙_}
 use mathlib.Core.Bool.{Bool}
 use mathlib.Core.List.{List}
-use Prim.Native.Nat.{ℕ, _<_, _≤_}
-use native.Mathlib.Omega.{arith}
+use Prim.Native.Nat.{ℕ, _≤_}
 use borrow.Author.Tests.{le-ltb}
 use lib.ListN.{length, take}
 use lib.Seq.{take-at}
@@ -32,7 +31,8 @@ use Rattle.narrow.proofs.OverloadPlanner.{overload-planner}
 use Rattle.bounds.specs.Ends.{leastEnds, greatestStarts}
 use Rattle.bounds.proofs.FastBounds.{fast-bounds}
 use Rattle.planner.specs.Calls.{planChecks, narrowAfter, planned, endsOf, startsOf, PlansDay}
-use Rattle.planner.specs.FasterDays.{definedTold, definedDay, fastTold, fastSettleOf, fastDay, fastRoundOf, callTold, toldOf, FasterDays}
+use Rattle.planner.specs.FasterDays.{definedTold, definedDay, fastTold, fastSettleOf, fastDay, fastRoundOf, callTold, toldOf}
+use Rattle.planner.specs.FasterDays.{FasterDays}
 use Rattle.planner.specs.declared.types.PlanAnswer.{PlanAnswer}
 
 module _ (l : DayList) where

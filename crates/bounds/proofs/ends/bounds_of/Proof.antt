@@ -38,9 +38,11 @@ is-accepted-requires-2 c κs = search needs
 
 least-ends-requires : tie.Need-least-ends-requires
 least-ends-requires c κs =
-    let fault = c .before .before .before .before .room-fault in
+    let at-room-fault = c .before .before .before .before in
+    let start = at-room-fault .before in
+    let fault = at-room-fault .room-fault in
     let accepted = c .before .before .before .is-accepted in (
-      room-formed (c .before .before .before .before .before .args .windows) (fault .result) (fault .ensures) (accepted .result) (accepted .ensures)
+      room-formed (start .args .windows) (fault .result) (fault .ensures) (accepted .result) (accepted .ensures)
           (not-false _ (c .before .before .if1 .left)),
       c .is-accepted2 .ensures ∙ ap accepts (c .before .unchecked-overload .ensures),
     )

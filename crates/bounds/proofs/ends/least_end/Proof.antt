@@ -1,12 +1,11 @@
 -- The end of one entry, by its closed form.
 -- Assumes nothing.
 use borrow.Author.Needs.{needs}
-use mathlib.Core.Path.{_≡_, ap, _∙_}
-use Prim.Native.Nat.{ℕ, _<_}
+use mathlib.Core.Path.{ap, _∙_}
+use Prim.Native.Nat.{_<_}
 use native.Mathlib.Omega.{arith}
-use Rattle.base.specs.Outcomes.{Outcome, accepts}
+use Rattle.base.specs.Outcomes.{accepts}
 use Rattle.windows.specs.Windows.{windowsIn}
-use Rattle.windows.specs.Intervals.{overloadOf}
 use Rattle.bounds.proofs.EndCases.{closed-at, closed-small, end-least}
 use Rattle.bounds.proofs.ends.least_end.Statement.{statement}
 use Rattle.bounds.proofs.ends.least_end.Tie as tie

@@ -1,7 +1,6 @@
 -- The loop's invariant is `Raising`, the measure how many positions are left.
 -- Assumes nothing.
 use borrow.Author.Needs.{needs}
-use native.Mathlib.Omega.{arith}
 use Rattle.order.specs.Orders.{valueAt}
 use Rattle.edges.specs.Internal.{entriesIn}
 use Rattle.edges.proofs.EndCases.{Raising, raising-start, raising-place, raising-less, raising-next, raising-done}

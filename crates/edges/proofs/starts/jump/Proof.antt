@@ -1,7 +1,6 @@
 -- The two tests of `jumped`, one after the other.
 -- Assumes nothing.
 use borrow.Author.Needs.{needs}
-use mathlib.Core.Path.{_∙_}
 use native.Mathlib.Omega.{arith}
 use Rattle.edges.proofs.Jumps.{jump-behind, jump-fits, jump-goes}
 use Rattle.edges.proofs.starts.jump.Statement.{statement}

@@ -72,16 +72,23 @@ is-at-requires c κs = search needs
 
 pass-requires : tie.Need-pass-requires Inv-loop μ-loop
 pass-requires c κs =
-    let held = c .before .before .before .before .before .before .before .before .before .before .before .before .before .before .before .places-held .ensures in
-    let args = c .before .before .before .before .before .before .before .before .before .before .before .before .before .before .before .before .args in
-    let left = c .before .before .before .before .before .before .before .before .before .before .before .before .before .before .if1 .left in
-    let order = c .before .before .before .before .before .before .before .before .before .largest-first .ensures in
-    (omega (arith, held), lists-places (args .windows) (args .k) _ held _ left (long (c .before .before .before .before .before .before .before .before .before .before .before .before .before .before .before .before)) order)
+    let at-largest-first = c .before .before .before .before .before .before .before .before .before in
+    let at-if = at-largest-first .before .before .before .before .before in
+    let at-places-held = at-if .before in
+    let start = at-places-held .before in
+    let held = at-places-held .places-held .ensures in
+    let args = start .args in
+    let left = at-if .if1 .left in
+    let order = at-largest-first .largest-first .ensures in
+    (omega (arith, held), lists-places (args .windows) (args .k) _ held _ left (long start) order)
 
 cast-t33 : tie.Need-cast-t33 Inv-loop μ-loop
 cast-t33 c =
-    let used = c .before .before .before .before .before .before .before .before .is-used-up in
-    search (needs, used .ensures .1, search-room _ _ _ _ _ _ _ (c .before .before .before .before .before .before .before .before .before .loop .inv) (used .result) (used .ensures .0) (c .before .before .before .before .before .before .before .if2 .left))
+    let at-if = c .before .before .before .before .before .before .before in
+    let at-is-used-up = at-if .before in
+    let at-loop = at-is-used-up .before in
+    let used = at-is-used-up .is-used-up in
+    search (needs, used .ensures .1, search-room _ _ _ _ _ _ _ (at-loop .loop .inv) (used .result) (used .ensures .0) (at-if .if2 .left))
 
 loop-less : tie.Need-loop-less Inv-loop μ-loop
 loop-less c =
@@ -99,33 +106,47 @@ loop-less c =
 
 loop-again : tie.Need-loop-again Inv-loop μ-loop
 loop-again c =
-    let inv = c .before .before .before .before .before .before .before .before .before .loop .inv in
-    let used = c .before .before .before .before .before .before .before .before .is-used-up in
+    let at-if = c .before .before .before .before .before .before .before in
+    let at-is-used-up = at-if .before in
+    let at-loop = at-is-used-up .before in
+    let inv = at-loop .loop .inv in
+    let used = at-is-used-up .is-used-up in
     let at = c .before .before .is-at in
     let pass = c .before .pass in
-    search-next _ _ _ _ _ _ _ inv (used .result) (used .ensures .0) (c .before .before .before .before .before .before .before .if2 .left) (at .result) (at .ensures) (pass .result)
+    search-next _ _ _ _ _ _ _ inv (used .result) (used .ensures .0) (at-if .if2 .left) (at .result) (at .ensures) (pass .result)
     (pass .ensures)
     (c .if3 .left)
 
 returns-2 : tie.Need-returns-2 Inv-loop μ-loop
 returns-2 c =
-    let start = c .before .before .before .before .before .before .before .before .before .before .before in
-    let order = c .before .before .before .before .largest-first in
+    let at-largest-first = c .before .before .before .before in
+    let at-if = at-largest-first .before .before .before .before .before in
+    let at-places-held = at-if .before in
+    let start = at-places-held .before in
+    let order = at-largest-first .largest-first in
     let used = c .before .is-used-up in
-    start-found (start .args .windows) (start .args .k) _ (c .before .before .before .before .before .before .before .before .before .before .places-held .ensures) (order .result) (c .before .before .before .before .before .before .before .before .before .if1 .left) (long start)
+    start-found (start .args .windows) (start .args .k) _ (at-places-held .places-held .ensures) (order .result) (at-if .if1 .left)
+    (long start)
     (order .ensures) _
     (search-none _ _ _ _ _ _ _ (c .before .before .loop .inv) (used .result) (used .ensures .0) (c .if2 .taken))
 
 returns-3 : tie.Need-returns-3 Inv-loop μ-loop
 returns-3 c =
-    let start = c .before .before .before .before .before .before .before .before .before .before .before .before .before .before .before .before .before .before in
-    let order = c .before .before .before .before .before .before .before .before .before .before .before .largest-first in
-    let used = c .before .before .before .before .before .before .before .before .is-used-up in
+    let at-if = c .before .before .before .before .before .before .before in
+    let at-is-used-up = at-if .before in
+    let at-loop = at-is-used-up .before in
+    let at-largest-first = at-loop .before .before in
+    let at-if-2 = at-largest-first .before .before .before .before .before in
+    let at-places-held = at-if-2 .before in
+    let start = at-places-held .before in
+    let order = at-largest-first .largest-first in
+    let used = at-is-used-up .is-used-up in
     let at = c .before .before .is-at in
     let pass = c .before .pass in
-    start-found (start .args .windows) (start .args .k) _ (c .before .before .before .before .before .before .before .before .before .before .before .before .before .before .before .before .before .places-held .ensures) (order .result) (c .before .before .before .before .before .before .before .before .before .before .before .before .before .before .before .before .if1 .left) (long start)
+    start-found (start .args .windows) (start .args .k) _ (at-places-held .places-held .ensures) (order .result) (at-if-2 .if1 .left)
+    (long start)
     (order .ensures) _
-    (search-found _ _ _ _ _ _ _ (c .before .before .before .before .before .before .before .before .before .loop .inv) (used .result) (used .ensures .0) (c .before .before .before .before .before .before .before .if2 .left) (at .result) (at .ensures)
+    (search-found _ _ _ _ _ _ _ (at-loop .loop .inv) (used .result) (used .ensures .0) (at-if .if2 .left) (at .result) (at .ensures)
     (pass .result)
     (pass .ensures)
     (c .if3 .taken))

@@ -49,7 +49,10 @@ loop-less c = search needs
 
 loop-again : tie.Need-loop-again Inv-loop μ-loop
 loop-again c =
-    passing-low _ _ _ _ _ _ _ _ (c .before .before .before .before .before .loop .inv) (c .before .before .before .before .loop-test .taken) (omega (arith, c .if1 .taken, c .before .wide .ensures))
+    let at-loop-test = c .before .before .before .before in
+    let at-loop = at-loop-test .before in
+    passing-low _ _ _ _ _ _ _ _ (at-loop .loop .inv) (at-loop-test .loop-test .taken)
+    (omega (arith, c .if1 .taken, c .before .wide .ensures))
 
 is-asked-requires : tie.Need-is-asked-requires Inv-loop μ-loop
 is-asked-requires c κs = search needs
@@ -59,7 +62,9 @@ loop-less-2 c = search needs
 
 loop-again-2 : tie.Need-loop-again-2 Inv-loop μ-loop
 loop-again-2 c =
-    passing-not _ _ _ _ _ _ _ _ (c .before .before .before .before .before .before .before .loop .inv) (c .before .before .before .before .before .before .loop-test .taken)
+    let at-loop-test = c .before .before .before .before .before .before in
+    let at-loop = at-loop-test .before in
+    passing-not _ _ _ _ _ _ _ _ (at-loop .loop .inv) (at-loop-test .loop-test .taken)
     (omega (arith, c .before .before .if1 .left, c .before .before .before .wide .ensures)) _ (c .before .is-asked .ensures)
     (not-true _ (c .if2 .taken))
 
@@ -71,9 +76,13 @@ loop-less-3 c = search needs
 
 loop-again-3 : tie.Need-loop-again-3 Inv-loop μ-loop
 loop-again-3 c =
+    let at-wide = c .before .before .before .before in
+    let at-loop-test = at-wide .before .before .before in
+    let at-loop = at-loop-test .before in
     rw (c .raise .ensures)
-    (passing-row _ _ _ _ _ _ _ _ (c .before .before .before .before .before .before .before .before .loop .inv) (c .before .before .before .before .before .before .before .loop-test .taken)
-    (omega (arith, c .before .before .before .if1 .left, c .before .before .before .before .wide .ensures)) _ (c .before .before .is-asked .ensures) (not-false _ (c .before .if2 .left)))
+    (passing-row _ _ _ _ _ _ _ _ (at-loop .loop .inv) (at-loop-test .loop-test .taken)
+    (omega (arith, c .before .before .before .if1 .left, at-wide .wide .ensures)) _ (c .before .before .is-asked .ensures)
+    (not-false _ (c .before .if2 .left)))
 
 returns : tie.Need-returns Inv-loop μ-loop
 returns c = passed-all _ _ _ _ _ _ _ _ (c .before .loop .inv) (omega (arith, c .loop-test .left))

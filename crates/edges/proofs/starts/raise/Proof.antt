@@ -38,7 +38,9 @@ loop-less : tie.Need-loop-less Inv-loop μ-loop
 loop-less c = search needs
 
 loop-again : tie.Need-loop-again Inv-loop μ-loop
-loop-again c = raising-out _ _ _ _ _ _ _ _ (c .before .before .before .before .loop .inv) (c .before .before .before .loop-test .taken) (c .if1 .taken)
+loop-again c =
+    let at-loop = c .before .before .before .before in
+    raising-out _ _ _ _ _ _ _ _ (at-loop .loop .inv) (c .before .before .before .loop-test .taken) (c .if1 .taken)
 
 mul-enter : tie.Need-mul-enter Inv-loop μ-loop
 mul-enter c = search (needs, c .before .before .before .before .before .pre .1 _ (c .before .before .before .loop-test .taken))
@@ -47,25 +49,36 @@ element-copy-out-enter : tie.Need-element-copy-out-enter Inv-loop μ-loop
 element-copy-out-enter c = search (needs, c .before .before .before .before .before .pre .1 _ (c .before .before .before .loop-test .taken))
 
 mul-enter-2 : tie.Need-mul-enter-2 Inv-loop μ-loop
-mul-enter-2 c = search (needs, c .before .before .before .before .before .before .pre .1 _ (c .before .before .before .before .loop-test .taken))
+mul-enter-2 c =
+    let at-loop-test = c .before .before .before .before in
+    let start = at-loop-test .before .before in
+    search (needs, start .pre .1 _ (at-loop-test .loop-test .taken))
 
 element-copy-out-enter-2 : tie.Need-element-copy-out-enter-2 Inv-loop μ-loop
-element-copy-out-enter-2 c = search (needs, c .before .before .before .before .before .before .pre .1 _ (c .before .before .before .before .loop-test .taken))
+element-copy-out-enter-2 c =
+    let at-loop-test = c .before .before .before .before in
+    let start = at-loop-test .before .before in
+    search (needs, start .pre .1 _ (at-loop-test .loop-test .taken))
 
 enter-requires : tie.Need-enter-requires Inv-loop μ-loop
 enter-requires c κs =
-    let more = c .before .before .before .before .before .loop-test .taken in
-    omega (arith, c .before .before .before .before .before .before .loop .inv .small, c .before .before .before .before .before .before .before .pre .0, more)
+    let at-loop-test = c .before .before .before .before .before in
+    let at-loop = at-loop-test .before in
+    let start = at-loop .before in
+    let more = at-loop-test .loop-test .taken in
+    omega (arith, at-loop .loop .inv .small, start .pre .0, more)
 
 loop-less-2 : tie.Need-loop-less-2 Inv-loop μ-loop
 loop-less-2 c = search needs
 
 loop-again-2 : tie.Need-loop-again-2 Inv-loop μ-loop
 loop-again-2 c =
-    let inv = c .before .before .before .before .before .before .before .loop .inv in
+    let at-loop-test = c .before .before .before .before .before .before in
+    let at-loop = at-loop-test .before in
+    let inv = at-loop .loop .inv in
     let enters = c .enter .ensures in
     rw (enters .start, enters .work)
-    (raising-in _ _ _ _ _ _ _ _ inv (c .before .before .before .before .before .before .loop-test .taken) (c .before .before .before .if1 .left) (enters .small))
+    (raising-in _ _ _ _ _ _ _ _ inv (at-loop-test .loop-test .taken) (c .before .before .before .if1 .left) (enters .small))
 
 returns : tie.Need-returns Inv-loop μ-loop
 returns c = raised-all _ _ _ _ _ _ _ _ (c .before .loop .inv) (c .loop-test .left)

@@ -78,7 +78,8 @@ returns-2 c =
     let start = c .before .before .before .before in
     let args = start .args in
     let loop = c .before .loop in
-    let past : windowsIn (args .windows) .n ≤ loop .k = omega (arith, c .loop-test .left, c .before .before .before .places-held .ensures) in
+    let held = c .before .before .before .places-held .ensures in
+    let past : windowsIn (args .windows) .n ≤ loop .k = omega (arith, c .loop-test .left, held) in
     visited-all (marked (args .t1)) (args .windows) (args .moves) (start .pre) (loop .now) (loop .k) (loop .inv) past
 
 pub one-round-spec : {M : Type 1} → statement M
