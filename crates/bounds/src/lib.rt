@@ -2,7 +2,7 @@
 // Promises: `bounds_of` gives each place its least end and greatest start, `store_plan` stores a place's early or late plan. Each is total:
 // its contract states the answer, and what the lent plan buffer holds, by equality with definitions of specs/, for every value. That the
 // bounds are those over all plans is proved for settled windows (proofs/EndBounds.antt, proofs/StartBounds.antt). Uses the crates base,
-// list, windows, jackson and narrow by their stated answers and laws.
+// list, windows, jackson, edges and narrow by their stated answers and laws.
 mod ends;
 mod shown;
 pub mod types;

@@ -20,8 +20,9 @@ use Rattle.windows.specs.Intervals.{work}
 use Rattle.windows.specs.RunningSums.{LatestReleaseFirst, entered}
 use Rattle.windows.proofs.Puts.{put-cases}
 use Rattle.windows.proofs.ArrayCases.{set-put}
+use Rattle.windows.specs.Windows.{heldIn}
 use Rattle.edges.specs.Ends.{largest, closedEnd}
-use Rattle.edges.specs.Internal.{entriesIn, MinutesBy, DueBy, LaterEnd, workEnd, latestEnd, askedAfter, askedAt}
+use Rattle.edges.specs.Internal.{MinutesBy, DueBy, LaterEnd, workEnd, latestEnd, askedAfter, askedAt}
 use Rattle.edges.specs.Internal.{EndsBy, Raises, FirstEnds, AtPlaces}
 use Rattle.edges.proofs.EndWalks.{ends-closed}
 
@@ -238,16 +239,16 @@ held-once n count held f order so = rw held (so .order .once)
 
 -- arrays: the first ends, and that least ends ask for no H
 module _ (n : ℕ) (r d p : List ℕ) where
-  pub ends-first : (o : ℕ → ℕ) (xs : List ℕ) → FirstEnds r p o n xs → EndsBy (entriesIn n r d p) o 0 xs
+  pub ends-first : (o : ℕ → ℕ) (xs : List ℕ) → FirstEnds r p o n xs → EndsBy (heldIn n r d p) o 0 xs
   unfolding largest
   ends-first o xs first = record { long = first .long; each = first .each }
 
-  any-day : (h : ℕ) → byPlace n (closedEnd (entriesIn n r d p)) ≡ byPlace n (closedEnd (columns h n r d p))
+  any-day : (h : ℕ) → byPlace n (closedEnd (heldIn n r d p)) ≡ byPlace n (closedEnd (columns h n r d p))
   unfolding closedEnd work
   any-day h = refl
 
   pub ends-held : (count : ℕ) → count ≡ n → (order : List ℕ) → HoldsOrder n (valueAt r) order → (h : ℕ) (xs ys : List ℕ)
-      → EndsBy (entriesIn count r d p) (valueAt order) count xs → AtPlaces count (valueAt order) xs count ys
+      → EndsBy (heldIn count r d p) (valueAt order) count xs → AtPlaces count (valueAt order) xs count ys
       → ys ≡ byPlace n (closedEnd (columns h n r d p))
   ends-held count held order so h xs ys ends at =
-      ends-all (entriesIn n r d p) (valueAt order) xs ys (so .order) (rw held at ends) (rw held at at) ∙ any-day h
+      ends-all (heldIn n r d p) (valueAt order) xs ys (so .order) (rw held at ends) (rw held at at) ∙ any-day h

@@ -8,4 +8,4 @@ use Rattle.edges.specs.Examples.{EndExamples}
 
 pub end-examples : EndExamples
 unfolding sum listOf work largest closedEnd
-end-examples = record { asks = refl; full = refl; asks-first = refl; ends-by = refl; not-asked = refl; fixed = refl }
+end-examples = record { full-asks = refl; full = refl; first-asks = refl; ends-by = refl; not-asked = refl; fixed = refl }

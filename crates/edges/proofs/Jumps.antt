@@ -17,7 +17,7 @@ use Rattle.windows.specs.RunningSums.{LatestReleaseFirst, entered}
 use Rattle.windows.proofs.IntervalWork.{inInterval}
 use Rattle.windows.proofs.RunningSums.{falls}
 use Rattle.windows.proofs.Endpoints.{work-wider, work-spans}
-use Rattle.edges.specs.Starts.{jumped, raised, asks, passed}
+use Rattle.edges.specs.Starts.{jumped, raised, considers, passed}
 
 -- what holds of both answers of a test
 pub cond-cases : {A : Type 0} (G : A → Type 0) (t : Bool) (x y : A) → (t ≡ true → G x) → (t ≡ false → G y) → G (cond t x y)
@@ -66,17 +66,17 @@ module _ (v : Windows) (o : ℕ → ℕ) (p : ℕ) where
   abbrev end : ℕ → ℕ
   end j = v .d (o (v .n - suc j))
 
-  passed-next : (unmoved : Bool) (d j s : ℕ) → passed v o p unmoved d j s ≤ passed v o p unmoved d (suc j) s
+  passed-next : (initial : Bool) (d j s : ℕ) → passed v o p initial d j s ≤ passed v o p initial d (suc j) s
   unfolding passed
-  passed-next unmoved d j s =
-      cond-cases (λ t. passed v o p unmoved d j s ≤ t) (ltb (passed v o p unmoved d j s) (end j) && asks unmoved d (end j)) _ _
-      (λ _. raised-up (end j) (v .n) (passed v o p unmoved d j s))
+  passed-next initial d j s =
+      cond-cases (λ t. passed v o p initial d j s ≤ t) (ltb (passed v o p initial d j s) (end j) && considers initial d (end j)) _ _
+      (λ _. raised-up (end j) (v .n) (passed v o p initial d j s))
       (λ _. omega arith)
 
-  pub passed-up : (unmoved : Bool) (d j s : ℕ) → s ≤ passed v o p unmoved d j s
+  pub passed-up : (initial : Bool) (d j s : ℕ) → s ≤ passed v o p initial d j s
   unfolding passed
-  passed-up unmoved d zero s = omega arith
-  passed-up unmoved d (suc j) s = omega (arith, passed-up unmoved d j s, passed-next unmoved d j s)
+  passed-up initial d zero s = omega arith
+  passed-up initial d (suc j) s = omega (arith, passed-up initial d j s, passed-next initial d j s)
 
 -- an interval that would hold the entry, with p minutes from t on, has too much work for it
 pub record Barred (v : Windows) (p t : ℕ) : Type 0 where
@@ -194,30 +194,30 @@ module _ (v : Windows) (o : ℕ → ℕ) (order : LatestReleaseFirst v o) (p : �
           raised-quiet (v .n) (omega arith) e a (omega (arith, some, z)) (omega (arith, over, z)) (omega (arith, up, z))
 
   -- A pass.
-  module _ (unmoved : Bool) (d s₀ : ℕ) where
+  module _ (initial : Bool) (d s₀ : ℕ) where
     abbrev at : ℕ → ℕ
-    at j = passed v o p unmoved d j s₀
+    at j = passed v o p initial d j s₀
 
     pub passed-barred : Busy v s₀ → (j : ℕ) → (t : ℕ) → s₀ ≤ t → t < at j → Barred v p t
     unfolding passed
     passed-barred busy zero = λ t from less. absurd (omega (arith, from, less))
     passed-barred busy (suc j) =
         let so = passed-barred busy j in
-        cond-cases (λ z. (t : ℕ) → s₀ ≤ t → t < z → Barred v p t) (ltb (at j) (end v o p j) && asks unmoved d (end v o p j)) _ _
+        cond-cases (λ z. (t : ℕ) → s₀ ≤ t → t < z → Barred v p t) (ltb (at j) (end v o p j) && considers initial d (end v o p j)) _ _
         (λ _ t from less.
         le-or-lt (at j) t
-        (λ q. raised-barred (end v o p j) (at j) (λ i below high. busy i below (omega (arith, high, passed-up v o p unmoved d j s₀)))
+        (λ q. raised-barred (end v o p j) (at j) (λ i below high. busy i below (omega (arith, high, passed-up v o p initial d j s₀)))
         (v .n) (omega arith) t q less)
         (λ q. so t from q))
         (λ _. so)
 
-    -- one that changes nothing has only right ends that make no jump, of those that it asks
-    pass-quiet : (j : ℕ) → at j ≡ s₀ → (x : ℕ) → x < j → s₀ < end v o p x → asks unmoved d (end v o p x) ≡ true
+    -- one that changes nothing has only right ends that make no jump, of those that it considers
+    pass-quiet : (j : ℕ) → at j ≡ s₀ → (x : ℕ) → x < j → s₀ < end v o p x → considers initial d (end v o p x) ≡ true
         → Quiet v p (end v o p x) s₀
     unfolding passed
     pass-quiet zero e x below high asked = absurd (omega (arith, below))
     pass-quiet (suc j) e x below high asked =
-        let before : at j ≡ s₀ = omega (arith, e, passed-up v o p unmoved d j s₀, passed-next v o p unmoved d j s₀) in
+        let before : at j ≡ s₀ = omega (arith, e, passed-up v o p initial d j s₀, passed-next v o p initial d j s₀) in
         same-cases x j
         (λ q _.
         let row : raised v o (end v o p j) p (v .n) s₀ ≡ s₀ =
@@ -226,7 +226,7 @@ module _ (v : Windows) (o : ℕ → ℕ) (order : LatestReleaseFirst v o) (p : �
         (λ ne _. pass-quiet j before x (omega (arith, below, ne)) high asked)
 
     -- each place has its turn
-    pub passed-quiet : at (v .n) ≡ s₀ → (i : ℕ) → i < v .n → s₀ < v .d i → asks unmoved d (v .d i) ≡ true → Quiet v p (v .d i) s₀
+    pub passed-quiet : at (v .n) ≡ s₀ → (i : ℕ) → i < v .n → s₀ < v .d i → considers initial d (v .d i) ≡ true → Quiet v p (v .d i) s₀
     passed-quiet e i below high asked =
         let z = once-has (v .n) o (order .once) i below in
         let x = v .n - suc (z .0) in

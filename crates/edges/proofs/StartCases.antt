@@ -1,4 +1,4 @@
--- Jumps, rows, passes and the search for a start, in each case that the code meets.
+-- Right ends, passes and the search for a start, in each case that the code meets.
 -- Assumes nothing.
 use mathlib.Core.Path.{_≡_, refl, sym, ap, _∙_, fun-ext}
 use mathlib.Core.Bool.{Bool, true, false, cond, _&&_}
@@ -17,16 +17,17 @@ use Rattle.windows.specs.Windows.{Windows, windowsIn, put}
 use Rattle.windows.specs.declared.types.WindowSet.{WindowSet}
 use Rattle.windows.proofs.ArrayCases.{set-put}
 use Rattle.windows.specs.RunningSums.{entered}
-use Rattle.edges.specs.Starts.{jumped, raised, asks, passed, startFrom}
+use Rattle.windows.specs.Windows.{heldIn}
+use Rattle.edges.specs.Starts.{jumped, raised, considers, passed, startFrom}
 use Rattle.edges.specs.declared.types.Found.{Found}
 use Rattle.edges.specs.declared.types.Found.the-variants.{Minute, NoMinute}
 use Rattle.edges.specs.Starts.{others, startByJumps}
 use Rattle.edges.specs.Calls.{FindsStart}
-use Rattle.edges.specs.Internal.{entriesIn, ListsPlaces}
+use Rattle.edges.specs.Internal.{ListsPlaces}
 use Rattle.edges.proofs.Jumps.{passed-up}
 use Rattle.edges.proofs.StartLaws.{start-law}
 
--- A row: x places of the order are passed.
+-- One right end: x places of the order are passed.
 pub record Raising (v : Windows) (o : ℕ → ℕ) (b p s₀ x work s : ℕ) : Type 0 where
   pub passed : x ≤ v .n
   pub work-is : work ≡ entered v o b (v .p) x
@@ -68,40 +69,40 @@ module _ (v : Windows) (o : ℕ → ℕ) (b p s₀ : ℕ) where
   raised-all x work s so end = let z : x ≡ v .n = omega (arith, so .passed) in so .start-is ∙ ap (λ (y : ℕ). raised v o b p y s₀) z
 
 -- A pass: the right ends of all places of the order but the first x are asked.
-pub record Passing (v : Windows) (o : ℕ → ℕ) (p : ℕ) (unmoved : Bool) (d s₀ x s : ℕ) : Type 0 where
+pub record Passing (v : Windows) (o : ℕ → ℕ) (p : ℕ) (initial : Bool) (d s₀ x s : ℕ) : Type 0 where
   pub left : x ≤ v .n
-  pub start-is : s ≡ passed v o p unmoved d (v .n - x) s₀
+  pub start-is : s ≡ passed v o p initial d (v .n - x) s₀
 
-module _ (v : Windows) (o : ℕ → ℕ) (p : ℕ) (unmoved : Bool) (d s₀ : ℕ) where
-  pub passing-none : Passing v o p unmoved d s₀ (v .n) s₀
+module _ (v : Windows) (o : ℕ → ℕ) (p : ℕ) (initial : Bool) (d s₀ : ℕ) where
+  pub passing-none : Passing v o p initial d s₀ (v .n) s₀
   unfolding passed
   passing-none = let z : v .n - v .n ≡ 0 = omega arith in record { left = omega arith; start-is = rw z refl }
 
-  module _ (x s : ℕ) (so : Passing v o p unmoved d s₀ x s) (more : 0 < x) where
+  module _ (x s : ℕ) (so : Passing v o p initial d s₀ x s) (more : 0 < x) where
     -- the next right end
     abbrev b : ℕ
     b = v .d (o (x - 1))
 
-    one-more-end : (t : ℕ) → cond (ltb s b && asks unmoved d b) (raised v o b p (v .n) s) s ≡ t → Passing v o p unmoved d s₀ (x - 1) t
+    one-more-end : (t : ℕ) → cond (ltb s b && considers initial d b) (raised v o b p (v .n) s) s ≡ t → Passing v o p initial d s₀ (x - 1) t
     unfolding passed
     one-more-end t e =
         let count : v .n - (x - 1) ≡ suc (v .n - x) = omega (arith, so .left, more) in
         let here : v .n - suc (v .n - x) ≡ x - 1 = omega (arith, so .left, more) in
         record { left = omega (arith, so .left); start-is = rw (count, here, ← so .start-is) (sym e) }
 
-    pub passing-low : b ≤ s → Passing v o p unmoved d s₀ (x - 1) s
+    pub passing-low : b ≤ s → Passing v o p initial d s₀ (x - 1) s
     passing-low low = one-more-end s (rw (le-ltb s b low) refl)
 
-    module _ (up : s < b) (asked : Bool) (is : asked ≡ asks unmoved d b) where
-      pub passing-not : asked ≡ false → Passing v o p unmoved d s₀ (x - 1) s
+    module _ (up : s < b) (asked : Bool) (is : asked ≡ considers initial d b) where
+      pub passing-not : asked ≡ false → Passing v o p initial d s₀ (x - 1) s
       passing-not e = one-more-end s (rw (lt-ltb s b up, ← is, e) refl)
 
-      pub passing-row : asked ≡ true → Passing v o p unmoved d s₀ (x - 1) (raised v o b p (v .n) s)
+      pub passing-row : asked ≡ true → Passing v o p initial d s₀ (x - 1) (raised v o b p (v .n) s)
       passing-row e = one-more-end (raised v o b p (v .n) s) (rw (lt-ltb s b up, ← is, e) refl)
 
-  pub passed-all : (x s : ℕ) → Passing v o p unmoved d s₀ x s → x ≡ 0 → s ≡ passed v o p unmoved d (v .n) s₀
+  pub passed-all : (x s : ℕ) → Passing v o p initial d s₀ x s → x ≡ 0 → s ≡ passed v o p initial d (v .n) s₀
   passed-all x s so end =
-      let z : v .n - x ≡ v .n = omega (arith, end) in so .start-is ∙ ap (λ (y : ℕ). passed v o p unmoved d y s₀) z
+      let z : v .n - x ≡ v .n = omega (arith, end) in so .start-is ∙ ap (λ (y : ℕ). passed v o p initial d y s₀) z
 
 -- The search: from s on it finds what it finds from the first start on, and so many passes more may be made.
 pub record Searching (v : Windows) (o : ℕ → ℕ) (r d p : ℕ) (all : Found) (s : ℕ) : Type 0 where
@@ -124,7 +125,7 @@ module _ (v : Windows) (o : ℕ → ℕ) (r d p : ℕ) (all : Found) (s : ℕ) (
       search-room = ltb-false d (s + p) (sym test ∙ left)
 
       -- and the pass changes nothing, or goes on
-      module _ (unmoved : Bool) (at : unmoved ≡ eqb s r) (t : ℕ) (pass : t ≡ passed v o p unmoved d (v .n) s) where
+      module _ (initial : Bool) (at : initial ≡ eqb s r) (t : ℕ) (pass : t ≡ passed v o p initial d (v .n) s) where
         next-is : t ≡ passed v o p (eqb s r) d (v .n) s
         next-is = rw at at pass
 
@@ -156,7 +157,7 @@ searching-first v o r d p s e = rw e (record { fuel = passes r d p; enough = ome
 module _ (t : WindowSet) (k count : ℕ) (held : count ≡ windowsIn t .n) where
   abbrev found : List ℕ → Found
   found xs =
-      startFrom (entriesIn count (t .r) (t .d) (set (t .p) k 0)) (valueAt xs) (getD (t .r) k 0) (getD (t .d) k 0) (getD (t .p) k 0)
+      startFrom (heldIn count (t .r) (t .d) (set (t .p) k 0)) (valueAt xs) (getD (t .r) k 0) (getD (t .d) k 0) (getD (t .p) k 0)
       (passes (getD (t .r) k 0) (getD (t .d) k 0) (getD (t .p) k 0))
       (getD (t .r) k 0)
 
@@ -170,7 +171,7 @@ module _ (t : WindowSet) (k count : ℕ) (held : count ≡ windowsIn t .n) where
       }
 
   module _ (xs : List ℕ) (place : k < count) (long : length (t .p) ≡ 64) (order : HoldsOrder (windowsIn t .n) (windowsIn t .r) xs) where
-    others-held : entriesIn count (t .r) (t .d) (set (t .p) k 0) ≡ others (windowsIn t) k
+    others-held : heldIn count (t .r) (t .d) (set (t .p) k 0) ≡ others (windowsIn t) k
     others-held =
         λ i.
         record {

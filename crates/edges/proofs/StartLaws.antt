@@ -15,7 +15,7 @@ use Rattle.windows.proofs.Endpoints.{work-wider}
 use Rattle.windows.proofs.Puts.{put-other, fixed-formed}
 use Rattle.windows.proofs.Room.{formed-roomy}
 use Rattle.jackson.proofs.Law.{plan-law}
-use Rattle.edges.specs.Starts.{others, asks, passed, startFrom, startByJumps}
+use Rattle.edges.specs.Starts.{others, considers, passed, startFrom, startByJumps}
 use Rattle.edges.specs.Laws.{NoStartBefore, LeastFound, StartLaw}
 use Rattle.edges.specs.declared.types.Found.the-variants.{Minute, NoMinute}
 use Rattle.edges.proofs.OtherWork.{others-fit, fit-with-own, plan-clears, clear-plan}
@@ -61,13 +61,13 @@ module _ (w : Windows) (formed : Formed w) (k : ℕ) (place : k < w .n) where
       all-quiet s e j below =
           le-or-lt (w .d j) s
           (λ low. low-quiet (others w k) (w .p k) (w .d j) s (others-fit w k place fits) low)
-          (λ up. go (asks (eqb s (w .r k)) (w .d k) (w .d j)) refl up)
+          (λ up. go (considers (eqb s (w .r k)) (w .d k) (w .d j)) refl up)
         where
-          beyond : (t : Bool) → eqb s (w .r k) ≡ t → asks t (w .d k) (w .d j) ≡ false → (s ≡ w .r k) × (w .d k ≤ w .d j)
+          beyond : (t : Bool) → eqb s (w .r k) ≡ t → considers t (w .d k) (w .d j) ≡ false → (s ≡ w .r k) × (w .d k ≤ w .d j)
           beyond true at-r out = (eqb-true s (w .r k) at-r, ltb-false (w .d j) (w .d k) out)
           beyond false _ out = absurd (true≢false out)
 
-          go : (t : Bool) → asks (eqb s (w .r k)) (w .d k) (w .d j) ≡ t → s < w .d j → Quiet (others w k) (w .p k) (w .d j) s
+          go : (t : Bool) → considers (eqb s (w .r k)) (w .d k) (w .d j) ≡ t → s < w .d j → Quiet (others w k) (w .p k) (w .d j) s
           go true asked up =
               passed-quiet (others w k) o (record { sorted = order .sorted; once = order .once }) (w .p k) (eqb s (w .r k)) (w .d k) s e j
               below up asked

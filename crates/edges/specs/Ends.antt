@@ -11,7 +11,7 @@ unfoldable pub largest : ℕ → ℕ → (ℕ → ℕ) → ℕ
 largest x zero f = x
 largest x (suc n) f = max (largest x n f) (f n)
 
--- when entry k ends at the earliest, if it begins no earlier than the r of entry i and the work from there to b is done before it
+-- when the work from the r of entry i to b and entry k's minutes are done, from the smaller of the two r on and without a gap
 abbrev pub endAfter : Windows → ℕ → ℕ → ℕ → ℕ
 endAfter w k i b = min (w .r i) (w .r k) + work w (w .r i) b + w .p k
 

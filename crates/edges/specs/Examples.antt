@@ -16,10 +16,11 @@ twoFixed = columns 6 3 (0 ∷ 1 ∷ 3 ∷ []) (6 ∷ 2 ∷ 4 ∷ []) (2 ∷ 1 �
 
 pub record EndExamples : Type 0 where
   -- the interval asks the first entry to end after it, at 5: it has minute 0, and then none before 4
-  pub asks : askedOf fullInterval 0 4 1 ≡ 5
+  pub full-asks : askedOf fullInterval 0 4 1 ≡ 5
   pub full : byPlace 2 (closedEnd fullInterval) ≡ (5 ∷ 4 ∷ []) ++ replicate 62 0
-  -- [1, 2) asks it to end at 3; with minute 2 it needs none after the second interval, and [1, 4) ends by 4 with its minutes
-  pub asks-first : askedOf twoFixed 0 2 1 ≡ 3
+  -- [1, 2) asks it to end at 3, with minutes 0 and 2. From 1 to 4 there are three minutes, enough for its two and the two others from 0 on:
+  -- nothing more is asked
+  pub first-asks : askedOf twoFixed 0 2 1 ≡ 3
   pub ends-by : endAfter twoFixed 0 1 4 ≡ 4
   pub not-asked : askedOf twoFixed 0 4 1 ≡ 0
   pub fixed : byPlace 3 (closedEnd twoFixed) ≡ (3 ∷ 2 ∷ 4 ∷ []) ++ replicate 61 0

@@ -12,8 +12,9 @@ use Rattle.edges.specs.declared.types.Found.the-variants.{Minute, NoMinu
 abbrev pub others : Windows → ℕ → Windows
 others w k = record { h = 0; n = w .n; r = w .r; d = w .d; p = put k 0 (w .p) }
 
--- One left end a of a right end b, where the others have so much work in [a, b): if that work and p minutes more, from a or from the
--- start s on, do not end by b, then the p minutes begin when the work is done, at a + work or later.
+-- One left end a of a right end b, where the others have so much work in [a, b): if that work and p minutes more, from the smaller of a and
+-- the start s on, do not end by b, then the p minutes begin when the work is done, at a + work or later. The start is raised to that minute,
+-- a jump.
 abbrev pub jumped : ℕ → ℕ → ℕ → ℕ → ℕ → ℕ
 jumped b p a work s = cond (ltb s (a + work) && ltb b (min a s + work + p)) (a + work) s
 
@@ -25,22 +26,22 @@ raised v o b p (suc x) s =
     let t = raised v o b p x s in
     cond (leb (v .d (o x)) b) (jumped b p (v .r (o x)) (entered v o b (v .p) (suc x)) t) t
 
--- Whether the right end b is asked for an entry with this d: as long as the start is its r only those before d, since the windows as they
--- stand have room for the entry there.
-abbrev pub asks : Bool → ℕ → ℕ → Bool
-asks unmoved d b = cond unmoved (ltb b d) true
+-- Whether a pass considers the right end b for an entry with this d: one that begins at the entry's r only those before d, since windows
+-- that have a plan have room for the entry from r to d.
+abbrev pub considers : Bool → ℕ → ℕ → Bool
+considers initial d b = cond initial (ltb b d) true
 
 -- One pass: the start after the right ends of the last j places of the order, the smallest r first, as far as they are above the start and
--- asked. The papers name no order of the right ends; in this one a start that was raised is often raised on in the same pass.
+-- considered. The papers name no order of the right ends; in this one a start that was raised is often raised on in the same pass.
 unfoldable pub passed : Windows → (ℕ → ℕ) → ℕ → Bool → ℕ → ℕ → ℕ → ℕ
-passed v o p unmoved d zero s = s
-passed v o p unmoved d (suc j) s =
-    let t = passed v o p unmoved d j s in
+passed v o p initial d zero s = s
+passed v o p initial d (suc j) s =
+    let t = passed v o p initial d j s in
     let b = v .d (o (v .n - suc j)) in
-    cond (ltb t b && asks unmoved d b) (raised v o b p (v .n) t) t
+    cond (ltb t b && considers initial d b) (raised v o b p (v .n) t) t
 
--- Passes from the start s on, until one changes nothing or the window [r, d) is used up. A pass that changes the start passes one at
--- least, so one pass more than there are starts is enough.
+-- Passes from the start s on, until one changes nothing or the window [r, d) is used up. A pass that changes the start raises it by a
+-- minute at least, so one pass more than there are starts is enough.
 unfoldable pub startFrom : Windows → (ℕ → ℕ) → ℕ → ℕ → ℕ → ℕ → ℕ → Found
 startFrom v o r d p zero s = NoMinute
 startFrom v o r d p (suc fuel) s =

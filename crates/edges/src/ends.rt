@@ -7,11 +7,12 @@ ghost use mathlib.Core.Path.{_≡_};
 ghost use Prim.Native.Nat.{_+_, _*_, _≤_, max};
 ghost use lib.ListN.{length};
 ghost use Rattle.base.specs.Counting.{EachOnce};
-ghost use Rattle.list.specs.DayLists.{mostEntries, byPlace};
+ghost use Rattle.list.specs.DayLists.{mostEntries};
 ghost use Rattle.order.specs.Orders.{valueAt};
 ghost use Rattle.windows.specs.Windows.{windowsIn};
-ghost use Rattle.edges.specs.Ends.{closedEnd};
-ghost use Rattle.edges.specs.Internal.{entriesIn, MinutesBy, DueBy, LaterEnd, askedAfter, EndsBy, Raises, FirstEnds, AtPlaces};
+ghost use Rattle.windows.specs.Windows.{heldIn};
+ghost use Rattle.edges.specs.Calls.{GivesEnds};
+ghost use Rattle.edges.specs.Internal.{MinutesBy, DueBy, LaterEnd, askedAfter, EndsBy, Raises, FirstEnds, AtPlaces};
 
 // An entry's minutes, if its d is at most b.
 fn minutes_by(b: u16, d: u16, p: u16) -> u32
@@ -51,7 +52,7 @@ fn later_end(latest: u32, r: u16, kept: u32) -> u32
 }
 
 // An entry's end, raised to what the right end b asks of it.
-fn raised(end: u32, latest: u32, b: u16, d: u16, p: u16) -> u32
+fn later_asked(end: u32, latest: u32, b: u16, d: u16, p: u16) -> u32
     requires { ⌜ latest ≤ 65535 * 65 ⌝ }
     ensures { λ x. ⌜ x ≡ max end (askedAfter b latest d p) ⌝ }
 {
@@ -82,7 +83,7 @@ fn raise_ends(
     requires { ⌜ EachOnce count (valueAt (now order)) ⌝ }
     requires { ⌜ length (now ends) ≡ mostEntries ⌝ }
     ensures { λ _.
-        ⌜ Raises (entriesIn count (now (r .entry)) (now (d .entry)) (now (p .entry))) (valueAt (now (order .entry))) b (now (ends .entry))
+        ⌜ Raises (heldIn count (now (r .entry)) (now (d .entry)) (now (p .entry))) (valueAt (now (order .entry))) b (now (ends .entry))
         (now (ends .exit)) ⌝ }
 {
     let mut kept = work_by(count, d, p, b);
@@ -94,7 +95,7 @@ fn raise_ends(
         let due = d[i];
         let minutes = p[i];
         latest = later_end(latest, r[i], kept);
-        ends[x] = raised(ends[x], latest, b, due, minutes);
+        ends[x] = later_asked(ends[x], latest, b, due, minutes);
         kept -= minutes_by(b, due, minutes);
     }
 }
@@ -138,7 +139,7 @@ fn ends_by_position(
     requires { ⌜ count ≤ mostEntries ⌝ }
     requires { ⌜ EachOnce count (valueAt (now order)) ⌝ }
     ensures { λ xs.
-        ⌜ EndsBy (entriesIn count (now (r .entry)) (now (d .entry)) (now (p .entry))) (valueAt (now (order .entry))) count xs ⌝ }
+        ⌜ EndsBy (heldIn count (now (r .entry)) (now (d .entry)) (now (p .entry))) (valueAt (now (order .entry))) count xs ⌝ }
 {
     let mut ends = first_ends(count, r, p, order);
     let mut j: usize = 0;
@@ -167,7 +168,7 @@ fn at_places(count: usize, order: &[usize; ENTRIES], ends: &[u32; ENTRIES]) -> [
 
 // The least ends of all entries as pause entries, in closed form. Places from n on are 0.
 pub fn closed_ends(windows: WindowSet) -> [u32; ENTRIES]
-    ensures { λ xs. ⌜ xs ≡ byPlace (windowsIn windows .n) (closedEnd (windowsIn windows)) ⌝ }
+    ensures { λ xs. ⌜ GivesEnds (windowsIn windows) xs ⌝ }
 {
     let count = places_held(windows.n);
     let r = windows.r;

@@ -10,12 +10,13 @@ ghost use lib.Dec.{eqb, ltb};
 ghost use Rattle.list.specs.DayLists.{mostEntries};
 ghost use Rattle.order.specs.Orders.{valueAt};
 ghost use Rattle.windows.specs.Windows.{windowsIn};
-ghost use Rattle.edges.specs.Starts.{jumped, raised, asks, passed};
+ghost use Rattle.windows.specs.Windows.{heldIn};
+ghost use Rattle.edges.specs.Starts.{jumped, raised, considers, passed};
 ghost use Rattle.edges.specs.Calls.{FindsStart};
-ghost use Rattle.edges.specs.Internal.{entriesIn, ListsPlaces, Enters};
+ghost use Rattle.edges.specs.Internal.{ListsPlaces, Enters};
 
-// A row of left ends so far: the work that entered, and the start.
-pub(crate) struct Row {
+// A walk over the left ends of a right end so far: the work that entered, and the start.
+pub(crate) struct StartSoFar {
     pub work: u32,
     pub start: u32,
 }
@@ -49,18 +50,18 @@ fn jump(b: u16, p: u16, a: u16, work: u32, s: u32) -> u32
 }
 
 // A box of the others enters, with its r and minutes.
-fn enter(b: u16, p: u16, r: u16, minutes: u16, row: Row) -> Row
-    requires { ⌜ row .work ≤ 4128705 ⌝ }
-    ensures { λ next. ⌜ Enters b p r minutes row next ⌝ }
+fn enter(b: u16, p: u16, r: u16, minutes: u16, sum: StartSoFar) -> StartSoFar
+    requires { ⌜ sum .work ≤ 4128705 ⌝ }
+    ensures { λ next. ⌜ Enters b p r minutes sum next ⌝ }
 {
-    let work = row.work + wide(minutes);
-    Row {
+    let work = sum.work + wide(minutes);
+    StartSoFar {
         work: work,
-        start: jump(b, p, r, work, row.start),
+        start: jump(b, p, r, work, sum.start),
     }
 }
 
-// One right end: the left end walks down, and the start jumps over what its work bars.
+// One right end: left end after left end, from the largest r down, the start is raised by what the work there asks.
 fn raise(
     count: usize,
     r: &[u16; ENTRIES],
@@ -74,10 +75,10 @@ fn raise(
     requires { ⌜ count ≤ mostEntries ⌝ }
     requires { ⌜ ListsPlaces count (now order) ⌝ }
     ensures { λ s.
-        ⌜ s ≡ raised (entriesIn count (now (r .entry)) (now (d .entry)) (now (minutes .entry))) (valueAt (now (order .entry))) b p count
+        ⌜ s ≡ raised (heldIn count (now (r .entry)) (now (d .entry)) (now (minutes .entry))) (valueAt (now (order .entry))) b p count
         start ⌝ }
 {
-    let mut row = Row {
+    let mut sum = StartSoFar {
         work: 0,
         start: start,
     };
@@ -88,19 +89,19 @@ fn raise(
         if b < d[i] {
             continue;
         }
-        row = enter(b, p, r[i], minutes[i], row);
+        sum = enter(b, p, r[i], minutes[i], sum);
     }
-    row.start
+    sum.start
 }
 
-// Whether the right end b is asked for an entry with this d: as long as the start is its r only those before d.
-fn is_asked(unmoved: bool, d: u16, b: u16) -> bool
-    ensures { λ x. ⌜ x ≡ asks unmoved d b ⌝ }
+// Whether a pass considers the right end b for an entry with this d: one that begins at its r only those before d.
+fn is_considered(initial: bool, d: u16, b: u16) -> bool
+    ensures { λ x. ⌜ x ≡ considers initial d b ⌝ }
 {
-    if unmoved { b < d } else { true }
+    if initial { b < d } else { true }
 }
 
-// One pass: the rows of all right ends that are above the start and asked, those of the smallest r first.
+// One pass: all right ends that are above the start and considered, those of the smallest r first.
 fn pass(
     count: usize,
     r: &[u16; ENTRIES],
@@ -108,14 +109,14 @@ fn pass(
     minutes: &[u16; ENTRIES],
     order: &[usize; ENTRIES],
     p: u16,
-    unmoved: bool,
+    initial: bool,
     last: u16,
     start: u32,
 ) -> u32
     requires { ⌜ count ≤ mostEntries ⌝ }
     requires { ⌜ ListsPlaces count (now order) ⌝ }
     ensures { λ s.
-        ⌜ s ≡ passed (entriesIn count (now (r .entry)) (now (d .entry)) (now (minutes .entry))) (valueAt (now (order .entry))) p unmoved
+        ⌜ s ≡ passed (heldIn count (now (r .entry)) (now (d .entry)) (now (minutes .entry))) (valueAt (now (order .entry))) p initial
         last count start ⌝ }
 {
     let mut s = start;
@@ -127,7 +128,7 @@ fn pass(
         if wide(b) <= s {
             continue;
         }
-        if !is_asked(unmoved, last, b) {
+        if !is_considered(initial, last, b) {
             continue;
         }
         s = raise(count, r, d, minutes, order, b, p, s);

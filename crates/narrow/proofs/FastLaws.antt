@@ -159,5 +159,5 @@ fast-law whole w formed =
     record {
       narrowed = λ order sorted. narrowing-same order sorted whole w formed;
       one-round = λ order sorted. one-round-same order sorted whole w formed;
-      stays = λ planned k place. visit-unmoved whole (unmoved w) formed planned k place;
+      not-moved = λ planned k place. visit-unmoved whole (unmoved w) formed planned k place;
     }

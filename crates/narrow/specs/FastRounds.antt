@@ -25,9 +25,10 @@ abbrev pub foundOf : ℕ → Found → Outcome ℕ
 foundOf k (Minute t) = answered t
 foundOf k NoMinute = refused (code 10 (k ∷ []))
 
--- whether a visit would move an entry: it is whole, and its least end in closed form, or that in the mirror, is not r + p
+-- whether a visit would move an entry: it is whole, and its least end in closed form is not r + p, or in the mirror, where its r is `from`
+-- and its least end `late`, not from + p
 abbrev pub wouldMove : Bool → ℕ → ℕ → ℕ → ℕ → ℕ → Bool
-wouldMove whole r from p end mirror-end = whole && not (eqb end (r + p) && eqb mirror-end (from + p))
+wouldMove whole r from p end late = whole && not (eqb end (r + p) && eqb late (from + p))
 
 abbrev pub movesAt : (ℕ → Bool) → Windows → ℕ → Bool
 movesAt whole w k = wouldMove (whole k) (w .r k) (mirror w .r k) (w .p k) (closedEnd w k) (closedEnd (mirror w) k)
@@ -80,4 +81,4 @@ pub record FastLaw (whole : ℕ → Bool) (w : Windows) : Type 0 where
   pub one-round : (order : Windows → ℕ → ℕ) → ((v : Windows) → LatestReleaseFirst v (order v))
       → fastOneRound order whole w ≡ round overloadOf whole (unmoved w)
   -- where a plan exists, the places that the closed forms say would not move are those that a visit does not change
-  pub stays : Plannable w → (k : ℕ) → k < w .n → (movesAt whole w k ≡ false) ↔ (visit overloadOf whole k (unmoved w) ≡ answered (unmoved w))
+  pub not-moved : Plannable w → (k : ℕ) → k < w .n → (movesAt whole w k ≡ false) ↔ (visit overloadOf whole k (unmoved w) ≡ answered (unmoved w))

@@ -1,6 +1,6 @@
 // Narrowing a list.
 use crate::rounds::narrow_windows;
-use crate::rounds::untested_round;
+use crate::rounds::single_round;
 use crate::types::NarrowAnswer;
 use crate::types::WindowsAnswer;
 use list::places_held;
@@ -91,6 +91,6 @@ pub fn make_round(list: DayList) -> NarrowAnswer
     let Verdict::Accepted = verdict else {
         return refused_with(verdict);
     };
-    let found = untested_round(whole_places(list), unchecked_windows(list));
+    let found = single_round(whole_places(list), unchecked_windows(list));
     answer_with(list, found)
 }

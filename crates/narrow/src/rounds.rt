@@ -179,8 +179,8 @@ fn unplanned_round(whole: [bool; ENTRIES], windows: WindowSet) -> WindowsAnswer
     }
 }
 
-// One round of windows with room, for which row 9 was not tested: whether they have a plan decides how it is made, and not what it gives.
-pub(crate) fn untested_round(whole: [bool; ENTRIES], windows: WindowSet) -> WindowsAnswer
+// One round of windows with room, which tells no row 9: whether they have a plan decides how it is made, and not what it gives.
+pub(crate) fn single_round(whole: [bool; ENTRIES], windows: WindowSet) -> WindowsAnswer
     requires { ⌜ Formed (windowsIn windows) ⌝ }
     ensures { λ a. ⌜ narrowedOf a ≡ round overloadOf (marked whole) (narrowedBy windows 0) ⌝ }
 {

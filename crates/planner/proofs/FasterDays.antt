@@ -3,7 +3,7 @@
 use mathlib.Core.Path.{_≡_, refl, ap, _∙_}
 use mathlib.Core.Bool.{Bool}
 use mathlib.Core.List.{List}
-use Prim.Native.Nat.{ℕ, _≤_}
+use Prim.Native.Nat.{ℕ, _<_, _≤_}
 use borrow.Author.Tests.{le-ltb}
 use lib.ListN.{length, take}
 use lib.Seq.{take-at}
@@ -12,7 +12,8 @@ use Rattle.base.proofs.Inversion.{answered-refused}
 use Rattle.list.specs.DayLists.{wholeIn}
 use Rattle.list.specs.Checks.{checkOf, WellFormed}
 use Rattle.list.specs.declared.types.DayList.{DayList}
-use Rattle.windows.specs.Windows.{Windows, windowsOf, Formed}
+use Rattle.windows.specs.Windows.{Windows, windowsOf, withR, withD, Formed}
+use Rattle.windows.specs.Mirrors.{mirror, mirrorBytes}
 use Rattle.windows.specs.RunningSums.{LatestReleaseFirst}
 use Rattle.windows.proofs.RunningSums.{some-releases}
 use Rattle.windows.proofs.FormedLists.{list-formed}
@@ -29,9 +30,13 @@ use Rattle.narrow.proofs.MirrorSettled.{set-formed}
 use Rattle.narrow.proofs.NarrowLaws.{narrow-law}
 use Rattle.narrow.proofs.OverloadPlanner.{overload-planner}
 use Rattle.bounds.specs.Ends.{leastEnds, greatestStarts}
-use Rattle.bounds.proofs.FastBounds.{fast-bounds}
+use Rattle.bounds.proofs.FastBounds.{end-same, start-same, fast-bounds}
+use Rattle.bounds.specs.ShownPlans.{earlyPlan, latePlan, boundOf, shownPlan}
+use Rattle.bounds.specs.declared.types.Shown.{Shown}
+use Rattle.bounds.specs.declared.types.Shown.the-variants.{Early, Late}
 use Rattle.planner.specs.Calls.{planChecks, narrowAfter, planned, endsOf, startsOf, PlansDay}
-use Rattle.planner.specs.FasterDays.{definedTold, definedDay, fastTold, fastSettleOf, fastDay, fastRoundOf, callTold, toldOf}
+use Rattle.planner.specs.FasterDays.{definedTold, definedDay, fastTold, fastSettleOf, fastDay, fastRoundOf, fastBound, fastShown}
+use Rattle.planner.specs.FasterDays.{callTold, toldOf}
 use Rattle.planner.specs.FasterDays.{FasterDays}
 use Rattle.planner.specs.declared.types.PlanAnswer.{PlanAnswer}
 
@@ -64,6 +69,20 @@ module _ (l : DayList) where
         let set : SettledInside whole given (w .r) (w .d) =
         record { inside = rw (widest .entries) at (widest .inside); settled = rw (widest .entries) at (widest .settled) } in
         rw (widest .entries) (set-formed whole given (list-formed l (planned-day v e .0)) (w .r) (w .d) set)
+
+    -- the bound and the plan that are shown of a place
+    bound-same : (x : Shown) (k : ℕ) → k < v .windows .n → fastBound x whole k (v .windows) ≡ boundOf x whole k (v .windows)
+    bound-same Early k place = end-same whole (v .windows) settled-formed (widest .settled .plan) k place
+    bound-same Late k place = start-same whole (v .windows) settled-formed (widest .settled .plan) k place
+
+    shown-same : (x : Shown) (k : ℕ) → k < v .windows .n → fastShown x whole k (v .windows) ≡ shownPlan x whole k (v .windows)
+    shown-same Early k place =
+        let w = v .windows in
+        stretch-law .bytes (withD w k (fastBound Early whole k w)) (settled-formed .few) ∙ ap (earlyPlan w k) (bound-same Early k place)
+    shown-same Late k place =
+        let w = v .windows in
+        ap (mirrorBytes (w .h)) (stretch-law .bytes (mirror (withR w k (fastBound Late whole k w))) (settled-formed .few))
+        ∙ ap (latePlan w k) (bound-same Late k place)
 
   module _ (order : Windows → ℕ → ℕ) (sorted : (w : Windows) → LatestReleaseFirst w (order w)) where
     narrowed-same : fastSettleOf order l ≡ settleOf l
@@ -125,6 +144,7 @@ faster-days =
       ordered = (λ w. some-releases w .0, λ w. some-releases w .1);
       days = λ order sorted l. day-same l order sorted;
       one-round = λ order sorted l. round-same l order sorted;
+      bounds = bound-same;
+      shown = shown-same;
       plans = told-same;
-      rounds = λ l a made. made .holds .narrowed;
     }

@@ -13,7 +13,8 @@ use Rattle.base.specs.Counting.{sum, better, best, smaller}
 use Rattle.windows.specs.Windows.{Windows, windowsIn}
 use Rattle.windows.specs.Intervals.{work, leftEnd, rightOf, rightEnd, overloadOf}
 use Rattle.windows.specs.RunningSums.{LatestReleaseFirst, boxes, additionsFor, rightOfFirst, additionsAt}
-use Rattle.windows.specs.Internal.{heldIn, FindsLeft, FindsRight}
+use Rattle.windows.specs.Internal.{FindsLeft, FindsRight}
+use Rattle.windows.specs.Windows.{heldIn}
 use Rattle.windows.specs.declared.types.WindowSet.{WindowSet}
 use Rattle.windows.specs.declared.running_sum.RunningSum.{RunningSum}
 use Rattle.windows.specs.declared.interval.ShownInterval.{ShownInterval}

@@ -12,10 +12,6 @@ use Rattle.windows.specs.RunningSums.{AtLeftEnd, anew, Reaches, addition
 use Rattle.windows.specs.declared.running_sum.RunningSum.{RunningSum}
 use Rattle.windows.specs.declared.interval.ShownInterval.{ShownInterval}
 
--- the windows of n entries held in arrays: their work and their intervals ask for no H
-abbrev pub heldIn : ℕ → List ℕ → List ℕ → List ℕ → Windows
-heldIn n r d p = columns 0 n r d p
-
 -- one place more is passed, with this d and p: its box enters if d is at most b. That p has 16 bits, an array does not tell the caller.
 pub record Passes (b d p : ℕ) (s s′ : RunningSum) : Type 0 where
   pub a : s′ .a ≡ s .a

@@ -47,6 +47,10 @@ pub record SameWindows (a b : DayList) : Type 0 where
 abbrev pub columns : ℕ → ℕ → List ℕ → List ℕ → List ℕ → Windows
 columns h n r d p = record { h = h; n = n; r = λ i. getD r i 0; d = λ i. getD d i 0; p = λ i. getD p i 0 }
 
+-- the windows of n entries held in arrays: their work and their intervals ask for no H
+abbrev pub heldIn : ℕ → List ℕ → List ℕ → List ℕ → Windows
+heldIn n r d p = columns 0 n r d p
+
 -- the windows that a value of the code's type holds: its arrays have 64 places, whatever its n
 abbrev pub windowsIn : WindowSet → Windows
 windowsIn s = columns (s .h) (min (s .n) mostEntries) (s .r) (s .d) (s .p)

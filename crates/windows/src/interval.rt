@@ -18,7 +18,8 @@ ghost use Rattle.windows.specs.Windows.{windowsIn};
 ghost use Rattle.windows.specs.Intervals.{overloadOf};
 ghost use Rattle.order.specs.Orders.{valueAt};
 ghost use Rattle.windows.specs.RunningSums.{LatestReleaseFirst};
-ghost use Rattle.windows.specs.Internal.{heldIn, FindsLeft, FindsRight};
+ghost use Rattle.windows.specs.Internal.{FindsLeft, FindsRight};
+ghost use Rattle.windows.specs.Windows.{heldIn};
 
 // Whether an overloaded interval is shown, and then its a, b and work; and the sum as the last walk left it.
 pub(crate) struct ShownInterval {

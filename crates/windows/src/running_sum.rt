@@ -5,7 +5,8 @@ ghost use Prim.Native.Nat.{_+_, _*_, _<_, _≤_};
 ghost use Rattle.list.specs.DayLists.{mostEntries};
 ghost use Rattle.order.specs.Orders.{valueAt};
 ghost use Rattle.windows.specs.RunningSums.{LatestReleaseFirst, WalksDown, anew};
-ghost use Rattle.windows.specs.Internal.{heldIn, Passes};
+ghost use Rattle.windows.specs.Internal.{Passes};
+ghost use Rattle.windows.specs.Windows.{heldIn};
 
 // The left end reached, how many places of the order are passed, the sum kept, the additions made for this b, and those made for the right
 // ends before it.

@@ -56,7 +56,7 @@ end-of-requires c κs =
     let accepted = c .before .before .before .before .is-accepted in
     let test = accepted .ensures ∙ ap accepts (c .before .before .before .before .before .unchecked-overload .ensures) in
     let closed = c .before .before .before .closed-ends in
-    let at = closed-at (start .args .t1) (closed .result) (closed .ensures) (start .args .k) place in (
+    let at = closed-at (start .args .t1) (closed .result) (closed .ensures .ends) (start .args .k) place in (
       omega (arith, formed .room _ place, formed .in-day _ place, short start),
       closed-small w formed (start .args .k) place (accepted .result) test _ at (omega (arith, short start)),
     )
@@ -68,7 +68,7 @@ returns c =
     let accepted = c .before .before .before .before .before .is-accepted in
     let test = accepted .ensures ∙ ap accepts (c .before .before .before .before .before .before .unchecked-overload .ensures) in
     let closed = c .before .before .before .before .closed-ends in
-    let at = closed-at (start .args .t1) (closed .result) (closed .ensures) (start .args .k) (start .pre .place) in
+    let at = closed-at (start .args .t1) (closed .result) (closed .ensures .ends) (start .args .k) (start .pre .place) in
     c .end-of .ensures
     ∙ end-least w (start .pre .formed) (start .args .k) (start .pre .place) (accepted .result) test _ at (λ _. start .args .whole)
 

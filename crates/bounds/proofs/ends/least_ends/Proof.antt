@@ -74,7 +74,7 @@ end-of-requires c κs =
     let formed = start .pre .0 in
     let at = place (c .before .before .before) in
     let closed = c .before .before .before .before .before .before .before .closed-ends in
-    let end = closed-at s (closed .result) (closed .ensures) _ at in (
+    let end = closed-at s (closed .result) (closed .ensures .ends) _ at in (
       omega (arith, formed .room _ at, formed .in-day _ at, short start),
       closed-small (windowsIn s) formed _ at (start .args .planned) (start .pre .1) _ end (omega (arith, short start)),
     )
@@ -98,7 +98,7 @@ loop-again c =
     let loop = c .before .before .before .before .before .loop in
     let at = place (c .before .before .before .before) in
     let closed = c .before .before .before .before .before .before .before .before .closed-ends in
-    let end = closed-at s (closed .result) (closed .ensures) (loop .i) at in
+    let end = closed-at s (closed .result) (closed .ensures .ends) (loop .i) at in
     placed-next _ _ _ _ _ (loop .inv) at
     (c .end-of .ensures
     ∙ end-least (windowsIn s) (start .pre .0) (loop .i) at (start .args .planned) (start .pre .1) _ end (marked (start .args .t1)))

@@ -2,6 +2,7 @@
 -- Assumes nothing.
 use borrow.Author.Needs.{needs}
 use native.Mathlib.Omega.{arith}
+use Rattle.edges.proofs.EndLaws.{end-law}
 use Rattle.edges.proofs.EndCases.{held-once, ends-held}
 use Rattle.edges.proofs.ends.closed_ends.Statement.{statement}
 use Rattle.edges.proofs.ends.closed_ends.Tie as tie
@@ -31,10 +32,14 @@ returns c =
     let ordered = c .before .before .before .before .before .before .before .before in
     let counted = ordered .before .before .before .before .before in
     let windows = counted .before .args .windows in
-    ends-held _ (windows .r) (windows .d) (windows .p) _ (counted .places-held .ensures) _ (ordered .largest-first .ensures)
-    (windows .h) _ _
-    (c .before .before .before .ends-by-position .ensures)
-    (c .at-places .ensures)
+    record {
+      ends =
+          ends-held _ (windows .r) (windows .d) (windows .p) _ (counted .places-held .ensures) _ (ordered .largest-first .ensures)
+          (windows .h) _ _
+          (c .before .before .before .ends-by-position .ensures)
+          (c .at-places .ensures);
+      law = λ formed planned k place. end-law _ formed planned k place;
+    }
 
 pub closed-ends-spec : {M : Type 1} → statement M
 closed-ends-spec =

@@ -5,13 +5,14 @@ use mathlib.Core.Path.{_≡_}
 use native.Mathlib.Omega.{arith}
 use Prim.Native.Nat.{_-_, _≤_}
 use Rattle.order.specs.Orders.{valueAt}
-use Rattle.edges.specs.Internal.{entriesIn, EndsBy}
+use Rattle.windows.specs.Windows.{heldIn}
+use Rattle.edges.specs.Internal.{EndsBy}
 use Rattle.edges.proofs.EndCases.{ends-first, ends-next}
 use Rattle.edges.proofs.ends.ends_by_position.Statement.{statement}
 use Rattle.edges.proofs.ends.ends_by_position.Tie as tie
 
 abbrev Inv-loop : tie.InvT-loop
-Inv-loop count r d p order ends₀ j₀ ends j = (j ≤ count) × EndsBy (entriesIn count r d p) (valueAt order) j ends
+Inv-loop count r d p order ends₀ j₀ ends j = (j ≤ count) × EndsBy (heldIn count r d p) (valueAt order) j ends
 
 abbrev μ-loop : tie.MeasureT-loop
 μ-loop count r d p order ends₀ j₀ ends j = count - j

@@ -2,14 +2,14 @@
 -- Assumes nothing.
 use borrow.Author.Needs.{needs}
 use Rattle.order.specs.Orders.{valueAt}
-use Rattle.edges.specs.Internal.{entriesIn}
+use Rattle.windows.specs.Windows.{heldIn}
 use Rattle.edges.proofs.EndCases.{Raising, raising-start, raising-place, raising-less, raising-next, raising-done}
 use Rattle.edges.proofs.ends.raise_ends.Statement.{statement}
 use Rattle.edges.proofs.ends.raise_ends.Tie as tie
 
 abbrev Inv-loop : tie.InvT-loop
 Inv-loop count r d p order b ends₀ kept₀ latest₀ x₀ ends kept latest x =
-    Raising (entriesIn count r d p) (valueAt order) b ends₀ ends kept latest x
+    Raising (heldIn count r d p) (valueAt order) b ends₀ ends kept latest x
 
 abbrev μ-loop : tie.MeasureT-loop
 μ-loop count r d p order b ends₀ kept₀ latest₀ x₀ ends kept latest x = x
@@ -71,18 +71,18 @@ later-end-requires c κs =
     let inv = c .before .before .before .before .before .loop .inv in
     search (needs, inv .kept-small, inv .latest-small)
 
-mul-raised : tie.Need-mul-raised Inv-loop μ-loop
-mul-raised c =
+mul-later-asked : tie.Need-mul-later-asked Inv-loop μ-loop
+mul-later-asked c =
     let inv = c .before .before .before .before .before .before .loop .inv in
     search (needs, inv .within, inv .few, inv .long)
 
-element-copy-out-raised : tie.Need-element-copy-out-raised Inv-loop μ-loop
-element-copy-out-raised c =
+element-copy-out-later-asked : tie.Need-element-copy-out-later-asked Inv-loop μ-loop
+element-copy-out-later-asked c =
     let inv = c .before .before .before .before .before .before .loop .inv in
     search (needs, inv .within, inv .few, inv .long)
 
-raised-requires : tie.Need-raised-requires Inv-loop μ-loop
-raised-requires c κs = search (needs, c .before .later-end .ensures .small)
+later-asked-requires : tie.Need-later-asked-requires Inv-loop μ-loop
+later-asked-requires c κs = search (needs, c .before .later-end .ensures .small)
 
 mul-ends : tie.Need-mul-ends Inv-loop μ-loop
 mul-ends c =
@@ -110,7 +110,7 @@ loop-again c =
     let turn = c .before .before .before .before .before .before .before .before in
     raising-next _ _ _ _ _ _ _ _ (turn .before .loop .inv) (turn .loop-test .taken) _ (c .minutes-by .ensures) _ _
     (c .before .before .before .later-end .ensures)
-    (c .before .raised .ensures)
+    (c .before .later-asked .ensures)
 
 returns : tie.Need-returns Inv-loop μ-loop
 returns c = raising-done _ _ _ _ _ _ _ _ (c .before .loop .inv) (c .loop-test .left)
@@ -133,9 +133,9 @@ raise-ends-spec =
     mul-later-end
     element-copy-out-later-end
     later-end-requires
-    mul-raised
-    element-copy-out-raised
-    raised-requires
+    mul-later-asked
+    element-copy-out-later-asked
+    later-asked-requires
     mul-ends
     element-write-ends
     minutes-by-requires

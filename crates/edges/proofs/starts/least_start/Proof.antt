@@ -6,8 +6,8 @@ use Prim.Native.Nat.{suc, _-_}
 use native.Mathlib.Omega.{arith}
 use lib.ListN.{length}
 use Rattle.order.specs.Orders.{valueAt}
+use Rattle.windows.specs.Windows.{heldIn}
 use Rattle.edges.specs.Starts.{startFrom}
-use Rattle.edges.specs.Internal.{entriesIn}
 use Rattle.edges.proofs.StartCases.{passes, Searching, searching-first, search-none, search-room}
 use Rattle.edges.proofs.StartCases.{search-found, search-less, search-next, none-found, start-found, lists-places}
 use Rattle.edges.proofs.starts.least_start.Statement.{statement}
@@ -15,7 +15,7 @@ use Rattle.edges.proofs.starts.least_start.Tie as tie
 
 abbrev Inv-loop : tie.InvT-loop
 Inv-loop k count r d minutes first last p order s₀ s =
-    let v = entriesIn count r d minutes in
+    let v = heldIn count r d minutes in
     Searching v (valueAt order) first last p (startFrom v (valueAt order) first last p (passes first last p) first) s
 
 abbrev μ-loop : tie.MeasureT-loop

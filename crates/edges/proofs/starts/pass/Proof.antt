@@ -6,17 +6,17 @@ use native.Mathlib.Omega.{arith}
 use borrow.Author.Tests.{not-true, not-false}
 use Rattle.list.specs.DayLists.{mostEntries}
 use Rattle.order.specs.Orders.{valueAt}
-use Rattle.edges.specs.Internal.{entriesIn}
+use Rattle.windows.specs.Windows.{heldIn}
 use Rattle.edges.proofs.StartCases.{Passing, passing-none, passing-low, passing-not, passing-row, passed-all}
 use Rattle.edges.proofs.starts.pass.Statement.{statement}
 use Rattle.edges.proofs.starts.pass.Tie as tie
 
 abbrev Inv-loop : tie.InvT-loop
-Inv-loop count r d minutes order p unmoved last start s₀ x₀ s x =
-    Passing (entriesIn count r d minutes) (valueAt order) p unmoved last start x s
+Inv-loop count r d minutes order p initial last start s₀ x₀ s x =
+    Passing (heldIn count r d minutes) (valueAt order) p initial last start x s
 
 abbrev μ-loop : tie.MeasureT-loop
-μ-loop count r d minutes order p unmoved last start s₀ x₀ s x = x
+μ-loop count r d minutes order p initial last start s₀ x₀ s x = x
 
 loop-holds : tie.Need-loop-holds Inv-loop μ-loop
 loop-holds c = passing-none _ _ _ _ _ _
@@ -54,8 +54,8 @@ loop-again c =
     passing-low _ _ _ _ _ _ _ _ (at-loop .loop .inv) (at-loop-test .loop-test .taken)
     (omega (arith, c .if1 .taken, c .before .wide .ensures))
 
-is-asked-requires : tie.Need-is-asked-requires Inv-loop μ-loop
-is-asked-requires c κs = search needs
+is-considered-requires : tie.Need-is-considered-requires Inv-loop μ-loop
+is-considered-requires c κs = search needs
 
 loop-less-2 : tie.Need-loop-less-2 Inv-loop μ-loop
 loop-less-2 c = search needs
@@ -65,7 +65,7 @@ loop-again-2 c =
     let at-loop-test = c .before .before .before .before .before .before in
     let at-loop = at-loop-test .before in
     passing-not _ _ _ _ _ _ _ _ (at-loop .loop .inv) (at-loop-test .loop-test .taken)
-    (omega (arith, c .before .before .if1 .left, c .before .before .before .wide .ensures)) _ (c .before .is-asked .ensures)
+    (omega (arith, c .before .before .if1 .left, c .before .before .before .wide .ensures)) _ (c .before .is-considered .ensures)
     (not-true _ (c .if2 .taken))
 
 raise-requires : tie.Need-raise-requires Inv-loop μ-loop
@@ -81,7 +81,7 @@ loop-again-3 c =
     let at-loop = at-loop-test .before in
     rw (c .raise .ensures)
     (passing-row _ _ _ _ _ _ _ _ (at-loop .loop .inv) (at-loop-test .loop-test .taken)
-    (omega (arith, c .before .before .before .if1 .left, at-wide .wide .ensures)) _ (c .before .before .is-asked .ensures)
+    (omega (arith, c .before .before .before .if1 .left, at-wide .wide .ensures)) _ (c .before .before .is-considered .ensures)
     (not-false _ (c .before .if2 .left)))
 
 returns : tie.Need-returns Inv-loop μ-loop
@@ -102,7 +102,7 @@ pass-spec =
     wide-requires
     loop-less
     loop-again
-    is-asked-requires
+    is-considered-requires
     loop-less-2
     loop-again-2
     raise-requires

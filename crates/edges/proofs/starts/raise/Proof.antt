@@ -1,20 +1,20 @@
--- The loop's invariant is the row so far; the measure is what is left of the order.
+-- The loop's invariant is the walk so far; the measure is what is left of the order.
 -- Assumes nothing.
 use borrow.Author.Needs.{needs}
 use Prim.Native.Nat.{_-_}
 use native.Mathlib.Omega.{arith}
 use Rattle.order.specs.Orders.{valueAt}
-use Rattle.edges.specs.Internal.{entriesIn}
+use Rattle.windows.specs.Windows.{heldIn}
 use Rattle.edges.proofs.StartCases.{Raising, raising-none, raising-out, raising-in, raised-all}
 use Rattle.edges.proofs.starts.raise.Statement.{statement}
 use Rattle.edges.proofs.starts.raise.Tie as tie
 
 abbrev Inv-loop : tie.InvT-loop
-Inv-loop count r d minutes order b p start row₀ x₀ row x =
-    Raising (entriesIn count r d minutes) (valueAt order) b p start x (row .work) (row .start)
+Inv-loop count r d minutes order b p start sum₀ x₀ sum x =
+    Raising (heldIn count r d minutes) (valueAt order) b p start x (sum .work) (sum .start)
 
 abbrev μ-loop : tie.MeasureT-loop
-μ-loop count r d minutes order b p start row₀ x₀ row x = count - x
+μ-loop count r d minutes order b p start sum₀ x₀ sum x = count - x
 
 loop-holds : tie.Need-loop-holds Inv-loop μ-loop
 loop-holds c = raising-none _ _ _ _ _

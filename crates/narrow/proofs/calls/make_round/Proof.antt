@@ -28,8 +28,8 @@ whole-places-requires c κs = search needs
 unchecked-windows-requires : tie.Need-unchecked-windows-requires
 unchecked-windows-requires c κs = search needs
 
-untested-round-requires : tie.Need-untested-round-requires
-untested-round-requires c κs =
+single-round-requires : tie.Need-single-round-requires
+single-round-requires c κs =
     let check = c .before .before .before .before .check in
     let enum-told = c .before .before .enum-told in
     let whole-places = c .before .whole-places in
@@ -46,7 +46,7 @@ returns-2 c =
     let enum-told = c .before .before .before .before .enum-told in
     let whole-places = c .before .before .before .whole-places in
     let windows = c .before .before .unchecked-windows in
-    let found = c .before .untested-round in
+    let found = c .before .single-round in
     round-found _ (check .result) (check .ensures) (enum-told .given .1) (whole-places .result) (whole-places .ensures) (windows .result)
     (windows .ensures) (c .answer-with .result) (found .result) (c .answer-with .ensures) (found .ensures)
 
@@ -61,6 +61,6 @@ make-round-spec =
     returns
     whole-places-requires
     unchecked-windows-requires
-    untested-round-requires
+    single-round-requires
     answer-with-requires
     returns-2)

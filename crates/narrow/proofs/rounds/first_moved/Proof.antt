@@ -75,20 +75,19 @@ would-move-requires c κs = search needs
 
 returns : tie.Need-returns Inv-loop μ-loop
 returns c =
-    let start = c .before .before .before .before .before in
-    let at-loop = start .before in
+    let in-loop = c .before .before .before .before .before in
+    let at-loop = in-loop .before in
     let at-closed-ends = at-loop .before .before in
     let at-mirrored = at-closed-ends .before in
     let at-closed-ends-2 = at-mirrored .before in
-    let start-2 = at-closed-ends-2 .before in
-    let start = start-2 in
+    let start = at-closed-ends-2 .before in
     let loop = at-loop .loop in
     let mirror = at-mirrored .mirrored in
     let ends = at-closed-ends-2 .closed-ends in
     let late = at-closed-ends .closed-ends2 in
     let test = c .before .would-move in
     move-found (marked (start .args .t1)) (start .args .t2) (mirror .result) (mirror .ensures .windows) (ends .result) (late .result)
-    (ends .ensures) (late .ensures) (loop .k) (place (start)) (test .result) (test .ensures) (loop .inv) (c .if1 .taken)
+    (ends .ensures .ends) (late .ensures .ends) (loop .k) (place in-loop) (test .result) (test .ensures) (loop .inv) (c .if1 .taken)
 
 add-k : tie.Need-add-k Inv-loop μ-loop
 add-k c = search needs
@@ -98,20 +97,19 @@ loop-less c = search needs
 
 loop-again : tie.Need-loop-again Inv-loop μ-loop
 loop-again c =
-    let start = c .before .before .before .before .before in
-    let at-loop = start .before in
+    let in-loop = c .before .before .before .before .before in
+    let at-loop = in-loop .before in
     let at-closed-ends = at-loop .before .before in
     let at-mirrored = at-closed-ends .before in
     let at-closed-ends-2 = at-mirrored .before in
-    let start-2 = at-closed-ends-2 .before in
-    let start = start-2 in
+    let start = at-closed-ends-2 .before in
     let loop = at-loop .loop in
     let mirror = at-mirrored .mirrored in
     let ends = at-closed-ends-2 .closed-ends in
     let late = at-closed-ends .closed-ends2 in
     let test = c .before .would-move in
     move-passed (marked (start .args .t1)) (start .args .t2) (mirror .result) (mirror .ensures .windows) (ends .result) (late .result)
-    (ends .ensures) (late .ensures) (loop .k) (place (start)) (test .result) (test .ensures) (loop .inv) (c .if1 .left)
+    (ends .ensures .ends) (late .ensures .ends) (loop .k) (place in-loop) (test .result) (test .ensures) (loop .inv) (c .if1 .left)
 
 returns-2 : tie.Need-returns-2 Inv-loop μ-loop
 returns-2 c =

@@ -3,7 +3,7 @@
 use borrow.Author.Needs.{needs}
 use Prim.Native.Nat.{_-_}
 use Rattle.order.specs.Orders.{valueAt}
-use Rattle.windows.specs.Internal.{heldIn}
+use Rattle.windows.specs.Windows.{heldIn}
 use Rattle.windows.proofs.RunningSums.{additions-few}
 use Rattle.windows.proofs.LeftEndCases.{NoneSoFar, left-start, left-next, left-shown, left-none}
 use Rattle.windows.proofs.interval.left_end.Statement.{statement}

@@ -4,7 +4,7 @@ use borrow.Author.Needs.{needs}
 use mathlib.Core.Path.{refl}
 use Prim.Native.Nat.{_-_}
 use Rattle.order.specs.Orders.{valueAt}
-use Rattle.windows.specs.Internal.{heldIn}
+use Rattle.windows.specs.Windows.{heldIn}
 use Rattle.windows.proofs.IntervalCases.{RightSoFar, right-start, right-next, right-done}
 use Rattle.windows.proofs.interval.right_end.Statement.{statement}
 use Rattle.windows.proofs.interval.right_end.Tie as tie

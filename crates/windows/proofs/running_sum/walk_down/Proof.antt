@@ -5,7 +5,7 @@ use borrow.Author.Needs.{needs}
 use Prim.Native.Nat.{_-_}
 use Rattle.base.proofs.Permutations.{once-in}
 use Rattle.order.specs.Orders.{valueAt}
-use Rattle.windows.specs.Internal.{heldIn}
+use Rattle.windows.specs.Windows.{heldIn}
 use Rattle.windows.proofs.RunningSums.{Walking, walking-start, walking-next, walked-below, walked-all}
 use Rattle.windows.proofs.running_sum.walk_down.Statement.{statement}
 use Rattle.windows.proofs.running_sum.walk_down.Tie as tie

@@ -2,8 +2,8 @@
 -- Assumes nothing.
 use borrow.Author.Needs.{needs}
 use Rattle.edges.proofs.EndCases.{raised-due, raised-early, raised-less, raised-more}
-use Rattle.edges.proofs.ends.raised.Statement.{statement}
-use Rattle.edges.proofs.ends.raised.Tie as tie
+use Rattle.edges.proofs.ends.later_asked.Statement.{statement}
+use Rattle.edges.proofs.ends.later_asked.Tie as tie
 
 add-asked : tie.Need-add-asked
 add-asked c = search needs
@@ -20,5 +20,5 @@ returns-3 c = raised-less _ _ _ _ _ (c .before .before .if1 .left) (c .before .i
 returns-4 : tie.Need-returns-4
 returns-4 c = raised-more _ _ _ _ _ (c .before .before .if1 .left) (c .before .if2 .left) (c .if3 .left)
 
-pub raised-spec : {M : Type 1} → statement M
-raised-spec = tie.close (tie.spec add-asked returns returns-2 returns-3 returns-4)
+pub later-asked-spec : {M : Type 1} → statement M
+later-asked-spec = tie.close (tie.spec add-asked returns returns-2 returns-3 returns-4)

@@ -4,8 +4,8 @@ use borrow.Author.Needs.{needs}
 use Prim.Native.Nat.{_<_}
 use Rattle.list.specs.DayLists.{marked}
 use Rattle.narrow.proofs.CallCases.{test-countable, test-unplanned}
-use Rattle.narrow.proofs.rounds.untested_round.Statement.{statement}
-use Rattle.narrow.proofs.rounds.untested_round.Tie as tie
+use Rattle.narrow.proofs.rounds.single_round.Statement.{statement}
+use Rattle.narrow.proofs.rounds.single_round.Tie as tie
 
 -- a day's minutes are a number of 16 bits
 short : (c : tie.Start) → c .args .windows .h < 65536
@@ -39,8 +39,8 @@ one-round-requires c κs =
 returns-2 : tie.Need-returns-2
 returns-2 c = search needs
 
-pub untested-round-spec : {M : Type 1} → statement M
-untested-round-spec =
+pub single-round-spec : {M : Type 1} → statement M
+single-round-spec =
     tie.close
     (tie.spec
     unchecked-overload-requires
