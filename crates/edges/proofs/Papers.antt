@@ -18,7 +18,7 @@ use Rattle.windows.proofs.Room.{passes-formed, formed-roomy}
 use Rattle.jackson.proofs.Law.{plan-law}
 use Rattle.edges.specs.Starts.{others}
 use Rattle.edges.specs.Ends.{largest}
-use Rattle.edges.specs.Laws.{NoStartBefore}
+use Rattle.windows.specs.FixedEntries.{NoStart}
 use Rattle.edges.specs.Papers.{setWork, says, partDone, onePass, sixMinutes, fourMinutes, Papers}
 use Rattle.edges.proofs.Jumps.{cond-cases, Barred}
 use Rattle.edges.proofs.Largest.{largest-cases}
@@ -98,9 +98,9 @@ module _ (w : Windows) (k : ℕ) where
       (λ is. largest-cases 0 BarredBefore (w .n) _ none-before (λ x _. part-barred j i x is))
       (λ _. none-before)))
 
-six : NoStartBefore sixMinutes 0 4
+six : (x : ℕ) → 0 ≤ x → x < 4 → Plannable (fixedAt sixMinutes 0 x) → ⊥
 unfolding work sum overloadOf rightEnd leftEnd best roomFault firstBelow
-six x from less room =
+six x from less =
     below-suc 3 (λ y. Plannable (fixedAt sixMinutes 0 y) → ⊥)
     (below-suc 2 _
     (below-suc 1 _
@@ -109,9 +109,9 @@ six x from less room =
     (refused-none (fixedAt sixMinutes 0 2) (omega arith) refl _ refl))
     (refused-none (fixedAt sixMinutes 0 3) (omega arith) refl _ refl) x less
 
-four : NoStartBefore fourMinutes 0 4
+four : NoStart fourMinutes 0
 unfolding work sum overloadOf rightEnd leftEnd best roomFault firstBelow
-four x from less room =
+four x from room =
     below-suc 2 (λ y. Plannable (fixedAt fourMinutes 0 y) → ⊥)
     (below-suc 1 _
     (below-suc 0 _ (λ y l. absurd (omega (arith, l))) (refused-none (fixedAt fourMinutes 0 0) (omega arith) refl _ refl))
@@ -122,7 +122,7 @@ pub papers : Papers
 unfolding onePass largest work sum overloadOf rightEnd leftEnd best roomFault firstBelow
 papers =
     record {
-      rule = λ w formed planned k place x from less room. barred-none w formed k place x room (pass-barred w k x from less);
+      rule = λ w formed k place x from less room. barred-none w formed k place x room (pass-barred w k x from less);
       not-least = refl;
       least =
           record {

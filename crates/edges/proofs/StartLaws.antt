@@ -16,7 +16,8 @@ use Rattle.windows.proofs.Puts.{put-other, fixed-formed}
 use Rattle.windows.proofs.Room.{formed-roomy}
 use Rattle.jackson.proofs.Law.{plan-law}
 use Rattle.edges.specs.Starts.{others, considers, passed, startFrom, startByJumps}
-use Rattle.edges.specs.Laws.{NoStartBefore, LeastFound, StartLaw}
+use Rattle.windows.specs.FixedEntries.{IsLeastStart}
+use Rattle.edges.specs.Laws.{StartLaw}
 use Rattle.edges.specs.declared.types.Found.the-variants.{Minute, NoMinute}
 use Rattle.edges.proofs.OtherWork.{others-fit, fit-with-own, plan-clears, clear-plan}
 use Rattle.edges.proofs.Jumps.{cond-cases, Barred, Quiet, Busy, passed-up, passed-barred, passed-quiet, quiet-clear, low-quiet}
@@ -77,10 +78,10 @@ module _ (w : Windows) (formed : Formed w) (k : ℕ) (place : k < w .n) where
       abbrev Passed : ℕ → Type 0
       Passed s = (x : ℕ) → w .r k ≤ x → x < s → Barred (others w k) (w .p k) x
 
-      none-passed : (s : ℕ) → Passed s → NoStartBefore w k s
+      none-passed : (s : ℕ) → Passed s → (x : ℕ) → w .r k ≤ x → x < s → x + w .p k ≤ w .d k → Plannable (fixedAt w k x) → ⊥
       none-passed s so x from less room = barred-none x room (so x from less)
 
-      found-least : (s : ℕ) → w .r k ≤ s → Passed s → s + w .p k ≤ w .d k → next s ≡ s → LeastFound w k s
+      found-least : (s : ℕ) → w .r k ≤ s → Passed s → s + w .p k ≤ w .d k → next s ≡ s → IsLeastStart w k s
       found-least s from so room e =
           record {
             from-r = from;
@@ -88,7 +89,7 @@ module _ (w : Windows) (formed : Formed w) (k : ℕ) (place : k < w .n) where
             plan =
                 clear-plan w k s (s + w .p k) place (fixed-formed w formed k s place room) (others-fit w k place fits)
                 (quiet-clear (others w k) (w .p k) s (all-quiet s e));
-            least = none-passed s so;
+            least = λ x l less. none-passed s so x l less (omega (arith, less, room));
           }
 
       search-finds : (fuel s : ℕ) → w .r k ≤ s → suc (w .d k) - (s + w .p k) < fuel → Passed s
@@ -98,7 +99,7 @@ module _ (w : Windows) (formed : Formed w) (k : ℕ) (place : k < w .n) where
       search-finds (suc fuel) s from enough so =
           let rest = startFrom (others w k) o (w .r k) (w .d k) (w .p k) fuel (next s) in
           cond-cases (StartLaw w k) (ltb (w .d k) (s + w .p k)) NoMinute (cond (eqb (next s) s) (Minute s) rest)
-          (λ used x l less room. none-passed s so x l (omega (arith, room, ltb-true (w .d k) (s + w .p k) used)) room)
+          (λ used x l room. none-passed s so x l (omega (arith, room, ltb-true (w .d k) (s + w .p k) used)) room)
           (λ left.
           let room : s + w .p k ≤ w .d k = ltb-false (w .d k) (s + w .p k) left in
           cond-cases (StartLaw w k) (eqb (next s) s) (Minute s) rest

@@ -1,17 +1,18 @@
 -- Source documents 002 and 004, judged: what of their claims on starts and ends holds, and what does not. `papers` of proofs/Papers.antt
 -- proves it.
-use Prim.Native.Nat.{ℕ, _+_, _<_, min}
+use Prim.Native.Nat.{ℕ, _+_, _<_, _≤_, min}
 use mathlib.Core.Path.{_≡_}
 use mathlib.Core.Bool.{Bool, cond, _&&_}
 use mathlib.Core.List.{[], _∷_}
 use lib.Dec.{leb, ltb}
-use Rattle.windows.specs.Windows.{Windows, columns, Formed}
+use Rattle.windows.specs.Windows.{Windows, columns, fixedAt, Formed}
 use Rattle.windows.specs.Plans.{Plannable}
+use Rattle.windows.specs.FixedEntries.{IsLeastStart, NoStart}
 use Rattle.windows.specs.Intervals.{work}
 use Rattle.windows.specs.RunningSums.{LatestReleaseFirst}
 use Rattle.edges.specs.Starts.{others, startByJumps}
 use Rattle.edges.specs.Ends.{largest}
-use Rattle.edges.specs.Laws.{NoStartBefore, LeastFound, StartLaw, EndLaw}
+use Rattle.edges.specs.Laws.{StartLaw, EndLaw}
 
 -- One pass of edge-finding, for the entry k. Their set of entries is the others from the r of entry i to the d of entry j, with this work.
 abbrev pub setWork : Windows → ℕ → ℕ → ℕ → ℕ
@@ -39,14 +40,15 @@ fourMinutes = columns 4 3 (0 ∷ 1 ∷ 3 ∷ []) (4 ∷ 2 ∷ 4 ∷ []) (2 ∷ 1
 
 pub record Papers : Type 0 where
   -- the rule holds: no start before has a plan
-  pub rule : (w : Windows) → Formed w → Plannable w → (k : ℕ) → k < w .n → NoStartBefore w k (onePass w k)
+  pub rule : (w : Windows) → Formed w → (k : ℕ) → k < w .n
+      → (x : ℕ) → w .r k ≤ x → x < onePass w k → x + w .p k ≤ w .d k → Plannable (fixedAt w k x) → ⊥
   -- that it is the least start that has one does not: here it is 2, and the least start 4
   pub not-least : onePass sixMinutes 0 ≡ 2
-  pub least : LeastFound sixMinutes 0 4
+  pub least : IsLeastStart sixMinutes 0 4
   -- and here it is 2, and no start has a plan, though there is one with all entries interruptible
   pub not-any : onePass fourMinutes 0 ≡ 2
   pub planned : Plannable fourMinutes
-  pub none : NoStartBefore fourMinutes 0 4
+  pub none : NoStart fourMinutes 0
   -- repeated from each start that it comes to, until nothing changes, it is
   pub repeated : (w : Windows) → Formed w → Plannable w → (k : ℕ) → k < w .n → (o : ℕ → ℕ) → LatestReleaseFirst w o
       → StartLaw w k (startByJumps w o k)

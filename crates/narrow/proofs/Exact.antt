@@ -15,7 +15,8 @@ use Rattle.windows.specs.Plans.{Plannable}
 use Rattle.windows.specs.Mirrors.{mirror}
 use Rattle.base.proofs.Sums.{le-or-lt}
 use Rattle.base.proofs.Searches.{First, first-below}
-use Rattle.narrow.specs.Searching.{Test, trials, failedStarts, leastStart, greatestEnd, IsLeastStart, NoStart, IsGreatestEnd, NoEnd}
+use Rattle.windows.specs.FixedEntries.{IsLeastStart, NoStart, IsGreatestEnd, NoEnd}
+use Rattle.narrow.specs.Searching.{Test, trials, failedStarts, leastStart, greatestEnd}
 use Rattle.narrow.specs.Searching.{SearchLaw}
 use Rattle.narrow.proofs.Planners.{Planner}
 use Rattle.windows.proofs.Puts.{fixed-formed, up-to-formed}

@@ -40,17 +40,8 @@ found-least w formed k place = go
     exact = search-law overload-planner w formed k place
 
     go : (f : Found) → StartLaw w k f → foundOf k f ≡ leastStart overloadOf w k
-    go (Minute x) found =
-        sym
-        (exact .start-is x .1
-        (record {
-          from-r = found .from-r;
-          room = found .room;
-          plan = found .plan;
-          least = λ y from less. found .least y from less (omega (arith, less, found .room));
-        }))
-    go NoMinute none =
-        sym (exact .no-start .1 (λ x from room. none x from (omega (arith, room, formed .minutes k place)) room))
+    go (Minute x) found = sym (exact .start-is x .1 found)
+    go NoMinute none = sym (exact .no-start .1 none)
 
 pub jumps-least : (s : WindowSet) (k : ℕ) → Visitable s k → (f : Found) → FindsStart (windowsIn s) k f
     → foundOf k f ≡ leastStart overloadOf (windowsIn s) k

@@ -8,7 +8,8 @@ use native.Mathlib.Omega.{arith}
 use Rattle.base.specs.Outcomes.{Code, Outcome, answered, refused, andThen, accepts}
 use Rattle.base.proofs.Inversion.{Says, answered-same, refused-same, answered-refused}
 use Rattle.windows.specs.Windows.{Windows, withR, withD, Formed}
-use Rattle.narrow.specs.Searching.{Test, leastStart, greatestEnd, IsLeastStart, NoStart, IsGreatestEnd, NoEnd}
+use Rattle.windows.specs.FixedEntries.{IsLeastStart, NoStart, IsGreatestEnd, NoEnd}
+use Rattle.narrow.specs.Searching.{Test, leastStart, greatestEnd}
 use Rattle.narrow.specs.Rounds.{Side, earliest, latest, step, Narrowed, counted, narrowSide, visit, visits, round, rounds, slack}
 use Rattle.narrow.specs.StepLists.{Step, NamesWhole, stepsLeave, someRefused}
 use Rattle.narrow.specs.RoundsByPlans.{StepGives, start, no-start, end, no-end, StepsGive, done, found, none, visitSteps, roundSteps}

@@ -13,7 +13,8 @@ use Rattle.windows.specs.Plans.{Plannable}
 use Rattle.windows.specs.Mirrors.{mirror}
 use Rattle.base.proofs.Sums.{le-or-lt}
 use Rattle.windows.proofs.PlanFacts.{widen}
-use Rattle.narrow.specs.Searching.{Test, leastStart, IsLeastStart, NoStart}
+use Rattle.windows.specs.FixedEntries.{IsLeastStart, NoStart}
+use Rattle.narrow.specs.Searching.{Test, leastStart}
 use Rattle.narrow.specs.Settling.{SettledInside, NoneSettled}
 use Rattle.narrow.specs.Rounds.{Side, earliest, latest, step, Narrowed, narrowSide, visit, visits, round, rounds}
 use Rattle.narrow.specs.StepLists.{Step, NamesWhole, leftBy, stepsLeave, someRefused}

@@ -5,7 +5,7 @@ use mathlib.Core.Bool.{Bool, cond}
 use mathlib.Core.List.{List, [], _∷_, _++_}
 use Rattle.base.specs.Outcomes.{Code, code, Outcome, answered, refused}
 use Rattle.windows.specs.Windows.{Windows, withR, withD}
-use Rattle.narrow.specs.Searching.{IsLeastStart, NoStart, IsGreatestEnd, NoEnd}
+use Rattle.windows.specs.FixedEntries.{IsLeastStart, NoStart, IsGreatestEnd, NoEnd}
 use Rattle.narrow.specs.Rounds.{Side, earliest, latest, Narrowed, counted}
 use Rattle.narrow.specs.StepLists.{Step}
 

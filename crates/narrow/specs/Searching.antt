@@ -1,5 +1,5 @@
 -- The two searches of a visit, for an entry's r and for its d.
-use Prim.Native.Nat.{ℕ, suc, _+_, _-_, _<_, _≤_}
+use Prim.Native.Nat.{ℕ, suc, _+_, _-_}
 use mathlib.Core.Path.{_≡_}
 use mathlib.Core.Logic.{_↔_}
 use mathlib.Core.List.{[], _∷_}
@@ -7,7 +7,7 @@ use lib.Dec.{eqb}
 use Rattle.base.specs.Outcomes.{code, Outcome, answered, refused, row, firstOf, accepts}
 use Rattle.base.specs.Counting.{firstBelow}
 use Rattle.windows.specs.Windows.{Windows, fixedAt, fixedUpTo}
-use Rattle.windows.specs.Plans.{Plannable}
+use Rattle.windows.specs.FixedEntries.{IsLeastStart, NoStart, IsGreatestEnd, NoEnd}
 
 -- a planner's test of windows: searches ask only whether it accepts them; of the windows given its refusal is handed on
 abbrev pub Test : Type 0
@@ -32,29 +32,6 @@ leastStart test w k = let j = failedStarts test w k in firstOf (row 10 (eqb j (t
 -- "Then its d becomes the greatest e"; where there is none, row 10, which only a list of steps meets
 unfoldable pub greatestEnd : Test → Windows → ℕ → Outcome ℕ
 greatestEnd test w k = let j = failedEnds test w k in firstOf (row 10 (eqb j (trials w k)) k ∷ []) (answered (w .d k - j))
-
--- What they find, said of plans and not of the test.
-
--- "the least s, from its r up, with s + p at most its d, for which a plan exists when its window is [s, s + p) and the others keep theirs"
-pub record IsLeastStart (w : Windows) (k s : ℕ) : Type 0 where
-  pub from-r : w .r k ≤ s
-  pub room : s + w .p k ≤ w .d k
-  pub plan : Plannable (fixedAt w k s)
-  pub least : (x : ℕ) → w .r k ≤ x → x < s → Plannable (fixedAt w k x) → ⊥
-
-abbrev pub NoStart : Windows → ℕ → Type 0
-NoStart w k = (s : ℕ) → w .r k ≤ s → s + w .p k ≤ w .d k → Plannable (fixedAt w k s) → ⊥
-
--- "the greatest e, from its d down, with the r just found plus p at most e, for which a plan exists when its window is [e - p, e) and
--- the others keep theirs"
-pub record IsGreatestEnd (w : Windows) (k e : ℕ) : Type 0 where
-  pub to-d : e ≤ w .d k
-  pub room : w .r k + w .p k ≤ e
-  pub plan : Plannable (fixedUpTo w k e)
-  pub greatest : (x : ℕ) → e < x → x ≤ w .d k → Plannable (fixedUpTo w k x) → ⊥
-
-abbrev pub NoEnd : Windows → ℕ → Type 0
-NoEnd w k = (e : ℕ) → e ≤ w .d k → w .r k + w .p k ≤ e → Plannable (fixedUpTo w k e) → ⊥
 
 -- a search answers the minute exactly when it is the one, and refuses exactly when there is none
 pub record SearchLaw (test : Test) (w : Windows) (k : ℕ) : Type 0 where

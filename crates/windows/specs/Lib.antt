@@ -1,5 +1,6 @@
 pub mod Windows
 pub mod Plans
+pub mod FixedEntries
 pub mod Mirrors
 pub mod Intervals
 pub mod RunningSums
