@@ -15,6 +15,7 @@ use Rattle.windows.specs.Mirrors.{MirrorOf, mirror}
 use Rattle.windows.specs.Intervals.{overloadOf}
 use Rattle.windows.specs.declared.types.WindowSet.{WindowSet}
 use Rattle.list.proofs.ByPlace.{by-place, by-place-same}
+use Rattle.base.proofs.Sums.{same-cases}
 use Rattle.base.specs.Outcomes.{accepts}
 use Rattle.base.proofs.Inversion.{accepted-answered}
 use Rattle.windows.proofs.Room.{passes-formed}
@@ -25,34 +26,50 @@ use Rattle.narrow.proofs.MirrorSearches.{planner-in-mirror}
 use Rattle.windows.proofs.MirrorWindows.{formed-mirror}
 use Rattle.bounds.specs.Ends.{leastEnd, leastEnds, greatestStarts}
 use Rattle.bounds.specs.Calls.{HoldsBounds}
+use Rattle.bounds.specs.Internal.{PausesPlanned, AllWhole}
 use Rattle.bounds.proofs.EndSearches.{least-end-whole, least-end-found, least-end-range, closed-deadline, given-deadline}
 use Rattle.bounds.proofs.MirrorEnds.{start-by-mirror}
 
--- what code answers for entry k, of which the closed form is `closed`
-module _ (w : Windows) (formed : Formed w) (k : ℕ) (place : k < w .n) (planned : Bool) (test : planned ≡ accepts (overloadOf w))
-    (closed : ℕ) (is-closed : closed ≡ closedEnd w k) where
-  has-plan : planned ≡ true → Plannable w
-  has-plan e = overload-planner .exact w formed .1 (accepted-answered (overloadOf w) (sym test ∙ e))
+-- what code answers for entry k: of a pause entry it knows whether there is a plan, and the closed form
+module _ (whole : ℕ → Bool) (w : Windows) (formed : Formed w) (k : ℕ) (place : k < w .n) (planned : Bool) (closed : ℕ)
+    (test : whole k ≡ false → planned ≡ accepts (overloadOf w)) (is-closed : whole k ≡ false → closed ≡ closedEnd w k) where
+  has-plan : whole k ≡ false → planned ≡ true → Plannable w
+  has-plan is e = overload-planner .exact w formed .1 (accepted-answered (overloadOf w) (sym (test is) ∙ e))
 
-  has-none : planned ≡ false → Plannable w → ⊥
-  has-none e plan = true≢false (ap accepts (sym (overload-planner .exact w formed .0 plan)) ∙ sym test ∙ e)
+  has-none : whole k ≡ false → planned ≡ false → Plannable w → ⊥
+  has-none is e plan = true≢false (ap accepts (sym (overload-planner .exact w formed .0 plan)) ∙ sym (test is) ∙ e)
 
   -- it has 16 bits
-  pub closed-small : w .h ≤ 65535 → planned ≡ true → closed ≤ 65535
-  closed-small short e =
-      omega (arith, is-closed, end-law w formed (has-plan e) k place .due, formed .in-day k place, short)
+  pub closed-small : w .h ≤ 65535 → whole k ≡ false → planned ≡ true → closed ≤ 65535
+  closed-small short is e =
+      omega (arith, is-closed is, end-law w formed (has-plan is e) k place .due, formed .in-day k place, short)
 
-  pub end-least : (whole : ℕ → Bool) → cond (whole k) (w .r k + w .p k) (cond planned closed (w .d k)) ≡ leastEnd overloadOf whole w k
-  end-least whole = go (whole k) refl
+  pub end-least : cond (whole k) (w .r k + w .p k) (cond planned closed (w .d k)) ≡ leastEnd overloadOf whole w k
+  end-least = go (whole k) refl
     where
       pause : whole k ≡ false → (t : Bool) → planned ≡ t → cond t closed (w .d k) ≡ leastEnd overloadOf whole w k
       pause is true e =
-          is-closed ∙ sym (least-end-found overloadOf whole w formed k place is _ (closed-deadline w formed k place (has-plan e)))
-      pause is false e = sym (least-end-found overloadOf whole w formed k place is _ (given-deadline w formed k place (has-none e)))
+          is-closed is ∙ sym (least-end-found overloadOf whole w formed k place is _ (closed-deadline w formed k place (has-plan is e)))
+      pause is false e = sym (least-end-found overloadOf whole w formed k place is _ (given-deadline w formed k place (has-none is e)))
 
       go : (t : Bool) → whole k ≡ t → cond t (w .r k + w .p k) (cond planned closed (w .d k)) ≡ leastEnd overloadOf whole w k
       go true is = sym (least-end-whole overloadOf whole w k is)
       go false is = pause is planned refl
+
+-- whether all entries are whole, as code asks it: the first i are
+pub record WholeBelow (whole : ℕ → Bool) (i : ℕ) : Type 0 where
+  pub each : (j : ℕ) → j < i → whole j ≡ true
+
+module _ (whole : ℕ → Bool) where
+  pub whole-none : WholeBelow whole 0
+  whole-none = record { each = λ j l. absurd (omega (arith, l)) }
+
+  pub whole-next : (i : ℕ) → WholeBelow whole i → whole i ≡ true → WholeBelow whole (i + 1)
+  whole-next i so is = record { each = λ j l. same-cases j i (λ e _. rw e is) (λ ne _. so .each j (omega (arith, l, ne))) }
+
+-- if all are whole, there is no pause entry
+pub no-pause : {n : ℕ} (whole : ℕ → Bool) {b : Bool} → AllWhole n whole b → b ≡ true → (k : ℕ) → k < n → whole k ≡ false → ⊥
+no-pause whole all e k place is = true≢false (sym (all e k place) ∙ is)
 
 -- the closed form that an array has at a place
 pub closed-at : (s : WindowSet) (xs : List ℕ) → xs ≡ byPlace (windowsIn s .n) (closedEnd (windowsIn s)) → (k : ℕ) → k < windowsIn s .n
@@ -66,8 +83,11 @@ module _ (s : WindowSet) (formed : Formed (windowsIn s)) where
     formed-in-mirror = rw (turned .windows) (formed-mirror (windowsIn s) formed)
 
     -- where a plan exists, one does in the mirror
-    pub planned-in-mirror : (b : Bool) → b ≡ accepts (overloadOf (windowsIn s)) → b ≡ accepts (overloadOf (windowsIn t))
-    planned-in-mirror b e = rw (turned .windows) (e ∙ sym (planner-in-mirror overload-planner .accepted (windowsIn s) formed))
+    pub planned-in-mirror : (whole : ℕ → Bool) (b : Bool) → PausesPlanned whole (windowsIn s) b → PausesPlanned whole (windowsIn t) b
+    planned-in-mirror whole b test k place is =
+        let count : windowsIn t .n ≡ windowsIn s .n = ap (λ (w : Windows). w .n) (turned .windows) in
+        rw (turned .windows)
+        (test k (omega (arith, place, count)) is ∙ sym (planner-in-mirror overload-planner .accepted (windowsIn s) formed))
 
     -- the mirrors of the least ends in the mirror
     module _ (whole : ℕ → Bool) (ends : List ℕ) (are : ends ≡ leastEnds whole (windowsIn t)) where

@@ -20,7 +20,7 @@ use Rattle.bounds.proofs.MirrorEnds.{start-by-mirror}
 pub end-same : (whole : ℕ → Bool) (w : Windows) → Formed w → Plannable w → (k : ℕ) → k < w .n
     → fastEnd whole w k ≡ leastEnd overloadOf whole w k
 end-same whole w formed planned k place =
-    end-least w formed k place true (ap accepts (sym (overload-planner .exact w formed .0 planned))) (closedEnd w k) refl whole
+    end-least whole w formed k place true (closedEnd w k) (λ _. ap accepts (sym (overload-planner .exact w formed .0 planned))) (λ _. refl)
 
 pub start-same : (whole : ℕ → Bool) (w : Windows) → Formed w → Plannable w → (k : ℕ) → k < w .n
     → w .h - fastEnd whole (mirror w) k ≡ greatestStart overloadOf whole w k

@@ -10,19 +10,19 @@ use windows::types::WindowSet;
 use windows::unchecked_overload;
 use windows::zeros;
 ghost use mathlib.Core.Path.{_≡_};
-ghost use mathlib.Core.Bool.{true, cond};
+ghost use mathlib.Core.Bool.{true, false, cond};
 ghost use Prim.Native.Nat.{_+_, _≤_};
-ghost use Rattle.base.specs.Outcomes.{accepts};
-ghost use Rattle.list.specs.DayLists.{marked};
+ghost use Rattle.list.specs.DayLists.{marked, mostEntries};
 ghost use Rattle.windows.specs.Windows.{windowsIn, Formed, Searchable};
 ghost use Rattle.windows.specs.Intervals.{overloadOf};
 ghost use Rattle.bounds.specs.Ends.{leastEnd, leastEnds, greatestStarts};
 ghost use Rattle.bounds.specs.Calls.{HoldsBounds};
+ghost use Rattle.bounds.specs.Internal.{PauseEnds, PausesPlanned, AllWhole};
 
 // The least end of an entry: r + p of a whole one, the closed form of a pause entry, or its d where there is no plan.
 fn end_of(whole: bool, planned: bool, r: u16, d: u16, p: u16, closed: u32) -> u16
     requires { ⌜ r + p ≤ 65535 ⌝ }
-    requires { ⌜ (planned ≡ true → closed ≤ 65535) ⌝ }
+    requires { ⌜ (whole ≡ false → planned ≡ true → closed ≤ 65535) ⌝ }
     ensures { λ e. ⌜ e ≡ cond whole (r + p) (cond planned closed d) ⌝ }
 {
     if whole {
@@ -51,14 +51,49 @@ pub(crate) fn least_end(windows: WindowSet, k: usize, whole: bool) -> u16
     )
 }
 
+// Whether all of the first count entries are whole.
+fn all_whole(count: usize, whole: [bool; ENTRIES]) -> bool
+    requires { ⌜ count ≤ mostEntries ⌝ }
+    ensures { λ b. ⌜ AllWhole count (marked whole) b ⌝ }
+{
+    let mut i: usize = 0;
+    while i < count {
+        if !whole[i] {
+            return false;
+        }
+        i += 1;
+    }
+    true
+}
+
+// Whether there is a plan, if there is a pause entry: of whole ones the bounds do not ask.
+fn pauses_planned(whole: [bool; ENTRIES], windows: WindowSet) -> bool
+    ensures { λ b. ⌜ PausesPlanned (marked whole) (windowsIn windows) b ⌝ }
+{
+    if all_whole(places_held(windows.n), whole) {
+        return true;
+    }
+    is_accepted(unchecked_overload(windows))
+}
+
+// The least ends of pause entries in closed form, if there are any.
+fn pause_ends(whole: [bool; ENTRIES], windows: WindowSet) -> [u32; ENTRIES]
+    ensures { λ xs. ⌜ PauseEnds (marked whole) (windowsIn windows) xs ⌝ }
+{
+    if all_whole(places_held(windows.n), whole) {
+        return [0; ENTRIES];
+    }
+    closed_ends(windows)
+}
+
 // The least ends of the entries of these windows, of which `whole` marks the whole ones; `planned` says whether there is a plan. Places
 // from n on are 0.
 fn least_ends(whole: [bool; ENTRIES], windows: WindowSet, planned: bool) -> [u16; ENTRIES]
     requires { ⌜ Formed (windowsIn windows) ⌝ }
-    requires { ⌜ planned ≡ accepts (overloadOf (windowsIn windows)) ⌝ }
+    requires { ⌜ PausesPlanned (marked whole) (windowsIn windows) planned ⌝ }
     ensures { λ xs. ⌜ xs ≡ leastEnds (marked whole) (windowsIn windows) ⌝ }
 {
-    let closed = closed_ends(windows);
+    let closed = pause_ends(whole, windows);
     let mut ends = zeros();
     let count = places_held(windows.n);
     let mut i: usize = 0;
@@ -79,7 +114,7 @@ fn least_ends(whole: [bool; ENTRIES], windows: WindowSet, planned: bool) -> [u16
 // The greatest starts: the mirrors of the least ends in the mirror.
 fn greatest_starts(whole: [bool; ENTRIES], windows: WindowSet, planned: bool) -> [u16; ENTRIES]
     requires { ⌜ Formed (windowsIn windows) ⌝ }
-    requires { ⌜ planned ≡ accepts (overloadOf (windowsIn windows)) ⌝ }
+    requires { ⌜ PausesPlanned (marked whole) (windowsIn windows) planned ⌝ }
     ensures { λ xs. ⌜ xs ≡ greatestStarts (marked whole) (windowsIn windows) ⌝ }
 {
     let h = windows.h;
@@ -104,7 +139,7 @@ pub fn bounds_of(whole: [bool; ENTRIES], windows: WindowSet) -> Bounds
             starts: zeros(),
         };
     }
-    let planned = is_accepted(unchecked_overload(windows));
+    let planned = pauses_planned(whole, windows);
     Bounds {
         ends: least_ends(whole, windows, planned),
         starts: greatest_starts(whole, windows, planned),

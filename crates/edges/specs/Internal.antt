@@ -18,8 +18,8 @@ use Rattle.edges.specs.declared.starts.StartSoFar.{StartSoFar}
 abbrev pub ListsPlaces : ℕ → List ℕ → Type 0
 ListsPlaces n xs = (x : ℕ) → x < n → valueAt xs x < mostEntries
 
--- a box with this r and these minutes enters the walk for the right end b, in the search for an entry that needs p. That the minutes have 16
--- bits, an array does not tell the caller.
+-- a box with this r and these minutes enters the walk for the right end b, in the search for an entry that needs p. That the minutes have
+-- 16 bits, an array does not tell the caller.
 pub record Enters (b p r minutes : ℕ) (old new : StartSoFar) : Type 0 where
   pub work : new .work ≡ old .work + minutes
   pub start : new .start ≡ jumped b p r (new .work) (old .start)

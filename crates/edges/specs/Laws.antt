@@ -1,4 +1,4 @@
--- What edge-finding finds, over all plans: the two laws by which the crates above know it.
+-- What edge-finding finds, said of plans: the two laws by which the crates above know it.
 use Prim.Native.Nat.{ℕ, _+_, _<_, _≤_}
 use Rattle.windows.specs.Windows.{Windows, withD}
 use Rattle.windows.specs.Plans.{Plannable}

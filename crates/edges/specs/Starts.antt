@@ -12,9 +12,9 @@ use Rattle.edges.specs.declared.types.Found.the-variants.{Minute, NoMinu
 abbrev pub others : Windows → ℕ → Windows
 others w k = record { h = 0; n = w .n; r = w .r; d = w .d; p = put k 0 (w .p) }
 
--- One left end a of a right end b, where the others have so much work in [a, b): if that work and p minutes more, from the smaller of a and
--- the start s on, do not end by b, then the p minutes begin when the work is done, at a + work or later. The start is raised to that minute,
--- a jump.
+-- One left end a of a right end b, where the others have so much work in [a, b): if that work and p minutes more, from the smaller of a
+-- and the start s on, do not end by b, then the p minutes begin when the work is done, at a + work or later. The start is raised to that
+-- minute, a jump.
 abbrev pub jumped : ℕ → ℕ → ℕ → ℕ → ℕ → ℕ
 jumped b p a work s = cond (ltb s (a + work) && ltb b (min a s + work + p)) (a + work) s
 

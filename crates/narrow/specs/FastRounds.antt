@@ -81,4 +81,5 @@ pub record FastLaw (whole : ℕ → Bool) (w : Windows) : Type 0 where
   pub one-round : (order : Windows → ℕ → ℕ) → ((v : Windows) → LatestReleaseFirst v (order v))
       → fastOneRound order whole w ≡ round overloadOf whole (unmoved w)
   -- where a plan exists, the places that the closed forms say would not move are those that a visit does not change
-  pub not-moved : Plannable w → (k : ℕ) → k < w .n → (movesAt whole w k ≡ false) ↔ (visit overloadOf whole k (unmoved w) ≡ answered (unmoved w))
+  pub not-moved : Plannable w → (k : ℕ) → k < w .n
+      → (movesAt whole w k ≡ false) ↔ (visit overloadOf whole k (unmoved w) ≡ answered (unmoved w))

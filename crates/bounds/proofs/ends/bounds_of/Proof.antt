@@ -1,9 +1,7 @@
 -- Windows without room have no bounds; of others both are found.
 -- Assumes nothing.
 use borrow.Author.Needs.{needs}
-use mathlib.Core.Path.{ap, _∙_}
 use borrow.Author.Tests.{not-true, not-false}
-use Rattle.base.specs.Outcomes.{accepts}
 use Rattle.list.specs.DayLists.{marked}
 use Rattle.bounds.proofs.EndCases.{room-formed, bounds-none, bounds-held}
 use Rattle.bounds.proofs.ends.bounds_of.Statement.{statement}
@@ -30,21 +28,17 @@ returns c =
     (c .before .zeros .result) (c .zeros2 .result) (not-true _ (c .before .before .if1 .taken)) (c .before .zeros .ensures)
     (c .zeros2 .ensures)
 
-unchecked-overload-requires : tie.Need-unchecked-overload-requires
-unchecked-overload-requires c κs = search needs
-
-is-accepted-requires-2 : tie.Need-is-accepted-requires-2
-is-accepted-requires-2 c κs = search needs
+pauses-planned-requires : tie.Need-pauses-planned-requires
+pauses-planned-requires c κs = search needs
 
 least-ends-requires : tie.Need-least-ends-requires
 least-ends-requires c κs =
-    let at-room-fault = c .before .before .before .before in
-    let start = at-room-fault .before in
-    let fault = at-room-fault .room-fault in
-    let accepted = c .before .before .before .is-accepted in (
-      room-formed (start .args .windows) (fault .result) (fault .ensures) (accepted .result) (accepted .ensures)
-          (not-false _ (c .before .before .if1 .left)),
-      c .is-accepted2 .ensures ∙ ap accepts (c .before .unchecked-overload .ensures),
+    let args = c .before .before .before .before .args in
+    let fault = c .before .before .before .room-fault in
+    let accepted = c .before .before .is-accepted in (
+      room-formed (args .windows) (fault .result) (fault .ensures) (accepted .result) (accepted .ensures)
+          (not-false _ (c .before .if1 .left)),
+      c .pauses-planned .ensures,
     )
 
 greatest-starts-requires : tie.Need-greatest-starts-requires
@@ -52,11 +46,11 @@ greatest-starts-requires c κs = least-ends-requires (c .before) κs
 
 returns-2 : tie.Need-returns-2
 returns-2 c =
-    let args = c .before .before .before .before .before .before .before .args in
-    let fault = c .before .before .before .before .before .before .room-fault in
-    let accepted = c .before .before .before .before .before .is-accepted in
+    let args = c .before .before .before .before .before .before .args in
+    let fault = c .before .before .before .before .before .room-fault in
+    let accepted = c .before .before .before .before .is-accepted in
     bounds-held (args .windows) (fault .result) (fault .ensures) (accepted .result) (accepted .ensures) (marked (args .whole))
-    (c .before .least-ends .result) (c .greatest-starts .result) (not-false _ (c .before .before .before .before .if1 .left))
+    (c .before .least-ends .result) (c .greatest-starts .result) (not-false _ (c .before .before .before .if1 .left))
     (c .before .least-ends .ensures) (c .greatest-starts .ensures)
 
 pub bounds-of-spec : {M : Type 1} → statement M
@@ -68,8 +62,7 @@ bounds-of-spec =
     zeros-requires
     zeros-requires-2
     returns
-    unchecked-overload-requires
-    is-accepted-requires-2
+    pauses-planned-requires
     least-ends-requires
     greatest-starts-requires
     returns-2)

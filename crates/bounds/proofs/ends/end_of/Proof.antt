@@ -18,7 +18,7 @@ returns-2 c = rw (c .before .if1 .left, not-true (c .before .before .args .plann
 cast-result : tie.Need-cast-result
 cast-result c =
     let start = c .before .before in
-    search (needs, start .pre .1 (not-false (start .args .planned) (c .if2 .left)))
+    search (needs, start .pre .1 (c .before .if1 .left) (not-false (start .args .planned) (c .if2 .left)))
 
 returns-3 : tie.Need-returns-3
 returns-3 c = rw (c .before .if1 .left, not-false (c .before .before .args .planned) (c .if2 .left)) refl

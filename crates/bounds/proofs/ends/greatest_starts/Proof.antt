@@ -27,7 +27,8 @@ least-ends-requires c κs =
     let start = c .before in
     let mirror = c .mirrored in (
       formed-in-mirror (start .args .windows) (start .pre .0) (mirror .result) (mirror .ensures),
-      planned-in-mirror (start .args .windows) (start .pre .0) (mirror .result) (mirror .ensures) (start .args .planned) (start .pre .1),
+      planned-in-mirror (start .args .windows) (start .pre .0) (mirror .result) (mirror .ensures) (marked (start .args .whole))
+          (start .args .planned) (start .pre .1),
     )
 
 zeros-requires : tie.Need-zeros-requires Inv-loop μ-loop

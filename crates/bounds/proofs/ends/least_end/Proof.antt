@@ -58,7 +58,8 @@ end-of-requires c κs =
     let closed = c .before .before .before .closed-ends in
     let at = closed-at (start .args .t1) (closed .result) (closed .ensures .ends) (start .args .k) place in (
       omega (arith, formed .room _ place, formed .in-day _ place, short start),
-      closed-small w formed (start .args .k) place (accepted .result) test _ at (omega (arith, short start)),
+      closed-small (λ _. start .args .whole) w formed (start .args .k) place (accepted .result) _ (λ _. test) (λ _. at)
+          (omega (arith, short start)),
     )
 
 returns : tie.Need-returns
@@ -70,7 +71,8 @@ returns c =
     let closed = c .before .before .before .before .closed-ends in
     let at = closed-at (start .args .t1) (closed .result) (closed .ensures .ends) (start .args .k) (start .pre .place) in
     c .end-of .ensures
-    ∙ end-least w (start .pre .formed) (start .args .k) (start .pre .place) (accepted .result) test _ at (λ _. start .args .whole)
+    ∙ end-least (λ _. start .args .whole) w (start .pre .formed) (start .args .k) (start .pre .place) (accepted .result) _ (λ _. test)
+    (λ _. at)
 
 pub least-end-spec : {M : Type 1} → statement M
 least-end-spec =

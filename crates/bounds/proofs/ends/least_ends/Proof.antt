@@ -9,7 +9,7 @@ use Rattle.list.proofs.ByPlace.{Placed, placed-none, placed-next, placed-all}
 use Rattle.windows.specs.Windows.{windowsIn}
 use Rattle.windows.specs.Intervals.{overloadOf}
 use Rattle.bounds.specs.Ends.{leastEnd}
-use Rattle.bounds.proofs.EndCases.{closed-at, closed-small, end-least}
+use Rattle.bounds.proofs.EndCases.{closed-small, end-least}
 use Rattle.bounds.proofs.ends.least_ends.Statement.{statement}
 use Rattle.bounds.proofs.ends.least_ends.Tie as tie
 
@@ -24,8 +24,8 @@ abbrev μ-loop : tie.MeasureT-loop
 short : (c : tie.Start Inv-loop μ-loop) → c .args .t2 .h < 65536
 short c = search needs
 
-closed-ends-requires : tie.Need-closed-ends-requires Inv-loop μ-loop
-closed-ends-requires c κs = search needs
+pause-ends-requires : tie.Need-pause-ends-requires Inv-loop μ-loop
+pause-ends-requires c κs = search needs
 
 zeros-requires : tie.Need-zeros-requires Inv-loop μ-loop
 zeros-requires c κs = search needs
@@ -73,10 +73,11 @@ end-of-requires c κs =
     let s = start .args .t2 in
     let formed = start .pre .0 in
     let at = place (c .before .before .before) in
-    let closed = c .before .before .before .before .before .before .before .closed-ends in
-    let end = closed-at s (closed .result) (closed .ensures .ends) _ at in (
+    let closed = c .before .before .before .before .before .before .before .pause-ends in
+    let whole = marked (start .args .t1) in (
       omega (arith, formed .room _ at, formed .in-day _ at, short start),
-      closed-small (windowsIn s) formed _ at (start .args .planned) (start .pre .1) _ end (omega (arith, short start)),
+      closed-small whole (windowsIn s) formed _ at (start .args .planned) _ (start .pre .1 _ at) (closed .ensures _ at)
+          (omega (arith, short start)),
     )
 
 mul-ends : tie.Need-mul-ends Inv-loop μ-loop
@@ -97,11 +98,11 @@ loop-again c =
     let s = start .args .t2 in
     let loop = c .before .before .before .before .before .loop in
     let at = place (c .before .before .before .before) in
-    let closed = c .before .before .before .before .before .before .before .before .closed-ends in
-    let end = closed-at s (closed .result) (closed .ensures .ends) (loop .i) at in
+    let closed = c .before .before .before .before .before .before .before .before .pause-ends in
     placed-next _ _ _ _ _ (loop .inv) at
     (c .end-of .ensures
-    ∙ end-least (windowsIn s) (start .pre .0) (loop .i) at (start .args .planned) (start .pre .1) _ end (marked (start .args .t1)))
+    ∙ end-least (marked (start .args .t1)) (windowsIn s) (start .pre .0) (loop .i) at (start .args .planned) _
+    (start .pre .1 (loop .i) at) (closed .ensures (loop .i) at))
 
 returns : tie.Need-returns Inv-loop μ-loop
 returns c =
@@ -116,7 +117,7 @@ least-ends-spec =
     (tie.spec
     Inv-loop
     μ-loop
-    closed-ends-requires
+    pause-ends-requires
     zeros-requires
     places-held-requires
     loop-holds
