@@ -66,3 +66,8 @@ both false b e = absurd (false≢true e)
 pub neither : (a b : Bool) → (a || b) ≡ false → (a ≡ false) × (b ≡ false)
 neither true b e = absurd (true≢false e)
 neither false b e = (refl, e)
+
+-- what follows an outcome is the same if it is the same for each answer
+pub then-same : {A B : Type 0} (o : Outcome A) (f g : A → Outcome B) → ((x : A) → o ≡ answered x → f x ≡ g x) → andThen o f ≡ andThen o g
+then-same (answered x) f g same = same x refl
+then-same (refused k) f g same = refl

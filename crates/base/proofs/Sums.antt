@@ -1,7 +1,7 @@
 -- Laws of sums, counts and the tests under them, over whatever functions and numbers.
 -- Assumes nothing.
 use mathlib.Core.Path.{_≡_, refl, sym, ap}
-use mathlib.Core.Bool.{Bool, true, false, cond, _&&_}
+use mathlib.Core.Bool.{Bool, true, false, cond, _&&_, true≢false}
 use Prim.Native.Nat.{ℕ, zero, suc, _+_, _*_, _-_, _≤_, _<_, min}
 use native.Mathlib.Omega.{arith}
 use borrow.Author.Tests.{leb-true, leb-false, le-leb, eqb-true, eqb-false, eq-eqb, ne-eqb}
@@ -58,6 +58,21 @@ same-ne a b h = rw (ne-eqb a b h)
 pub cond-most : (t : Bool) (x y k : ℕ) → x ≤ k → y ≤ k → cond t x y ≤ k
 cond-most true x y k h l = h
 cond-most false x y k h l = l
+
+-- what holds of both answers of a test
+pub cond-cases : {A : Type 0} (G : A → Type 0) (t : Bool) (x y : A) → (t ≡ true → G x) → (t ≡ false → G y) → G (cond t x y)
+cond-cases G true x y f g = f refl
+cond-cases G false x y f g = g refl
+
+-- two tests that are passed together
+pub and-true : (s t : Bool) → (s && t) ≡ true → (s ≡ true) × (t ≡ true)
+and-true true t e = (refl, e)
+and-true false t e = absurd (true≢false (sym e))
+
+-- a test that is not passed fails
+pub not-passed : (t : Bool) → (t ≡ true → ⊥) → t ≡ false
+not-passed true h = absurd (h refl)
+not-passed false h = refl
 
 -- x, counted only if a ≤ r and d ≤ b
 pub between-is : (a b r d x : ℕ) → a ≤ r → d ≤ b → cond (leb a r && leb d b) x 0 ≡ x

@@ -8,7 +8,7 @@ use native.Mathlib.Omega.{arith}
 use Rattle.windows.specs.Windows.{Windows, withD, Formed}
 use Rattle.windows.specs.Plans.{Plannable}
 use Rattle.windows.specs.Intervals.{overloadOf}
-use Rattle.base.proofs.Sums.{le-or-lt}
+use Rattle.base.proofs.Sums.{le-or-lt, not-passed}
 use Rattle.base.proofs.Searches.{First, first-below}
 use Rattle.narrow.specs.Searching.{Test}
 use Rattle.base.specs.Outcomes.{accepts}
@@ -58,11 +58,6 @@ one-deadline test w k x y a b =
     before x y a b less =
         let due = b .due in
         true≢false (sym (a .passes (omega arith)) ∙ b .none-before x (a .room) less)
-
--- a test that is not passed fails
-not-passed : (t : Bool) → (t ≡ true → ⊥) → t ≡ false
-not-passed true h = absurd (h refl)
-not-passed false h = refl
 
 module _ (test : Test) (whole : ℕ → Bool) (w : Windows) (formed : Formed w) (k : ℕ) (place : k < w .n) where
   -- what the search answers

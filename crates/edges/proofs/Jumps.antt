@@ -2,13 +2,13 @@
 -- right end jumps no interval bars the start.
 -- Assumes nothing.
 use mathlib.Core.Path.{_≡_, refl, sym, ap, _∙_}
-use mathlib.Core.Bool.{Bool, true, false, cond, _&&_}
+use mathlib.Core.Bool.{Bool, true, _&&_}
 use Prim.Native.Nat.{ℕ, zero, suc, _+_, _-_, _<_, _≤_, min, max}
 use native.Mathlib.Omega.{arith}
 use borrow.Author.Tests.{le-leb, leb-true, lt-ltb, le-ltb}
 use lib.Dec.{leb, ltb}
 use Rattle.base.specs.Counting.{sum}
-use Rattle.base.proofs.Sums.{le-or-lt, same-cases, between-le, sum-cong, sum-more}
+use Rattle.base.proofs.Sums.{cond-cases, le-or-lt, same-cases, between-le, sum-cong, sum-more}
 use Rattle.base.proofs.Permutations.{once-in, once-has, once-sum}
 use Rattle.base.proofs.Searches.{reverse-twice}
 use Rattle.windows.specs.Windows.{Windows}
@@ -18,11 +18,6 @@ use Rattle.windows.proofs.IntervalWork.{inInterval}
 use Rattle.windows.proofs.RunningSums.{falls}
 use Rattle.windows.proofs.Endpoints.{work-wider, work-spans}
 use Rattle.edges.specs.Starts.{jumped, raised, considers, passed}
-
--- what holds of both answers of a test
-pub cond-cases : {A : Type 0} (G : A → Type 0) (t : Bool) (x y : A) → (t ≡ true → G x) → (t ≡ false → G y) → G (cond t x y)
-cond-cases G true x y f g = f refl
-cond-cases G false x y f g = g refl
 
 -- One left end.
 module _ (b p a work s : ℕ) where

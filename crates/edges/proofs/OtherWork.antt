@@ -1,7 +1,7 @@
 -- The work of intervals with entry k in another window [s, e): that of the others, and k's own minutes. With the law of plans: a plan
 -- exists for that window exactly if no interval that holds it has too much work of the others.
 -- Assumes nothing.
-use mathlib.Core.Path.{_≡_, refl, ap, _∙_}
+use mathlib.Core.Path.{_≡_, refl, ap}
 use mathlib.Core.Bool.{Bool, true, false, cond, _&&_}
 use Prim.Native.Nat.{ℕ, _+_, _-_, _<_, _≤_}
 use native.Mathlib.Omega.{arith}
@@ -9,11 +9,11 @@ use borrow.Author.Tests.{eq-eqb, ne-eqb}
 use lib.Dec.{leb}
 use Rattle.base.proofs.Sums.{between-is, between-le}
 use Rattle.base.proofs.Permutations.{sum-apart}
-use Rattle.windows.specs.Windows.{Windows, withWindows, withWindow, put, Formed}
+use Rattle.windows.specs.Windows.{Windows, withWindow, Formed}
 use Rattle.windows.specs.Plans.{Plannable}
 use Rattle.windows.specs.Intervals.{work, Fits}
 use Rattle.windows.proofs.IntervalWork.{inInterval}
-use Rattle.windows.proofs.Puts.{put-back}
+use Rattle.windows.proofs.Puts.{own-window}
 use Rattle.windows.proofs.Room.{formed-roomy}
 use Rattle.jackson.specs.Laws.{PlanLaw}
 use Rattle.jackson.proofs.Law.{plan-law}
@@ -33,12 +33,6 @@ work-split w k s e a b place =
     let here : f k ≡ cond (leb a s && leb e b) (w .p k) 0 = rw (eq-eqb k k refl) refl in
     let none : g k ≡ 0 = rw (eq-eqb k k refl) (cond-none (leb a (w .r k) && leb (w .d k) b)) in
     omega (arith, here, none, sum-apart (w .n) k f g place (λ i _ ne. rw (ne-eqb i k ne) refl))
-
--- k's own window changes nothing
-pub own-window : (w : Windows) (k : ℕ) → withWindow w k (w .r k) (w .d k) ≡ w
-own-window w k =
-    ap (λ (f : ℕ → ℕ). withWindows w f (put k (w .d k) (w .d))) (put-back k (w .r))
-    ∙ ap (λ (f : ℕ → ℕ). withWindows w (w .r) f) (put-back k (w .d))
 
 module _ (w : Windows) (k : ℕ) (place : k < w .n) where
   own-split : (a b : ℕ) → work w a b ≡ work (others w k) a b + cond (leb a (w .r k) && leb (w .d k) b) (w .p k) 0

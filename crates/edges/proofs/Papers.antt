@@ -1,14 +1,14 @@
 -- What holds of the papers' claims, and the lists for which one pass does not give the least start.
 -- Assumes nothing.
-use mathlib.Core.Path.{_≡_, refl, sym}
-use mathlib.Core.Bool.{Bool, true, false, _&&_, true≢false}
+use mathlib.Core.Path.{_≡_, refl}
+use mathlib.Core.Bool.{true, _&&_}
 use Prim.Native.Nat.{ℕ, _+_, _<_, _≤_, min}
 use native.Mathlib.Omega.{arith}
 use borrow.Author.Tests.{ltb-true}
 use lib.Dec.{leb, ltb}
 use Rattle.base.specs.Outcomes.{Code, answered, refused}
 use Rattle.base.specs.Counting.{sum, firstBelow, best}
-use Rattle.base.proofs.Sums.{le-or-lt, below-suc}
+use Rattle.base.proofs.Sums.{le-or-lt, below-suc, cond-cases, and-true}
 use Rattle.base.proofs.Inversion.{answered-refused}
 use Rattle.windows.specs.Windows.{Windows, fixedAt, roomFault, Formed}
 use Rattle.windows.specs.Plans.{Plannable}
@@ -20,7 +20,7 @@ use Rattle.edges.specs.Starts.{others}
 use Rattle.edges.specs.Ends.{largest}
 use Rattle.windows.specs.FixedEntries.{NoStart}
 use Rattle.edges.specs.Papers.{setWork, says, partDone, onePass, sixMinutes, fourMinutes, Papers}
-use Rattle.edges.proofs.Jumps.{cond-cases, Barred}
+use Rattle.edges.proofs.Jumps.{Barred}
 use Rattle.edges.proofs.Largest.{largest-cases}
 use Rattle.edges.proofs.StartLaws.{barred-none, start-law}
 use Rattle.edges.proofs.EndLaws.{end-law}
@@ -37,10 +37,6 @@ module _ (w : Windows) (few : w .n ≤ 255) (room : roomFault w ≡ answered tt)
   refused-none k e plan = answered-refused (plan-law w (formed-roomy w formed) few .accepted .0 plan) e
 
 -- The rule.
-and-true : (s t : Bool) → (s && t) ≡ true → (s ≡ true) × (t ≡ true)
-and-true true t e = (refl, e)
-and-true false t e = absurd (true≢false (sym e))
-
 module _ (w : Windows) (k : ℕ) where
   -- all starts before z are barred
   abbrev BarredBefore : ℕ → Type 0

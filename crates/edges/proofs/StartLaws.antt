@@ -6,7 +6,7 @@ use Prim.Native.Nat.{ℕ, zero, suc, _+_, _-_, _<_, _≤_, min}
 use native.Mathlib.Omega.{arith}
 use borrow.Author.Tests.{lt-ltb, ltb-true, ltb-false, eqb-true, eqb-false}
 use lib.Dec.{eqb, ltb}
-use Rattle.base.proofs.Sums.{le-or-lt}
+use Rattle.base.proofs.Sums.{le-or-lt, cond-cases}
 use Rattle.windows.specs.Windows.{Windows, fixedAt, Formed}
 use Rattle.windows.specs.Plans.{Plannable}
 use Rattle.windows.specs.Intervals.{Fits}
@@ -20,7 +20,7 @@ use Rattle.windows.specs.FixedEntries.{IsLeastStart}
 use Rattle.edges.specs.Laws.{StartLaw}
 use Rattle.edges.specs.declared.types.Found.the-variants.{Minute, NoMinute}
 use Rattle.edges.proofs.OtherWork.{others-fit, fit-with-own, plan-clears, clear-plan}
-use Rattle.edges.proofs.Jumps.{cond-cases, Barred, Quiet, Busy, passed-up, passed-barred, passed-quiet, quiet-clear, low-quiet}
+use Rattle.edges.proofs.Jumps.{Barred, Quiet, Busy, passed-up, passed-barred, passed-quiet, quiet-clear, low-quiet}
 
 module _ (w : Windows) (formed : Formed w) (k : ℕ) (place : k < w .n) where
   -- a barred start has no plan

@@ -10,7 +10,7 @@ use Rattle.base.specs.Outcomes.{Outcome, answered, refused, andThen, accepts}
 use Rattle.base.specs.Counting.{firstBelow}
 use Rattle.base.proofs.Sums.{le-or-lt}
 use Rattle.base.proofs.Searches.{First, first-below}
-use Rattle.base.proofs.Inversion.{answered-refused}
+use Rattle.base.proofs.Inversion.{answered-refused, then-same}
 use Rattle.windows.specs.Windows.{Windows, withR, Formed}
 use Rattle.windows.specs.Plans.{Plannable}
 use Rattle.windows.specs.Mirrors.{mirror}
@@ -32,11 +32,6 @@ use Rattle.narrow.proofs.SettledSteps.{side-planned, visits-planned}
 use Rattle.narrow.proofs.RoundCases.{found-least}
 use Rattle.narrow.proofs.StayingPlaces.{visits-same, visit-unmoved}
 use Rattle.narrow.proofs.UnplannedCases.{PausesBelow, pauses-below, pauses-all, first-refused}
-
--- what follows an outcome is the same if it is the same for each answer
-pub then-same : {A B : Type 0} (o : Outcome A) (f g : A → Outcome B) → ((x : A) → o ≡ answered x → f x ≡ g x) → andThen o f ≡ andThen o g
-then-same (answered x) f g same = same x refl
-then-same (refused k) f g same = refl
 
 -- the round without a plan
 unplanned-same : (whole : ℕ → Bool) (w : Windows) → Formed w → (Plannable w → ⊥)

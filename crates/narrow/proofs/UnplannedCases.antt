@@ -6,6 +6,7 @@ use mathlib.Core.List.{[], _∷_}
 use Prim.Native.Nat.{ℕ, zero, suc, _+_, _<_, _≤_}
 use native.Mathlib.Numerals.{add-one}
 use native.Mathlib.Omega.{arith}
+use Rattle.base.proofs.Sums.{not-passed}
 use Rattle.base.specs.Outcomes.{code, answered, refused}
 use Rattle.windows.specs.Windows.{Windows, Formed}
 use Rattle.windows.specs.Plans.{Plannable}
@@ -65,8 +66,4 @@ pauses-below whole s zero most none = pauses-none whole s
 pauses-below whole s (suc k) most none =
     rw add-one at
     (pauses-next whole s k (pauses-below whole s k (omega (arith, most)) (λ i l. none i (omega (arith, l)))) (omega (arith, most))
-    (is-false (whole k) (none k (omega arith))))
-  where
-    is-false : (t : Bool) → (t ≡ true → ⊥) → t ≡ false
-    is-false true h = absurd (h refl)
-    is-false false h = refl
+    (not-passed (whole k) (none k (omega arith))))

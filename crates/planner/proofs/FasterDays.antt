@@ -8,7 +8,7 @@ use borrow.Author.Tests.{le-ltb}
 use lib.ListN.{length, take}
 use lib.Seq.{take-at}
 use Rattle.base.specs.Outcomes.{Outcome, answered, refused, andThen}
-use Rattle.base.proofs.Inversion.{answered-refused}
+use Rattle.base.proofs.Inversion.{answered-refused, then-same}
 use Rattle.list.specs.DayLists.{wholeIn}
 use Rattle.list.specs.Checks.{checkOf, WellFormed}
 use Rattle.list.specs.declared.types.DayList.{DayList}
@@ -25,7 +25,7 @@ use Rattle.windows.specs.Intervals.{overloadOf}
 use Rattle.narrow.specs.Settling.{SettledInside, Widest}
 use Rattle.narrow.specs.Rounds.{Narrowed, narrowing}
 use Rattle.narrow.specs.Calls.{settleOf, roundOf}
-use Rattle.narrow.proofs.FastLaws.{then-same, fast-law}
+use Rattle.narrow.proofs.FastLaws.{fast-law}
 use Rattle.narrow.proofs.MirrorSettled.{set-formed}
 use Rattle.narrow.proofs.NarrowLaws.{narrow-law}
 use Rattle.narrow.proofs.OverloadPlanner.{overload-planner}

@@ -2,11 +2,11 @@
 -- Assumes nothing.
 use mathlib.Core.Path.{_≡_, refl, fun-ext}
 use mathlib.Core.List.{List}
-use Prim.Native.Nat.{ℕ, _+_, _<_, min}
+use Prim.Native.Nat.{ℕ, _<_, min}
 use borrow.Author.Tests.{eq-eqb, ne-eqb}
 use lib.ListN.{length, getD, set}
 use lib.Seq.{getD-set-same, getD-set-other}
-use Rattle.windows.specs.Windows.{withWindows, columns, windowsIn, put, withR, withD, fixedAt}
+use Rattle.windows.specs.Windows.{withWindows, columns, windowsIn, put, withR, withD}
 use Rattle.windows.specs.declared.types.WindowSet.{WindowSet}
 use Rattle.base.proofs.Sums.{same-cases}
 
@@ -37,7 +37,3 @@ module _ (s : WindowSet) where
 
     pub held-d : k < length (s .d) → columns (s .h) (min (s .n) 64) (s .r) (set (s .d) k x) (s .p) ≡ withD (windowsIn s) k x
     held-d h = held (s .r) (set (s .d) k x) _ _ (λ i. refl) (set-put (s .d) k x h)
-
-    pub held-fixed : k < length (s .r) → k < length (s .d)
-        → columns (s .h) (min (s .n) 64) (set (s .r) k x) (set (s .d) k (x + getD (s .p) k 0)) (s .p) ≡ fixedAt (windowsIn s) k x
-    held-fixed h l = held (set (s .r) k x) (set (s .d) k (x + getD (s .p) k 0)) _ _ (set-put (s .r) k x h) (set-put (s .d) k _ l)

@@ -86,6 +86,12 @@ with-r w k s = ap (withWindows w (put k s (w .r))) (put-back k (w .d))
 pub with-d : (w : Windows) (k e : ℕ) → withWindow w k (w .r k) e ≡ withD w k e
 with-d w k e = ap (λ (f : ℕ → ℕ). withWindows w f (put k e (w .d))) (put-back k (w .r))
 
+-- k's own window changes nothing
+pub own-window : (w : Windows) (k : ℕ) → withWindow w k (w .r k) (w .d k) ≡ w
+own-window w k =
+    ap (λ (f : ℕ → ℕ). withWindows w f (put k (w .d k) (w .d))) (put-back k (w .r))
+    ∙ ap (λ (f : ℕ → ℕ). withWindows w (w .r) f) (put-back k (w .d))
+
 -- a window put in the place of k's own does not ask what r and d that had
 module _ (w : Windows) (k x s e : ℕ) where
   pub window-after-r : withWindow (withR w k x) k s e ≡ withWindow w k s e
