@@ -20,7 +20,7 @@ ghost use Rattle.bounds.specs.Calls.{HoldsBounds};
 ghost use Rattle.bounds.specs.Internal.{PauseEnds, PausesPlanned, AllWhole};
 
 // The least end of an entry: r + p of a whole one, the closed form of a pause entry, or its d where there is no plan.
-fn end_of(whole: bool, planned: bool, r: u16, d: u16, p: u16, closed: u32) -> u16
+fn end_by_kind(whole: bool, planned: bool, r: u16, d: u16, p: u16, closed: u32) -> u16
     requires { ⌜ r + p ≤ 65535 ⌝ }
     requires { ⌜ (whole ≡ false → planned ≡ true → closed ≤ 65535) ⌝ }
     ensures { λ e. ⌜ e ≡ cond whole (r + p) (cond planned closed d) ⌝ }
@@ -41,7 +41,7 @@ pub(crate) fn least_end(windows: WindowSet, k: usize, whole: bool) -> u16
 {
     let planned = is_accepted(unchecked_overload(windows));
     let closed = closed_ends(windows);
-    end_of(
+    end_by_kind(
         whole,
         planned,
         windows.r[k],
@@ -98,7 +98,7 @@ fn least_ends(whole: [bool; ENTRIES], windows: WindowSet, planned: bool) -> [u16
     let count = places_held(windows.n);
     let mut i: usize = 0;
     while i < count {
-        ends[i] = end_of(
+        ends[i] = end_by_kind(
             whole[i],
             planned,
             windows.r[i],

@@ -26,7 +26,7 @@ use Rattle.planner.specs.Calls.{planChecks, narrowAfter, planOf, planning}
 use Rattle.planner.proofs.OneAnswer.{one-planned}
 use Rattle.commits.specs.Days.{trimmed, withEntry}
 use Rattle.commits.specs.Calls.{freshOf, commitFault, longerChecks, MakesDay, Asks, Commits}
-use Rattle.commits.specs.Runs.{Event, asked, committed, Happens, none, ask, commit, Follows, entryIf, committedIn, commitsIn}
+use Rattle.commits.specs.Runs.{Event, asked, committed, Happens, none, ask, commit, HandsOn, entryIf, committedIn, commitsIn}
 use Rattle.commits.specs.Runs.{RunsSo}
 use Rattle.commits.specs.declared.types.StampedDay.{StampedDay}
 use Rattle.commits.specs.declared.types.StampedAnswer.{StampedAnswer}
@@ -184,7 +184,7 @@ split (asked e old a new ∷ before) after (ask w rest) = let z = split before a
 split (committed e s old a new ∷ before) after (commit w rest) = let z = split before after rest in (z .0, commit w (z .1), z .2)
 
 -- one event more
-one-event : (es : List Event) {d m last : StampedDay} (x : Event) → Happens d es m → Follows m x last → Happens d (es ++ (x ∷ [])) last
+one-event : (es : List Event) {d m last : StampedDay} (x : Event) → Happens d es m → HandsOn m x last → Happens d (es ++ (x ∷ [])) last
 one-event [] (asked e old a new) none f = rw (f .1) (ask (f .0) none)
 one-event [] (committed e s old a new) none f = rw (f .1) (commit (f .0) none)
 one-event (asked e old a new ∷ es) x (ask w rest) f = ask w (one-event es x rest f)

@@ -36,9 +36,9 @@ pub data Happens : StampedDay → List Event → StampedDay → Type 0 where
       → Commits d e s old a new → Happens (a .day) es last → Happens d (committed e s old a new ∷ es) last
 
 -- one event on the day d, and the day that it hands on
-abbrev pub Follows : StampedDay → Event → StampedDay → Type 0
-Follows d (asked e old a new) last = Asks d e old a new × (last ≡ d)
-Follows d (committed e s old a new) last = Commits d e s old a new × (last ≡ a .day)
+abbrev pub HandsOn : StampedDay → Event → StampedDay → Type 0
+HandsOn d (asked e old a new) last = Asks d e old a new × (last ≡ d)
+HandsOn d (committed e s old a new) last = Commits d e s old a new × (last ≡ a .day)
 
 -- an answer with a plan, which is a commit's success
 abbrev pub Succeeds : PlanAnswer → Type 0
@@ -79,7 +79,7 @@ pub record RunLaw (l : DayList) (fresh : StampedDay) (es : List Event) (d : Stam
       → a .stamp ≡ length (committedIn es ++ entryIf (a .planned .narrowed .verdict) e)
   -- whatever an ask or a commit answers here, refused or not, the events go on with it; and wherever they are cut in two, the first lead to
   -- a day on which the others happen
-  pub goes-on : (x : Event) (last : StampedDay) → Follows d x last → Happens fresh (es ++ (x ∷ [])) last
+  pub goes-on : (x : Event) (last : StampedDay) → HandsOn d x last → Happens fresh (es ++ (x ∷ [])) last
   pub at-each : (before after : List Event) → es ≡ before ++ after → (m : StampedDay) × Happens fresh before m × Happens m after d
   -- so the list is well-formed and can be planned, and at most 64 commits succeed
   pub formed : WellFormed (d .list)

@@ -37,7 +37,7 @@ fn put_entries(
 }
 
 // The text of a planned day, whose plan's bytes are `plan`.
-fn put_day(out: &mut [u8], answer: PlanAnswer, plan: &[u8]) -> usize
+fn put_day_text(out: &mut [u8], answer: PlanAnswer, plan: &[u8]) -> usize
     requires { ⌜ answer .narrowed .list .n ≤ mostEntries ⌝ }
     ensures { λ next. ⌜ Puts (now (out .entry)) 0 (answerText answer (now (plan .entry))) (now (out .exit)) next ⌝ }
 {
@@ -62,7 +62,7 @@ fn put_planned(out: &mut [u8], list: DayList) -> WriteAnswer
     match verdict {
         Verdict::Accepted => {
             let h = list.frame.h as usize;
-            let size = put_day(out, answer, &plan[..h]);
+            let size = put_day_text(out, answer, &plan[..h]);
             WriteAnswer::Written(size)
         }
         Verdict::Refused(x) => WriteAnswer::NotWritten(x),

@@ -1,17 +1,12 @@
 -- Rooms as numbers, as one statement; `row-examples` of proofs/Examples.antt proves it.
-use Prim.Native.Nat.{ℕ}
 use mathlib.Core.Path.{_≡_}
 use mathlib.Core.List.{[], _∷_}
 use Rattle.base.specs.Outcomes.{code, answered, refused}
 use Rattle.rooms.specs.Turns.{took, none-unfinished}
-use Rattle.rooms.specs.declared.types.Stage.{Stage}
+use Rattle.rooms.specs.Examples.{roomWith}
 use Rattle.rooms.specs.declared.types.Stage.the-variants.{Fresh, Begun, Settled, Refused}
-use Rattle.rooms.specs.declared.types.Room.{Room}
 use Rattle.room_rows.specs.RoomRows.{roomRow, roomsIn, roomsFault}
 use Rattle.room_rows.specs.Calls.{turnValues, carriedBy}
-
-abbrev pub roomWith : Stage → ℕ → ℕ → Room
-roomWith stage rounds moves = record { stage = stage; rounds = rounds; moves = moves }
 
 pub record RowExamples : Type 0 where
   -- "its stage (fresh, begun, settled, refused), rounds and moves"; a stage over 3 counts as 3

@@ -33,7 +33,7 @@ fn refused_as(x: Refusal) -> TurnNumbers
 }
 
 // Stores the values that a room's refusal carries, and answers its number; zeros and 0 where there is none.
-fn put_carried(verdict: Verdict, carried: &mut [u64; 3]) -> u64
+fn put_said(verdict: Verdict, carried: &mut [u64; 3]) -> u64
     ensures { λ k. ⌜ (k ≡ saidNumber (verdictOf verdict)) × (now (carried .exit) ≡ saidValues (verdictOf verdict)) ⌝ }
 {
     match verdict {
@@ -74,7 +74,7 @@ fn take_numbers(
         TurnAnswer::Turned(k, verdict, next) => {
             let row = after[k];
             put_room(row, k, numbers);
-            let said = put_carried(verdict, carried);
+            let said = put_said(verdict, carried);
             TurnNumbers {
                 number: 0,
                 values: [k as u64, said, next as u64],

@@ -15,7 +15,7 @@ use Rattle.rooms.specs.Rooms.{roundIn, rowAfter, shareAfter}
 use Rattle.rooms.specs.Turns.{mostRooms, Lent, noRow, rowIn, shareOf, putShare, Turn, took, none-unfinished}
 use Rattle.rooms.specs.Turns.{answerOf, turnOf, lentBy, lentAfter}
 use Rattle.rooms.specs.Calls.{Turns, TurnsFirst, TurnsHeld}
-use Rattle.rooms.specs.Internal.{answerHeld, placeBy, rowBy, listsBy, TakesTurn}
+use Rattle.rooms.specs.Internal.{answerHeld, rowPlaceBy, rowBy, listsBy, TakesTurn}
 use Rattle.rooms.specs.declared.types.Room.{Room}
 use Rattle.rooms.specs.declared.types.TurnTaken.{TurnTaken}
 use Rattle.rooms.specs.declared.types.HeldAnswer.{HeldAnswer}
@@ -44,7 +44,7 @@ module _ (ys : List Room) (lists : List ℕ) (number : ℕ) where
       (λ h. many held h ∙ sym (many (rowIn x) h))
 
   -- the rows and lists that an answer leaves
-  rows-by : n ≤ mostRooms → (o : Outcome Turn) → set ys (placeBy o n) (rowBy o (eight ys) lists) ≡ lentBy o x .rows
+  rows-by : n ≤ mostRooms → (o : Outcome Turn) → set ys (rowPlaceBy o n) (rowBy o (eight ys) lists) ≡ lentBy o x .rows
   rows-by few (answered (took k said next)) =
       ap (λ (r : Room). set ys k (rowAfter r (roundIn (r .stage) (shareOf k lists)))) (eight-at ys few k)
   rows-by few (answered (none-unfinished used)) = set-out ys n noRow (omega arith)
@@ -60,7 +60,7 @@ module _ (ys : List Room) (lists : List ℕ) (number : ℕ) where
   unfolding turnOf
   too-many h = many (rowIn x) h
 
-  rows-after : set ys (placeBy (turnOf x number) n) (rowBy (turnOf x number) (eight ys) lists) ≡ lentAfter x number .rows
+  rows-after : set ys (rowPlaceBy (turnOf x number) n) (rowBy (turnOf x number) (eight ys) lists) ≡ lentAfter x number .rows
   unfolding lentAfter
   rows-after =
       le-or-lt n mostRooms (λ few. rows-by few (turnOf x number)) (λ h. rw (too-many h) (set-out ys n noRow (omega arith)))
@@ -82,7 +82,7 @@ module _ (ys : List Room) (lists : List ℕ) (number : ℕ) where
   module _ (a : TurnTaken) (new : List ℕ) (takes : TakesTurn (eight ys) n number lists a new) where
     rows-are : set ys (a .at) (a .row) ≡ lentAfter x number .rows
     rows-are =
-        (λ j. set ys ((takes .at ∙ ap (λ (o : Outcome Turn). placeBy o n) same-answer) j)
+        (λ j. set ys ((takes .at ∙ ap (λ (o : Outcome Turn). rowPlaceBy o n) same-answer) j)
         ((takes .row ∙ ap (λ (o : Outcome Turn). rowBy o (eight ys) lists) same-answer) j))
         ∙ rows-after
 

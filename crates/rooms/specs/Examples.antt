@@ -35,18 +35,18 @@ abbrev pub pausesOnly : List ℕ
 pausesOnly = two ++ (firstMinute 0x19 1 ++ firstMinute 0x19 2)
 
 -- four bytes after the list
-abbrev pub after : List ℕ
-after = 0xAA ∷ 0xBB ∷ 0xCC ∷ 0xDD ∷ []
+abbrev pub trailing : List ℕ
+trailing = 0xAA ∷ 0xBB ∷ 0xCC ∷ 0xDD ∷ []
 
 abbrev pub roomWith : Stage → ℕ → ℕ → Room
 roomWith stage rounds moves = record { stage = stage; rounds = rounds; moves = moves }
 
 abbrev pub freshRoom : RoomState
-freshRoom = record { row = roomWith Fresh 0 0; share = moving ++ after; said = answered tt }
+freshRoom = record { row = roomWith Fresh 0 0; share = moving ++ trailing; said = answered tt }
 
 -- its list with the window that the first round leaves: two bytes longer
-abbrev pub moved : List ℕ
-moved = two ++ (wholeLate ++ firstMinute 0x19 2)
+abbrev pub narrowedBytes : List ℕ
+narrowedBytes = two ++ (wholeLate ++ firstMinute 0x19 2)
 
 -- a share of 965 bytes
 abbrev pub share : List ℕ → List ℕ
@@ -58,11 +58,11 @@ twoRooms a b = record { rows = roomWith a 5 6 ∷ roomWith b 0 0 ∷ []; lists =
 
 pub record RoomExamples : Type 0 where
   -- a fresh room: one round with a move, which writes over two of the bytes behind the list, and one without
-  pub first-round : ownTurn freshRoom ≡ record { row = roomWith Begun 1 1; share = moved ++ (0xCC ∷ 0xDD ∷ []); said = answered tt }
+  pub first-round : ownTurn freshRoom ≡ record { row = roomWith Begun 1 1; share = narrowedBytes ++ (0xCC ∷ 0xDD ∷ []); said = answered tt }
   pub second-round : ownTurn (ownTurn freshRoom)
-      ≡ record { row = roomWith Settled 2 1; share = moved ++ (0xCC ∷ 0xDD ∷ []); said = answered tt }
+      ≡ record { row = roomWith Settled 2 1; share = narrowedBytes ++ (0xCC ∷ 0xDD ∷ []); said = answered tt }
   -- the sum of d - r - p is 2 - 0 - 1, so that the bound allows two own turns, and both are needed
-  pub slack : slackOf (moving ++ after) ≡ 1
+  pub slack : slackOf (moving ++ trailing) ≡ 1
   -- "A first round starts with the overload test.": by the stage, whatever the counts
   pub overloaded : roundIn Fresh fullMinute ≡ refused (code 9 (0 ∷ 1 ∷ 2 ∷ []))
   pub begun : roundIn Begun fullMinute ≡ refused (code 10 (0 ∷ []))
@@ -83,7 +83,7 @@ pub record RoomExamples : Type 0 where
   pub passes-over : turnOf (twoRooms Refused Fresh) 0 ≡ answered (took 1 (answered tt) 0)
   pub from-last : turnOf (twoRooms Fresh Settled) 1 ≡ answered (took 0 (refused (code 2 (0 ∷ []))) 1)
   pub second-room : lentAfter (twoRooms Refused Fresh) 0
-      ≡ record { rows = roomWith Refused 5 6 ∷ roomWith Begun 1 1 ∷ []; lists = share (0x00 ∷ []) ++ share moved }
+      ≡ record { rows = roomWith Refused 5 6 ∷ roomWith Begun 1 1 ∷ []; lists = share (0x00 ∷ []) ++ share narrowedBytes }
   -- nothing unfinished: the number as it was used
   pub nothing : turnOf (twoRooms Refused Settled) 1 ≡ answered (none-unfinished 1)
   pub nothing-past : turnOf (twoRooms Refused Settled) 2 ≡ answered (none-unfinished 0)

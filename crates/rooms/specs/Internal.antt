@@ -34,10 +34,10 @@ unfoldable pub answerHeld : List Room → ℕ → ℕ → List ℕ → Outcome T
 answerHeld rows n number lists = answerOf (λ i. getD rows i noRow) n lists number
 
 -- the place of the row that is to be stored, n where none is; that row; and the lists afterwards
-abbrev pub placeBy : Outcome Turn → ℕ → ℕ
-placeBy (answered (took k said next)) n = k
-placeBy (answered (none-unfinished used)) n = n
-placeBy (refused k) n = n
+abbrev pub rowPlaceBy : Outcome Turn → ℕ → ℕ
+rowPlaceBy (answered (took k said next)) n = k
+rowPlaceBy (answered (none-unfinished used)) n = n
+rowPlaceBy (refused k) n = n
 
 abbrev pub rowBy : Outcome Turn → List Room → List ℕ → Room
 rowBy (answered (took k said next)) rows lists = rowAfter (getD rows k noRow) (roundAt rows k lists)
@@ -52,7 +52,7 @@ listsBy (refused k) rows lists = lists
 -- what `take_turn` answers of the first n rows and lists, and leaves there
 pub record TakesTurn (rows : List Room) (n number : ℕ) (old : List ℕ) (a : TurnTaken) (new : List ℕ) : Type 0 where
   pub answer : turnAnswerOf (a .answer) ≡ answerHeld rows n number old
-  pub at : a .at ≡ placeBy (answerHeld rows n number old) n
+  pub at : a .at ≡ rowPlaceBy (answerHeld rows n number old) n
   pub row : a .row ≡ rowBy (answerHeld rows n number old) rows old
   pub lists : new ≡ listsBy (answerHeld rows n number old) rows old
   pub bytes : Bytes old

@@ -18,19 +18,19 @@ use Rattle.format.specs.Calls.{Reads}
 use Rattle.codes.specs.Codes.{numbersOf}
 use Rattle.codes.specs.declared.RefusalCode.{RefusalCode}
 use Rattle.shares.specs.Calls.{ReadsFront}
-use Rattle.shares.specs.Internal.{endAt}
+use Rattle.shares.specs.Internal.{readEnd}
 use Rattle.shares.proofs.FrontLaws.{EndsAt, ends-at, front-law}
 
 -- the end, by the reader's verdict
-end-verdict : (v : Verdict) (l : DayList) (len : ℕ) → endAt (outcomeOf v l) len ≡ endAt (verdictOf v) len
+end-verdict : (v : Verdict) (l : DayList) (len : ℕ) → readEnd (outcomeOf v l) len ≡ readEnd (verdictOf v) len
 end-verdict Accepted l len = refl
 end-verdict (Refused x) l len = refl
 
-pub reader-end : (bs : List ℕ) (a : ReadAnswer) (e : ℕ) → Bytes bs → Reads bs a → e ≡ endAt (verdictOf (a .verdict)) (length bs)
+pub reader-end : (bs : List ℕ) (a : ReadAnswer) (e : ℕ) → Bytes bs → Reads bs a → e ≡ readEnd (verdictOf (a .verdict)) (length bs)
     → EndsAt bs e
 reader-end bs a e b reads is =
-    let z : e ≡ endAt (readOf bs) (length bs) =
-    is ∙ sym (end-verdict (a .verdict) (a .list) (length bs)) ∙ ap (λ (o : Outcome DayList). endAt o (length bs)) (reads .outcome) in
+    let z : e ≡ readEnd (readOf bs) (length bs) =
+    is ∙ sym (end-verdict (a .verdict) (a .list) (length bs)) ∙ ap (λ (o : Outcome DayList). readEnd o (length bs)) (reads .outcome) in
     rw z (ends-at bs b)
 
 pub front-read : (bs : List ℕ) (e : ℕ) (a : ReadAnswer) → Bytes bs → EndsAt bs e → Reads (take e bs) a → ReadsFront bs a
@@ -42,8 +42,8 @@ module _ (v : Verdict) (x : Refusal) (k : RefusalCode) (len : ℕ) (is : v ≡ R
   number-is : codeOf x .number ≡ k .number
   number-is = ap (λ (c : RefusalCode). c .number) (sym code)
 
-  pub end-eight : k .number ≡ 8 → getD (k .values) 0 0 ≡ endAt (verdictOf v) len
+  pub end-eight : k .number ≡ 8 → getD (k .values) 0 0 ≡ readEnd (verdictOf v) len
   end-eight e = ap (λ (c : RefusalCode). getD (c .values) 0 0) code ∙ rw (is, eq-eqb (codeOf x .number) 8 (number-is ∙ e))
 
-  pub end-other : (k .number ≡ 8 → ⊥) → len ≡ endAt (verdictOf v) len
+  pub end-other : (k .number ≡ 8 → ⊥) → len ≡ readEnd (verdictOf v) len
   end-other ne = let z : codeOf x .number ≡ 8 → ⊥ = λ q. ne (sym number-is ∙ q) in rw (is, ne-eqb (codeOf x .number) 8 z)

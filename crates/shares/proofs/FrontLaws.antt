@@ -23,7 +23,7 @@ use Rattle.format.specs.Reading.{readOf}
 use Rattle.format.specs.Writing.{bytesOf}
 use Rattle.shares.specs.Shares.{frontEntries, frontOf}
 use Rattle.shares.specs.Laws.{FrontLaw}
-use Rattle.shares.specs.Internal.{endAt}
+use Rattle.shares.specs.Internal.{readEnd}
 use Rattle.shares.proofs.StandingLists.{Readable, orClash, Stands, stands-read}
 use Rattle.shares.proofs.Fronts.{Front, Told, front-says, front-refused, front-or-clash, front-alone}
 use Rattle.shares.proofs.Fronts.{read-refused, read-left, read-ended}
@@ -104,13 +104,13 @@ module _ (bs : List ℕ) (b : Bytes bs) where
         whatever-follows = λ l e rest. let read : Read l = rw e at read-says in stands-read l (read .0) rest;
       }
 
-  pub ends-at : EndsAt bs (endAt (readOf bs) (length bs))
+  pub ends-at : EndsAt bs (readEnd (readOf bs) (length bs))
   ends-at =
       eight-cases
       (λ same. rw same (whole (frontOf bs) refl read-says same))
       (λ at h r alone. rw r (record { inside = omega arith; read = sym alone }))
     where
-      whole : (o : Outcome DayList) → frontOf bs ≡ o → Says Read (Told bs) o → readOf bs ≡ frontOf bs → EndsAt bs (endAt o (length bs))
+      whole : (o : Outcome DayList) → frontOf bs ≡ o → Says Read (Told bs) o → readOf bs ≡ frontOf bs → EndsAt bs (readEnd o (length bs))
       whole (answered l) e p same = record { inside = omega arith; read = ap readOf (take-length bs) ∙ same }
       whole (refused k) e not same =
           rw (ne-eqb (k .number) 8 (not .0)) (record { inside = omega arith; read = ap readOf (take-length bs) ∙ same })

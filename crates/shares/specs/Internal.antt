@@ -6,6 +6,6 @@ use lib.Dec.{eqb}
 use Rattle.base.specs.Outcomes.{Outcome, answered, refused}
 
 -- the place that row 8 carries, or the length given
-abbrev pub endAt : {A : Type 0} → Outcome A → ℕ → ℕ
-endAt (answered a) len = len
-endAt (refused k) len = cond (eqb (k .number) 8) (getD (k .carries) 0 0) len
+abbrev pub readEnd : {A : Type 0} → Outcome A → ℕ → ℕ
+readEnd (answered a) len = len
+readEnd (refused k) len = cond (eqb (k .number) 8) (getD (k .carries) 0 0) len

@@ -4,11 +4,11 @@ use list::types::Verdict;
 ghost use mathlib.Core.Path.{_≡_};
 ghost use Rattle.list.specs.Refusals.{verdictOf};
 ghost use Rattle.shares.specs.Calls.{ReadsFront};
-ghost use Rattle.shares.specs.Internal.{endAt};
+ghost use Rattle.shares.specs.Internal.{readEnd};
 
 // Where the bytes end that the reader is to be given: at the first byte left over, which row 8 carries, or at the end.
-fn end_of(verdict: Verdict, len: usize) -> usize
-    ensures { λ e. ⌜ e ≡ endAt (verdictOf verdict) len ⌝ }
+fn read_end(verdict: Verdict, len: usize) -> usize
+    ensures { λ e. ⌜ e ≡ readEnd (verdictOf verdict) len ⌝ }
 {
     let Verdict::Refused(x) = verdict else {
         return len;
@@ -27,6 +27,6 @@ pub fn read_front(share: &[u8]) -> ReadAnswer
 {
     let whole = format::read(share);
     let verdict = whole.verdict;
-    let end = end_of(verdict, share.len());
+    let end = read_end(verdict, share.len());
     format::read(&share[..end])
 }

@@ -12,7 +12,7 @@ use Rattle.base.specs.Counting.{firstBelow}
 use Rattle.base.proofs.Inversion.{answered-refused}
 use Rattle.base.proofs.Sums.{le-or-lt, same-cases}
 use Rattle.base.proofs.Searches.{First, first-below, passed-all}
-use Rattle.windows.specs.Windows.{Windows, roomIn, roomFault, Roomy, Formed, Inside, withWindows}
+use Rattle.windows.specs.Windows.{Windows, hasRoom, roomFault, Roomy, Formed, Inside, withWindows}
 
 -- an entry with room
 pub record Room (h r d p : ℕ) : Type 0 where
@@ -21,23 +21,23 @@ pub record Room (h r d p : ℕ) : Type 0 where
   pub room : r + p ≤ d
 
 module _ (h r d p : ℕ) where
-  pub room-passes : Room h r d p → roomIn h r d p ≡ true
+  pub room-passes : Room h r d p → hasRoom h r d p ≡ true
   room-passes has = rw (le-leb 1 p (has .minutes), le-leb d h (has .in-day), le-leb (r + p) d (has .room))
 
-  pub room-no-minutes : p < 1 → roomIn h r d p ≡ false
+  pub room-no-minutes : p < 1 → hasRoom h r d p ≡ false
   room-no-minutes less = rw (lt-leb 1 p less)
 
-  pub room-past-day : 1 ≤ p → h < d → roomIn h r d p ≡ false
+  pub room-past-day : 1 ≤ p → h < d → hasRoom h r d p ≡ false
   room-past-day some less = rw (le-leb 1 p some, lt-leb d h less)
 
-  pub room-too-short : 1 ≤ p → d ≤ h → d < r + p → roomIn h r d p ≡ false
+  pub room-too-short : 1 ≤ p → d ≤ h → d < r + p → hasRoom h r d p ≡ false
   room-too-short some in-day less = rw (le-leb 1 p some, le-leb d h in-day, lt-leb (r + p) d less)
 
   -- with a minute needed and d in the day, the sum decides
-  pub room-sum : 1 ≤ p → d ≤ h → leb (r + p) d ≡ roomIn h r d p
+  pub room-sum : 1 ≤ p → d ≤ h → leb (r + p) d ≡ hasRoom h r d p
   room-sum some in-day = rw (le-leb 1 p some, le-leb d h in-day)
 
-  pub room-has : roomIn h r d p ≡ true → Room h r d p
+  pub room-has : hasRoom h r d p ≡ true → Room h r d p
   room-has e =
       le-or-lt 1 p
       (λ a. le-or-lt d h
@@ -49,7 +49,7 @@ module _ (h r d p : ℕ) where
 
 -- the entry at a place has none
 abbrev pub lacksRoom : Windows → ℕ → Bool
-lacksRoom w i = not (roomIn (w .h) (w .r i) (w .d i) (w .p i))
+lacksRoom w i = not (hasRoom (w .h) (w .r i) (w .d i) (w .p i))
 
 module _ (w : Windows) where
   -- no place, up to the end, lacks room
@@ -74,7 +74,7 @@ module _ (w : Windows) where
     where
       each : (i : ℕ) → i < w .n → lacksRoom w i ≡ true → ⊥
       each i h e =
-          let has : roomIn (w .h) (w .r i) (w .d i) (w .p i) ≡ true =
+          let has : hasRoom (w .h) (w .r i) (w .d i) (w .p i) ≡ true =
           room-passes _ _ _ _ (record { minutes = formed .minutes i h; in-day = formed .in-day i h; room = formed .room i h }) in
           false≢true (rw has at e)
 
@@ -99,9 +99,9 @@ module _ (w : Windows) where
           (λ z _. answered-refused e (lacks-room _ l refl z))))
 
       each : (i : ℕ) → i < w .n → Room (w .h) (w .r i) (w .d i) (w .p i)
-      each i h = go (roomIn (w .h) (w .r i) (w .d i) (w .p i)) refl
+      each i h = go (hasRoom (w .h) (w .r i) (w .d i) (w .p i)) refl
         where
-          go : (b : Bool) → roomIn (w .h) (w .r i) (w .d i) (w .p i) ≡ b → Room (w .h) (w .r i) (w .d i) (w .p i)
+          go : (b : Bool) → hasRoom (w .h) (w .r i) (w .d i) (w .p i) ≡ b → Room (w .h) (w .r i) (w .d i) (w .p i)
           go true q = room-has _ _ _ _ q
           go false q = absurd (first .none-before i (omega (arith, end)) (rw q))
 

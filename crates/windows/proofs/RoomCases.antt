@@ -8,7 +8,7 @@ use native.Mathlib.Omega.{arith}
 use Rattle.base.specs.Outcomes.{code, answered, refused}
 use Rattle.base.specs.Counting.{firstBelow}
 use Rattle.base.proofs.Searches.{Passed, passed-none, passed-next, passed-found, passed-all}
-use Rattle.windows.specs.Windows.{Windows, roomIn, roomFault}
+use Rattle.windows.specs.Windows.{Windows, hasRoom, roomFault}
 use Rattle.windows.proofs.Room.{room-no-minutes, lacksRoom, all-room, lacks-minutes, lacks-room}
 
 -- the first i of n places have room
@@ -26,7 +26,7 @@ module _ (w : Windows) (n : ℕ) where
     room-done h = sym (all-room w (passed-all (w .n) (lacksRoom w) i (so .passed) (omega (arith, so .count))))
 
     module _ (h : i < n) where
-      lacking : roomIn (w .h) (w .r i) (w .d i) (w .p i) ≡ false → firstBelow (w .n) (lacksRoom w) ≡ i
+      lacking : hasRoom (w .h) (w .r i) (w .d i) (w .p i) ≡ false → firstBelow (w .n) (lacksRoom w) ≡ i
       lacking e = passed-found (w .n) (lacksRoom w) i (so .passed) (rw e)
 
       place : i < w .n
@@ -35,7 +35,7 @@ module _ (w : Windows) (n : ℕ) where
       pub room-minutes : w .p i ≡ 0 → refused (code 6 (i ∷ [])) ≡ roomFault w
       room-minutes e = sym (lacks-minutes w i place (lacking (room-no-minutes (w .h) (w .r i) (w .d i) (w .p i) (omega (arith, e)))) e)
 
-      module _ (b : Bool) (is : b ≡ roomIn (w .h) (w .r i) (w .d i) (w .p i)) where
+      module _ (b : Bool) (is : b ≡ hasRoom (w .h) (w .r i) (w .d i) (w .p i)) where
         pub room-next : b ≡ true → Roomed w n (i + 1)
         room-next e =
             record {

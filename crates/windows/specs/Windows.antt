@@ -70,13 +70,13 @@ pub record Formed (w : Windows) : Type 0 where
   pub room : (i : ℕ) → i < w .n → w .r i + w .p i ≤ w .d i
 
 -- the test of one entry: it needs a minute, and has room for its p minutes in [r, d) and in a day of h minutes
-abbrev pub roomIn : ℕ → ℕ → ℕ → ℕ → Bool
-roomIn h r d p = leb 1 p && (leb d h && leb (r + p) d)
+abbrev pub hasRoom : ℕ → ℕ → ℕ → ℕ → Bool
+hasRoom h r d p = leb 1 p && (leb d h && leb (r + p) d)
 
 -- rows 6 and 7 for windows, the test of `Formed`: they carry the first place that has no minutes or no room
 unfoldable pub roomFault : Windows → Outcome (Unit {0})
 roomFault w =
-    let i = firstBelow (w .n) (λ j. not (roomIn (w .h) (w .r j) (w .d j) (w .p j))) in
+    let i = firstBelow (w .n) (λ j. not (hasRoom (w .h) (w .r j) (w .d j) (w .p j))) in
     firstOf (row 6 (ltb i (w .n) && eqb (w .p i) 0) i ∷ row 7 (ltb i (w .n)) i ∷ []) (answered tt)
 
 -- arrays with windows that have room, and an entry

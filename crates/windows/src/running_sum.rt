@@ -34,7 +34,7 @@ pub(crate) fn start_anew(sum: RunningSum) -> RunningSum
 }
 
 // Passes one place more: its box enters if its d is at most b.
-fn pass(sum: RunningSum, b: u16, d: u16, p: u16) -> RunningSum
+fn pass_place(sum: RunningSum, b: u16, d: u16, p: u16) -> RunningSum
     requires { ⌜ sum .passed < mostEntries ⌝ }
     requires { ⌜ sum .kept ≤ 65535 * sum .passed ⌝ }
     requires { ⌜ sum .additions ≤ sum .passed ⌝ }
@@ -92,7 +92,7 @@ pub(crate) fn walk_down(
         if r[i] < a {
             return sum;
         }
-        sum = pass(sum, b, d[i], p[i]);
+        sum = pass_place(sum, b, d[i], p[i]);
     }
     sum
 }

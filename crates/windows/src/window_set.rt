@@ -9,7 +9,7 @@ ghost use mathlib.Core.Path.{_≡_};
 ghost use lib.ListN.{replicate};
 ghost use Rattle.list.specs.Refusals.{verdictOf};
 ghost use Rattle.list.specs.DayLists.{emptyList, mostEntries};
-ghost use Rattle.windows.specs.Windows.{windowsIn, roomIn, roomFault};
+ghost use Rattle.windows.specs.Windows.{windowsIn, hasRoom, roomFault};
 ghost use Rattle.windows.specs.Calls.{Holds};
 
 // A 0 for each place.
@@ -59,7 +59,7 @@ pub fn unchecked_windows(list: DayList) -> WindowSet
 
 // Whether an entry needs a minute and has room for its minutes, in its window and in the day. The sum r + p may pass 65,535.
 fn has_room(h: u16, r: u16, d: u16, p: u16) -> bool
-    ensures { λ b. ⌜ b ≡ roomIn h r d p ⌝ }
+    ensures { λ b. ⌜ b ≡ hasRoom h r d p ⌝ }
 {
     if p == 0 {
         return false;

@@ -23,32 +23,32 @@ is-accepted-requires c κs = search needs
 closed-ends-requires : tie.Need-closed-ends-requires
 closed-ends-requires c κs = search needs
 
-mul-end-of : tie.Need-mul-end-of
-mul-end-of c = search needs
+mul-end-by-kind : tie.Need-mul-end-by-kind
+mul-end-by-kind c = search needs
 
-element-copy-out-end-of : tie.Need-element-copy-out-end-of
-element-copy-out-end-of c = search needs
+element-copy-out-end-by-kind : tie.Need-element-copy-out-end-by-kind
+element-copy-out-end-by-kind c = search needs
 
-mul-end-of-2 : tie.Need-mul-end-of-2
-mul-end-of-2 c = search needs
+mul-end-by-kind-2 : tie.Need-mul-end-by-kind-2
+mul-end-by-kind-2 c = search needs
 
-element-copy-out-end-of-2 : tie.Need-element-copy-out-end-of-2
-element-copy-out-end-of-2 c = search needs
+element-copy-out-end-by-kind-2 : tie.Need-element-copy-out-end-by-kind-2
+element-copy-out-end-by-kind-2 c = search needs
 
-mul-end-of-3 : tie.Need-mul-end-of-3
-mul-end-of-3 c = search needs
+mul-end-by-kind-3 : tie.Need-mul-end-by-kind-3
+mul-end-by-kind-3 c = search needs
 
-element-copy-out-end-of-3 : tie.Need-element-copy-out-end-of-3
-element-copy-out-end-of-3 c = search needs
+element-copy-out-end-by-kind-3 : tie.Need-element-copy-out-end-by-kind-3
+element-copy-out-end-by-kind-3 c = search needs
 
-mul-end-of-4 : tie.Need-mul-end-of-4
-mul-end-of-4 c = search needs
+mul-end-by-kind-4 : tie.Need-mul-end-by-kind-4
+mul-end-by-kind-4 c = search needs
 
-array-read-end-of : tie.Need-array-read-end-of
-array-read-end-of c = search needs
+array-read-end-by-kind : tie.Need-array-read-end-by-kind
+array-read-end-by-kind c = search needs
 
-end-of-requires : tie.Need-end-of-requires
-end-of-requires c κs =
+end-by-kind-requires : tie.Need-end-by-kind-requires
+end-by-kind-requires c κs =
     let start = c .before .before .before .before .before .before in
     let w = windowsIn (start .args .t1) in
     let formed = start .pre .formed in
@@ -70,7 +70,7 @@ returns c =
     let test = accepted .ensures ∙ ap accepts (c .before .before .before .before .before .before .unchecked-overload .ensures) in
     let closed = c .before .before .before .before .closed-ends in
     let at = closed-at (start .args .t1) (closed .result) (closed .ensures .ends) (start .args .k) (start .pre .place) in
-    c .end-of .ensures
+    c .end-by-kind .ensures
     ∙ end-least (λ _. start .args .whole) w (start .pre .formed) (start .args .k) (start .pre .place) (accepted .result) _ (λ _. test)
     (λ _. at)
 
@@ -81,13 +81,13 @@ least-end-spec =
     unchecked-overload-requires
     is-accepted-requires
     closed-ends-requires
-    mul-end-of
-    element-copy-out-end-of
-    mul-end-of-2
-    element-copy-out-end-of-2
-    mul-end-of-3
-    element-copy-out-end-of-3
-    mul-end-of-4
-    array-read-end-of
-    end-of-requires
+    mul-end-by-kind
+    element-copy-out-end-by-kind
+    mul-end-by-kind-2
+    element-copy-out-end-by-kind-2
+    mul-end-by-kind-3
+    element-copy-out-end-by-kind-3
+    mul-end-by-kind-4
+    array-read-end-by-kind
+    end-by-kind-requires
     returns)

@@ -40,35 +40,35 @@ loop-holds c = placed-none _ _ _ (omega arith) (c .before .zeros .ensures)
 place : (c : tie.In-loop Inv-loop μ-loop) → c .before .loop .i < windowsIn (c .before .before .before .before .before .args .t2) .n
 place c = omega (arith, c .loop-test .taken, c .before .before .places-held .ensures)
 
-array-read-end-of : tie.Need-array-read-end-of Inv-loop μ-loop
-array-read-end-of c = search needs
+array-read-end-by-kind : tie.Need-array-read-end-by-kind Inv-loop μ-loop
+array-read-end-by-kind c = search needs
 
-mul-end-of : tie.Need-mul-end-of Inv-loop μ-loop
-mul-end-of c = search needs
+mul-end-by-kind : tie.Need-mul-end-by-kind Inv-loop μ-loop
+mul-end-by-kind c = search needs
 
-element-copy-out-end-of : tie.Need-element-copy-out-end-of Inv-loop μ-loop
-element-copy-out-end-of c = search needs
+element-copy-out-end-by-kind : tie.Need-element-copy-out-end-by-kind Inv-loop μ-loop
+element-copy-out-end-by-kind c = search needs
 
-mul-end-of-2 : tie.Need-mul-end-of-2 Inv-loop μ-loop
-mul-end-of-2 c = search needs
+mul-end-by-kind-2 : tie.Need-mul-end-by-kind-2 Inv-loop μ-loop
+mul-end-by-kind-2 c = search needs
 
-element-copy-out-end-of-2 : tie.Need-element-copy-out-end-of-2 Inv-loop μ-loop
-element-copy-out-end-of-2 c = search needs
+element-copy-out-end-by-kind-2 : tie.Need-element-copy-out-end-by-kind-2 Inv-loop μ-loop
+element-copy-out-end-by-kind-2 c = search needs
 
-mul-end-of-3 : tie.Need-mul-end-of-3 Inv-loop μ-loop
-mul-end-of-3 c = search needs
+mul-end-by-kind-3 : tie.Need-mul-end-by-kind-3 Inv-loop μ-loop
+mul-end-by-kind-3 c = search needs
 
-element-copy-out-end-of-3 : tie.Need-element-copy-out-end-of-3 Inv-loop μ-loop
-element-copy-out-end-of-3 c = search needs
+element-copy-out-end-by-kind-3 : tie.Need-element-copy-out-end-by-kind-3 Inv-loop μ-loop
+element-copy-out-end-by-kind-3 c = search needs
 
-mul-end-of-4 : tie.Need-mul-end-of-4 Inv-loop μ-loop
-mul-end-of-4 c = search needs
+mul-end-by-kind-4 : tie.Need-mul-end-by-kind-4 Inv-loop μ-loop
+mul-end-by-kind-4 c = search needs
 
-array-read-end-of-2 : tie.Need-array-read-end-of-2 Inv-loop μ-loop
-array-read-end-of-2 c = search needs
+array-read-end-by-kind-2 : tie.Need-array-read-end-by-kind-2 Inv-loop μ-loop
+array-read-end-by-kind-2 c = search needs
 
-end-of-requires : tie.Need-end-of-requires Inv-loop μ-loop
-end-of-requires c κs =
+end-by-kind-requires : tie.Need-end-by-kind-requires Inv-loop μ-loop
+end-by-kind-requires c κs =
     let start = c .before .before .before .before .before .before .before .before in
     let s = start .args .t2 in
     let formed = start .pre .0 in
@@ -100,7 +100,7 @@ loop-again c =
     let at = place (c .before .before .before .before) in
     let closed = c .before .before .before .before .before .before .before .before .pause-ends in
     placed-next _ _ _ _ _ (loop .inv) at
-    (c .end-of .ensures
+    (c .end-by-kind .ensures
     ∙ end-least (marked (start .args .t1)) (windowsIn s) (start .pre .0) (loop .i) at (start .args .planned) _
     (start .pre .1 (loop .i) at) (closed .ensures (loop .i) at))
 
@@ -121,16 +121,16 @@ least-ends-spec =
     zeros-requires
     places-held-requires
     loop-holds
-    array-read-end-of
-    mul-end-of
-    element-copy-out-end-of
-    mul-end-of-2
-    element-copy-out-end-of-2
-    mul-end-of-3
-    element-copy-out-end-of-3
-    mul-end-of-4
-    array-read-end-of-2
-    end-of-requires
+    array-read-end-by-kind
+    mul-end-by-kind
+    element-copy-out-end-by-kind
+    mul-end-by-kind-2
+    element-copy-out-end-by-kind-2
+    mul-end-by-kind-3
+    element-copy-out-end-by-kind-3
+    mul-end-by-kind-4
+    array-read-end-by-kind-2
+    end-by-kind-requires
     mul-ends
     array-write-ends
     add-i

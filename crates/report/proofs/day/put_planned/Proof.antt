@@ -25,15 +25,15 @@ array-share-prefix-plan c =
     let accepted = c .before .before .enum-told .given .1 in
     bytes-room (start .args .list) (start .pre) _ refl (plan-day .result) _ (plan-day .ensures) accepted
 
-slice-aggregate-put-day : tie.Need-slice-aggregate-put-day
-slice-aggregate-put-day c =
+slice-aggregate-put-day-text : tie.Need-slice-aggregate-put-day-text
+slice-aggregate-put-day-text c =
     let start = c .before .before .before .before .before .before .before .before .before .before in
     let plan-day = c .before .before .before .before .before .before .before .plan-day in
     let accepted = c .before .before .before .enum-told .given .1 in
     bytes-long (start .args .list) (start .pre) _ refl (plan-day .result) _ (plan-day .ensures) accepted
 
-put-day-requires : tie.Need-put-day-requires
-put-day-requires c κs =
+put-day-text-requires : tie.Need-put-day-text-requires
+put-day-text-requires c κs =
     let start = c .before .before .before .before .before .before .before .before .before .before in
     let plan-day = c .before .before .before .before .before .before .before .plan-day in
     let accepted = c .before .before .before .enum-told .given .1 in
@@ -51,7 +51,7 @@ returns c =
     let plan-day = c .before .before .before .before .before .before .before .before .before .before .plan-day in
     let accepted = c .before .before .before .before .before .before .enum-told .given .1 in
     answered-put (start .args .list) (start .pre) _ refl (plan-day .result) _ (plan-day .ensures) accepted
-    (c .before .before .put-day .ensures)
+    (c .before .before .put-day-text .ensures)
 
 returns-2 : tie.Need-returns-2
 returns-2 c =
@@ -68,8 +68,8 @@ put-planned-spec =
     enum-told
     cast-h
     array-share-prefix-plan
-    slice-aggregate-put-day
-    put-day-requires
+    slice-aggregate-put-day-text
+    put-day-text-requires
     enum-known-verdict
     same-length
     returns

@@ -58,8 +58,8 @@ put-room-requires c κs =
     inside (args .numbers .now) (args .lists .now) (args .number) (args .carried .now) _ (held .before .before .eight-rooms .ensures)
     (held .turn-held .result) _ (held .turn-held .ensures) bytes _ _ _ (told .answer3 .given .1)
 
-put-carried-requires : tie.Need-put-carried-requires
-put-carried-requires c κs = search needs
+put-said-requires : tie.Need-put-said-requires
+put-said-requires c κs = search needs
 
 same-length : tie.Need-same-length
 same-length c = search needs
@@ -109,7 +109,7 @@ returns-3 c =
     let bytes : Bytes (args .lists .now) = λ i. known .slice-known2 .given i .fits in
     turn-taken (args .numbers .now) (args .lists .now) (args .number) (args .carried .now) _ (held .before .before .eight-rooms .ensures)
     (held .turn-held .result) _ (held .turn-held .ensures) bytes _ _ _ (told .answer3 .given .1) _ _ _ _ refl
-    (put .put-room .ensures) (c .put-carried .ensures .0) (c .put-carried .ensures .1)
+    (put .put-room .ensures) (c .put-said .ensures .0) (c .put-said .ensures .1)
 
 pub take-numbers-spec : {M : Type 1} → statement M
 take-numbers-spec =
@@ -124,7 +124,7 @@ take-numbers-spec =
     mul-row
     array-copy-out-row
     put-room-requires
-    put-carried-requires
+    put-said-requires
     same-length
     same-length-2
     returns

@@ -60,32 +60,32 @@ returns c =
     let args = c .before .before .before .before .before .before .before .before .args in
     walked-below _ _ _ (args .from) _ (loop .inv) (if1 .taken) (c .if2 .taken)
 
-mul-pass : tie.Need-mul-pass Inv-loop μ-loop
-mul-pass c =
+mul-pass-place : tie.Need-mul-pass-place Inv-loop μ-loop
+mul-pass-place c =
     let if1 = c .before .before .before .if1 in
     let loop = c .before .before .before .before .before .loop in
     search (needs, once-in _ _ (loop .inv .order .once) _ (if1 .taken))
 
-element-copy-out-pass : tie.Need-element-copy-out-pass Inv-loop μ-loop
-element-copy-out-pass c =
+element-copy-out-pass-place : tie.Need-element-copy-out-pass-place Inv-loop μ-loop
+element-copy-out-pass-place c =
     let if1 = c .before .before .before .if1 in
     let loop = c .before .before .before .before .before .loop in
     search (needs, once-in _ _ (loop .inv .order .once) _ (if1 .taken))
 
-mul-pass-2 : tie.Need-mul-pass-2 Inv-loop μ-loop
-mul-pass-2 c =
+mul-pass-place-2 : tie.Need-mul-pass-place-2 Inv-loop μ-loop
+mul-pass-place-2 c =
     let if1 = c .before .before .before .before .if1 in
     let loop = c .before .before .before .before .before .before .loop in
     search (needs, once-in _ _ (loop .inv .order .once) _ (if1 .taken))
 
-element-copy-out-pass-2 : tie.Need-element-copy-out-pass-2 Inv-loop μ-loop
-element-copy-out-pass-2 c =
+element-copy-out-pass-place-2 : tie.Need-element-copy-out-pass-place-2 Inv-loop μ-loop
+element-copy-out-pass-place-2 c =
     let if1 = c .before .before .before .before .if1 in
     let loop = c .before .before .before .before .before .before .loop in
     search (needs, once-in _ _ (loop .inv .order .once) _ (if1 .taken))
 
-pass-requires : tie.Need-pass-requires Inv-loop μ-loop
-pass-requires c κs =
+pass-place-requires : tie.Need-pass-place-requires Inv-loop μ-loop
+pass-place-requires c κs =
     let loop = c .before .before .before .before .before .before .before .loop in
     search (needs, loop .inv .small, loop .inv .counted)
 
@@ -98,7 +98,7 @@ loop-again c =
     let if1 = c .before .before .before .before .before .before .if1 in
     let loop = c .before .before .before .before .before .before .before .before .loop in
     let args = c .before .before .before .before .before .before .before .before .before .before .before .args in
-    walking-next _ _ _ (args .from) _ (loop .inv) _ (if1 .taken) (if2 .left) (c .pass .ensures)
+    walking-next _ _ _ (args .from) _ (loop .inv) _ (if1 .taken) (if2 .left) (c .pass-place .ensures)
 
 returns-2 : tie.Need-returns-2 Inv-loop μ-loop
 returns-2 c =
@@ -121,11 +121,11 @@ walk-down-spec =
     mul-if2
     element-copy-out-if2
     returns
-    mul-pass
-    element-copy-out-pass
-    mul-pass-2
-    element-copy-out-pass-2
-    pass-requires
+    mul-pass-place
+    element-copy-out-pass-place
+    mul-pass-place-2
+    element-copy-out-pass-place-2
+    pass-place-requires
     loop-less
     loop-again
     returns-2)

@@ -1,4 +1,4 @@
--- Each way out has its case of `roomIn`.
+-- Each way out has its case of `hasRoom`.
 -- Assumes nothing.
 use borrow.Author.Needs.{needs}
 use mathlib.Core.Path.{sym}

@@ -2,8 +2,8 @@
 -- Assumes nothing.
 use Rattle.shares.proofs.FrontCases.{end-eight, end-other}
 use borrow.Author.Needs.{needs}
-use Rattle.shares.proofs.front.end_of.Statement.{statement}
-use Rattle.shares.proofs.front.end_of.Tie as tie
+use Rattle.shares.proofs.front.read_end.Statement.{statement}
+use Rattle.shares.proofs.front.read_end.Tie as tie
 
 enum-known-verdict : tie.Need-enum-known-verdict
 enum-known-verdict c = search needs
@@ -33,8 +33,8 @@ returns-3 c =
     let code = c .before .numbers-of in
     end-other (args .verdict) _ (code .result) (args .len) (c .before .before .before .verdict .given .1) (code .ensures) (c .if1 .left)
 
-pub end-of-spec : {M : Type 1} → statement M
-end-of-spec =
+pub read-end-spec : {M : Type 1} → statement M
+read-end-spec =
     tie.close
     (tie.spec
     enum-known-verdict

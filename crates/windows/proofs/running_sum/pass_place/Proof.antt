@@ -3,8 +3,8 @@
 use borrow.Author.Needs.{needs}
 use native.Mathlib.Omega.{arith}
 use Rattle.windows.proofs.LeftEndCases.{passes-out, passes-in}
-use Rattle.windows.proofs.running_sum.pass.Statement.{statement}
-use Rattle.windows.proofs.running_sum.pass.Tie as tie
+use Rattle.windows.proofs.running_sum.pass_place.Statement.{statement}
+use Rattle.windows.proofs.running_sum.pass_place.Tie as tie
 
 add-passed : tie.Need-add-passed
 add-passed c = search needs
@@ -21,5 +21,5 @@ add-t9 c = search needs
 returns-2 : tie.Need-returns-2
 returns-2 c = passes-in _ _ _ _ (omega arith) (c .before .before .if1 .left)
 
-pub pass-spec : {M : Type 1} → statement M
-pass-spec = tie.close (tie.spec add-passed returns add-t8 add-t9 returns-2)
+pub pass-place-spec : {M : Type 1} → statement M
+pass-place-spec = tie.close (tie.spec add-passed returns add-t8 add-t9 returns-2)

@@ -3,8 +3,8 @@
 use borrow.Author.Needs.{needs}
 use mathlib.Core.Path.{refl}
 use Rattle.room_rows.proofs.RowCases.{carried-none, carried-some}
-use Rattle.room_rows.proofs.turn.put_carried.Statement.{statement}
-use Rattle.room_rows.proofs.turn.put_carried.Tie as tie
+use Rattle.room_rows.proofs.turn.put_said.Statement.{statement}
+use Rattle.room_rows.proofs.turn.put_said.Tie as tie
 
 enum-told : tie.Need-enum-told
 enum-told c = search needs
@@ -21,6 +21,6 @@ returns c = carried-none _ (c .before .enum-told .given .1) refl refl
 returns-2 : tie.Need-returns-2
 returns-2 c = carried-some _ _ _ (c .before .before .before .verdict .given .1) (c .before .numbers-of .ensures) refl refl
 
-pub put-carried-spec : {M : Type 1} → statement M
-put-carried-spec =
+pub put-said-spec : {M : Type 1} → statement M
+put-said-spec =
     tie.close (tie.spec enum-told enum-known-verdict numbers-of-requires returns returns-2)

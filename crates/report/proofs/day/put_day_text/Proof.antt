@@ -2,8 +2,8 @@
 -- Assumes nothing.
 use borrow.Author.Needs.{needs}
 use Rattle.report.proofs.StepCases.{puts-then}
-use Rattle.report.proofs.day.put_day.Statement.{statement}
-use Rattle.report.proofs.day.put_day.Tie as tie
+use Rattle.report.proofs.day.put_day_text.Statement.{statement}
+use Rattle.report.proofs.day.put_day_text.Tie as tie
 
 put-head-requires : tie.Need-put-head-requires
 put-head-requires c κs = search needs
@@ -22,7 +22,7 @@ returns c =
     puts-then (c .before .before .before .before .before .before .before .before .before .before .put-head .ensures)
     (puts-then (c .before .before .before .before .before .before .put-entries .ensures) (c .before .before .put-runs .ensures))
 
-pub put-day-spec : {M : Type 1} → statement M
-put-day-spec =
+pub put-day-text-spec : {M : Type 1} → statement M
+put-day-text-spec =
     tie.close
     (tie.spec put-head-requires put-entries-requires put-runs-requires same-length returns)

@@ -3,8 +3,8 @@
 use borrow.Author.Needs.{needs}
 use mathlib.Core.Path.{refl}
 use borrow.Author.Tests.{not-true, not-false}
-use Rattle.bounds.proofs.ends.end_of.Statement.{statement}
-use Rattle.bounds.proofs.ends.end_of.Tie as tie
+use Rattle.bounds.proofs.ends.end_by_kind.Statement.{statement}
+use Rattle.bounds.proofs.ends.end_by_kind.Tie as tie
 
 add-result : tie.Need-add-result
 add-result c = search needs
@@ -23,5 +23,5 @@ cast-result c =
 returns-3 : tie.Need-returns-3
 returns-3 c = rw (c .before .if1 .left, not-false (c .before .before .args .planned) (c .if2 .left)) refl
 
-pub end-of-spec : {M : Type 1} → statement M
-end-of-spec = tie.close (tie.spec add-result returns returns-2 cast-result returns-3)
+pub end-by-kind-spec : {M : Type 1} → statement M
+end-by-kind-spec = tie.close (tie.spec add-result returns returns-2 cast-result returns-3)
