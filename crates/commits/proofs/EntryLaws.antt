@@ -19,7 +19,8 @@ use Rattle.list.specs.declared.types.Entry.{Entry}
 use Rattle.list.specs.declared.types.Frame.{Frame}
 use Rattle.list.specs.declared.types.DayList.{DayList}
 use Rattle.list.proofs.ClashFacts.{clash-search, apart-told}
-use Rattle.list.proofs.Sound.{Header, Sound, Every, SoundList, header-passes, opening-passes, faultless, sound-list, list-apart}
+use Rattle.list.specs.Laws.{Header, Sound}
+use Rattle.list.proofs.Sound.{Every, SoundList, header-passes, opening-passes, faultless, sound-list, list-apart}
 use Rattle.commits.specs.Laws.{EntryLaw}
 
 -- the entries that count in a list value made of entries are these

@@ -6,4 +6,16 @@ use Rattle.flat.specs.Examples.{FlatExamples}
 
 pub flat-examples : FlatExamples
 unfolding flatEntries
-flat-examples = record { layout = refl; day-list = refl; day-stamp = refl; large-stamp = refl; list-length = refl; former-length = refl }
+flat-examples =
+    record {
+      layout = refl;
+      large-frame = refl;
+      large-count = refl;
+      large-entry = refl;
+      no-seal = refl;
+      day-list = refl;
+      day-stamp = refl;
+      large-stamp = refl;
+      list-length = refl;
+      former-length = refl;
+    }

@@ -31,7 +31,8 @@ use Rattle.format.proofs.FieldTrip.{minute-read, written-again, minute-
 use Rattle.format.proofs.MapBytes.{map-form, map-back}
 use Rattle.base.proofs.Inversion.{Says, by-row, by-step, neither}
 use Rattle.format.proofs.CarriedPlaces.{at-end, at-place, at-sixteen}
-use Rattle.list.proofs.Sound.{Sound, fault-says, faultless}
+use Rattle.list.specs.Laws.{Sound}
+use Rattle.list.proofs.Sound.{fault-says, faultless}
 use Rattle.format.proofs.FormCases.{seal-length, minute-length, entry-length}
 use Rattle.format.proofs.EntryCases.{entry-is, entry-legal, fields-taken}
 

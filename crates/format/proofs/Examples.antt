@@ -14,6 +14,20 @@ unfolding firstBelow entryFault firstClash headerFault openingFault entryAt fiel
     entriesFrom bodyOf openedOf decodeOf mapPlace readOf
 read-examples =
     record {
+      all-fields = refl;
+      no-header = refl;
+      day-first = refl;
+      longest-day = refl;
+      day-too-long = refl;
+      no-map = refl;
+      map-first = refl;
+      field-first = refl;
+      written-first = refl;
+      minutes-first = refl;
+      window = refl;
+      entry-first = refl;
+      entries-first = refl;
+      bytes-left = refl;
       clash = refl;
       left-over = refl;
       two-clashes = refl;

@@ -23,7 +23,8 @@ use Rattle.format.specs.declared.map.Fields.{Fields}
 use Rattle.format.proofs.LongestList.{longest, longest-reached}
 use Rattle.format.proofs.Places.{r-place-small, d-place-small, p-place-small}
 use Rattle.base.proofs.Inversion.{Says, Anything, by-row, by-step, says-refusal, same-after}
-use Rattle.list.proofs.Sound.{Header, header-says, OpensIn, opening-says}
+use Rattle.list.specs.Laws.{Header, OpensIn}
+use Rattle.list.proofs.Sound.{header-says, opening-says}
 use Rattle.format.proofs.HeaderTrip.{header-short}
 use Rattle.format.proofs.EntryTrip.{TakenEntry, entry-says}
 use Rattle.format.proofs.ListTrip.{TakenEntries, entries-say}

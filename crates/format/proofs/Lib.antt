@@ -1,4 +1,4 @@
--- What reading says of an input, and the round trips, with what they rest on: map bytes, the places of fields, of map bytes and those that
+-- What reading says of an input and writing of a list, and the round trips, with what they rest on: map bytes, the places of fields, of map bytes and those that
 -- refusals carry; the longest one form; and that the first 966 bytes decide how an input is read. The crates above may cite what is public.
 mod MapBytes
 pub mod Places
@@ -10,6 +10,7 @@ pub mod ListTrip
 mod MapPlaces
 pub mod ReadLaws
 pub mod RoundTrip
+pub mod WriteLaws
 pub mod LongestList
 pub mod FirstBytes
 pub mod Examples

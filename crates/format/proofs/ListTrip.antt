@@ -19,7 +19,8 @@ use Rattle.format.specs.Writing.{bytesOfEntries}
 use Rattle.list.specs.declared.types.Entry.{Entry}
 use Rattle.list.specs.declared.types.Frame.{Frame}
 use Rattle.base.proofs.Inversion.{Says, by-step}
-use Rattle.list.proofs.Sound.{Sound, Every}
+use Rattle.list.specs.Laws.{Sound}
+use Rattle.list.proofs.Sound.{Every}
 use Rattle.format.proofs.FieldTrip.{bytes-drop}
 use Rattle.format.proofs.EntryTrip.{EntryFits, TakenEntry, entry-says, entry-reads-back}
 

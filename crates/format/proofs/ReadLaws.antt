@@ -26,7 +26,8 @@ use Rattle.list.specs.declared.types.DayList.{DayList}
 use Rattle.base.proofs.Inversion.{Says, by-row, by-step, says-which, says-refusal, both}
 use Rattle.format.proofs.CarriedPlaces.{at-end, at-place, at-fifteen}
 use Rattle.list.proofs.ClashFacts.{apart, first-clash, apart-told, first-told}
-use Rattle.list.proofs.Sound.{Header, header-says, OpensIn, opening-says, opening-passes, SoundList, well-formed}
+use Rattle.list.specs.Laws.{Header, OpensIn}
+use Rattle.list.proofs.Sound.{header-says, opening-says, opening-passes, SoundList, well-formed}
 use Rattle.format.proofs.FieldTrip.{bytes-drop}
 use Rattle.format.proofs.HeaderTrip.{later-again, header-stands}
 use Rattle.format.proofs.EntryTrip.{EntryFits}

@@ -77,7 +77,7 @@ module _ (l : DayList) (room : ℕ) where
   abbrev Answer : ℕ → Type 0
   Answer count = WellFormed l × (count ≡ length (bytesOf l))
 
-  write-says : Says Answer Anything (writeOf l room)
+  pub write-says : Says Answer Anything (writeOf l room)
   unfolding writeOf
   write-says =
       by-step (λ _. WellFormed l) Anything Answer (checkOf l) _ (check-says l Anything (λ _ _ _. tt) (λ _ _ _. tt) (λ _ _. tt))

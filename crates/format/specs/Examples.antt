@@ -1,11 +1,11 @@
--- Days that have a serial twice, and rooms that open after midnight, as one statement; `read-examples` of proofs/Examples.antt proves it.
+-- The table's order of rows, days that have a serial twice, and rooms that open after midnight, as one statement; `read-examples` of proofs/Examples.antt proves it.
 use Prim.Native.Nat.{ℕ, _+_}
 use mathlib.Core.Path.{_≡_}
 use mathlib.Core.List.{List, [], _∷_, _++_}
 use Rattle.base.specs.Outcomes.{code, answered, refused}
 use Rattle.list.specs.DayLists.{dayList}
-use Rattle.list.specs.declared.types.Seal.the-variants.{Missing}
-use Rattle.list.specs.declared.types.Kind.the-variants.{Pause}
+use Rattle.list.specs.declared.types.Seal.the-variants.{Missing, Number}
+use Rattle.list.specs.declared.types.Kind.the-variants.{Pause, Whole}
 use Rattle.list.specs.declared.types.Entry.{Entry}
 use Rattle.format.specs.Reading.{readOf}
 
@@ -16,6 +16,14 @@ entry501 = 0x11 ∷ 0xF5 ∷ 0x01 ∷ 0x00 ∷ 0x00 ∷ 0x01 ∷ 0x00 ∷ []
 -- the same with serial 502
 abbrev pub entry502 : List ℕ
 entry502 = 0x11 ∷ 0xF6 ∷ 0x01 ∷ 0x00 ∷ 0x00 ∷ 0x01 ∷ 0x00 ∷ []
+
+-- H 10 and n entries
+abbrev pub tenMinutes : ℕ → List ℕ
+tenMinutes n = 0x0A ∷ 0x00 ∷ n ∷ []
+
+-- an entry with all fields, each of which differs from byte to byte: serial 0x04030201, seal 0x08070605, [1,8), p 2, whole
+abbrev pub allFields : List ℕ
+allFields = 0x3F ∷ 0x01 ∷ 0x02 ∷ 0x03 ∷ 0x04 ∷ 0x05 ∷ 0x06 ∷ 0x07 ∷ 0x08 ∷ 0x01 ∷ 0x00 ∷ 0x08 ∷ 0x00 ∷ 0x02 ∷ 0x00 ∷ []
 
 -- H 10, serial 501 twice
 abbrev pub clashBytes : List ℕ
@@ -48,6 +56,27 @@ abbrev pub windowWritten : ℕ → ℕ → ℕ → List ℕ
 windowWritten r d p = 0x1D ∷ 0xF5 ∷ 0x01 ∷ 0x00 ∷ 0x00 ∷ r ∷ 0x00 ∷ d ∷ 0x00 ∷ p ∷ 0x00 ∷ []
 
 pub record ReadExamples : Type 0 where
+  -- "in bit order", "lowest byte first"
+  pub all-fields : readOf (tenMinutes 1 ++ allFields)
+      ≡ answered (dayList (record { h = 10; opening = 0 })
+      (record { serial = 0x04030201; seal = Number 0x08070605; r = 1; d = 8; p = 2; kind = Whole } ∷ []))
+  -- the header: 1, then 2, then 3; H 1,440 and 1,441
+  pub no-header : readOf (0x00 ∷ 0x00 ∷ []) ≡ refused (code 1 (2 ∷ []))
+  pub day-first : readOf (0x00 ∷ 0x00 ∷ 0x41 ∷ []) ≡ refused (code 2 (0 ∷ []))
+  pub longest-day : readOf (0xA0 ∷ 0x05 ∷ 0x00 ∷ []) ≡ answered (dayList (record { h = 1440; opening = 0 }) [])
+  pub day-too-long : readOf (0xA1 ∷ 0x05 ∷ 0x00 ∷ []) ≡ refused (code 2 (0 ∷ []))
+  -- an entry: "a missing map byte is 1"; then 4, before the fields that are missing; then 1, before a default; 5, before 6 and 7; then 6,
+  -- before 7; "entry by entry"
+  pub no-map : readOf (tenMinutes 1) ≡ refused (code 1 (3 ∷ []))
+  pub map-first : readOf (tenMinutes 1 ++ (0x91 ∷ [])) ≡ refused (code 4 (3 ∷ []))
+  pub field-first : readOf (tenMinutes 1 ++ (0x15 ∷ 0xF5 ∷ 0x01 ∷ 0x00 ∷ 0x00 ∷ 0x00 ∷ 0x00 ∷ 0x01 ∷ [])) ≡ refused (code 1 (11 ∷ []))
+  pub written-first : readOf (tenMinutes 1 ++ windowWritten 0 11 0) ≡ refused (code 5 (3 ∷ []))
+  pub minutes-first : readOf (tenMinutes 1 ++ windowWritten 5 3 0) ≡ refused (code 6 (3 ∷ []))
+  pub window : readOf (tenMinutes 1 ++ windowWritten 5 6 2) ≡ refused (code 7 (3 ∷ []))
+  pub entry-first : readOf (tenMinutes 2 ++ (windowWritten 5 6 2 ++ (0x91 ∷ []))) ≡ refused (code 7 (3 ∷ []))
+  -- 8 after all entries, with the first byte left over
+  pub entries-first : readOf (tenMinutes 1 ++ (windowWritten 5 6 2 ++ (0x00 ∷ []))) ≡ refused (code 7 (3 ∷ []))
+  pub bytes-left : readOf (tenMinutes 1 ++ (windowWritten 5 7 2 ++ (0x00 ∷ 0x00 ∷ []))) ≡ refused (code 8 (14 ∷ []))
   pub clash : readOf clashBytes ≡ refused (code 14 (10 ∷ []))
   -- "after 8 when reading"
   pub left-over : readOf (clashBytes ++ (0x00 ∷ [])) ≡ refused (code 8 (17 ∷ []))

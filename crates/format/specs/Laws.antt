@@ -1,18 +1,19 @@
--- What reading says of an input, in facts: `read-law` of proofs/ReadLaws.antt, for every input; and how long lists are.
+-- What reading says of an input and writing of a list, in facts: `read-law` of proofs/ReadLaws.antt and `write-law` of proofs/WriteLaws.antt,
+-- for all inputs, lists and buffers; and how long lists are.
 use Prim.Native.Nat.{ℕ, _<_, _≤_}
 use mathlib.Core.Path.{_≡_}
 use mathlib.Core.Logic.{_⊎_}
-use mathlib.Core.List.{List, [], _∷_}
+use mathlib.Core.List.{List, [], _∷_, _++_}
 use lib.ListN.{length, getD, take, drop}
 use Rattle.base.specs.Outcomes.{Code, code, answered, refused}
 use Rattle.list.specs.DayLists.{entriesOf, blank}
 use Rattle.list.specs.Clashes.{Apart, FirstClash}
-use Rattle.list.specs.Checks.{WellFormed}
+use Rattle.list.specs.Checks.{checkOf, WellFormed}
 use Rattle.list.specs.declared.types.DayList.{DayList}
 use Rattle.format.specs.EntryFields.{entryOf}
 use Rattle.format.specs.Headers.{frameOf, countOf}
 use Rattle.format.specs.Reading.{entriesRead, decodeOf, readOf}
-use Rattle.format.specs.Writing.{bytesOf, longestList, readLimit}
+use Rattle.format.specs.Writing.{bytesOf, longestList, readLimit, writeOf, bufferAfter}
 
 -- the rows of reading that look at one entry or at the header, or at the input's length: 1 to 8, 15 and 16
 abbrev pub ReadingRow : ℕ → Type 0
@@ -53,6 +54,18 @@ pub record ReadLaw (bs : List ℕ) : Type 0 where
   pub apart : (l : DayList) → decodeOf bs ≡ answered l → Apart (entriesOf l) → readOf bs ≡ answered l
   pub clash : (l : DayList) → decodeOf bs ≡ answered l → (k : ℕ) → FirstClash (entriesOf l) k
       → (at : ℕ) × (readOf bs ≡ refused (code 14 (at ∷ [])))
+
+-- writing the list l to a buffer that held old
+pub record WriteLaw (l : DayList) (old : List ℕ) : Type 0 where
+  -- the value check comes first; then 12, which carries the bytes needed
+  pub before : (k : Code) → checkOf l ≡ refused k → writeOf l (length old) ≡ refused k
+  pub short : WellFormed l → length old < length (bytesOf l) → writeOf l (length old) ≡ refused (code 12 (length (bytesOf l) ∷ []))
+  pub fits : WellFormed l → length (bytesOf l) ≤ length old → writeOf l (length old) ≡ answered (length (bytesOf l))
+  -- "A refusal writes nothing to any lent buffer."
+  pub stays : (k : Code) → writeOf l (length old) ≡ refused k → bufferAfter (writeOf l (length old)) l old ≡ old
+  -- "The writer gives the list's one form; bytes after it keep their values."
+  pub written : (count : ℕ) → writeOf l (length old) ≡ answered count
+      → bufferAfter (writeOf l (length old)) l old ≡ bytesOf l ++ drop (length (bytesOf l)) old
 
 -- "A longest list has 965 bytes and the program takes 966.": `length-law` of proofs/FirstBytes.antt
 pub record LengthLaw : Type 0 where

@@ -3,8 +3,9 @@
 -- arrays that hold a field of the entries, and numbers by place.
 pub mod ClashFacts
 pub mod Sound
-pub mod OpeningLaws
 pub mod ClashLaws
+pub mod CheckLaws
+pub mod OpeningLaws
 pub mod Alike
 pub mod Verdicts
 pub mod InTypes

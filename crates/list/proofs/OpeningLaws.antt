@@ -1,15 +1,15 @@
 -- Rows 15 and 16 of the value check, in facts.
 -- Assumes nothing.
-use mathlib.Core.Path.{_≡_, refl, sym, ap, subst, _∙_}
+use mathlib.Core.Path.{_≡_, refl, sym, ap, subst}
 use mathlib.Core.List.{List, [], _∷_}
-use Prim.Native.Nat.{ℕ, zero, suc, _+_, _<_, _≤_}
-use native.Mathlib.Nat.{add-zero, zero-add}
+use Prim.Native.Nat.{ℕ, _+_, _<_, _≤_}
+use native.Mathlib.Nat.{zero-add}
 use native.Mathlib.Omega.{arith}
 use lib.ListN.{length, getD}
-use Rattle.base.specs.Outcomes.{Code, code, answered, refused}
+use Rattle.base.specs.Outcomes.{Code, code, refused}
 use Rattle.list.specs.Entries.{entryFault}
 use Rattle.list.specs.DayLists.{entriesOf, blank, alwaysOpen}
-use Rattle.list.specs.Checks.{entriesFault, valuesFault, checkOf, WellFormed}
+use Rattle.list.specs.Checks.{valuesFault, checkOf, WellFormed}
 use Rattle.list.specs.Laws.{OpensInTime, OpeningLaw}
 use Rattle.list.specs.declared.types.Entry.{Entry}
 use Rattle.list.specs.declared.types.Frame.{Frame}
@@ -17,20 +17,7 @@ use Rattle.list.specs.declared.types.DayList.{DayList}
 use Rattle.base.proofs.Inversion.{Says}
 use Rattle.list.proofs.Sound.{check-tells, every-at-places, sound-list, sound-at, opening-passes, list-apart, well-formed}
 use Rattle.list.proofs.CheckCases.{opens-past-day, before-opening}
-
--- the first entry that has a fault is told
-first-fault : (f : Frame) (at : ℕ) (es : List Entry) (i : ℕ) → i < length es
-    → ((j : ℕ) → j < i → entryFault f (at + j) (getD es j blank) ≡ answered tt)
-    → (k : Code) → entryFault f (at + i) (getD es i blank) ≡ refused k → entriesFault f at es ≡ refused k
-unfolding entriesFault
-first-fault f at [] i h none k e = absurd (omega arith)
-first-fault f at (x ∷ es) zero h none k e = rw (rw (add-zero at) at e)
-first-fault f at (x ∷ es) (suc i) h none k e =
-    rw (rw (add-zero at) at (none 0 (omega arith)))
-    (first-fault f (at + 1) es i (omega arith) (λ j b. moved j ∙ none (suc j) (omega arith)) k (moved i ∙ e))
-  where
-    moved : (j : ℕ) → entryFault f (at + 1 + j) (getD es j blank) ≡ entryFault f (at + suc j) (getD es j blank)
-    moved j = let z : at + 1 + j ≡ at + suc j = omega arith in ap (λ (p : ℕ). entryFault f p (getD es j blank)) z
+use Rattle.list.proofs.CheckLaws.{first-fault}
 
 module _ (l : DayList) where
   abbrev f : Frame

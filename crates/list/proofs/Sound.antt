@@ -14,17 +14,12 @@ use Rattle.list.specs.Entries.{entryFault}
 use Rattle.list.specs.DayLists.{entriesOf, blank}
 use Rattle.list.specs.Clashes.{firstClash, Apart, FirstClash}
 use Rattle.list.specs.Checks.{headerFault, openingFault, entriesFault, valuesFault, checkOf, WellFormed}
+use Rattle.list.specs.Laws.{Header, OpensIn, Sound}
 use Rattle.list.specs.declared.types.Entry.{Entry}
 use Rattle.list.specs.declared.types.Frame.{Frame}
 use Rattle.list.specs.declared.types.DayList.{DayList}
 use Rattle.base.proofs.Inversion.{Says, by-row, by-step, Anything, neither}
 use Rattle.list.proofs.ClashFacts.{apart, first-clash, apart-told}
-
--- what rows 2 and 3 leave
-pub record Header (h n : ℕ) : Type 0 where
-  pub some-minutes : 1 ≤ h
-  pub one-day : h ≤ 1440
-  pub room : n ≤ 64
 
 module _ (place h n : ℕ) where
   -- what rows 2 and 3 say: of a refusal, whatever holds of both
@@ -47,10 +42,6 @@ module _ (place h n : ℕ) where
       let z : h ≡ 0 → ⊥ = omega arith in
       simp (ne-eqb _ _ z, le-ltb _ _ (s .one-day), le-ltb _ _ (s .room))
 
--- what row 15 leaves: the room opens before the day ends
-abbrev pub OpensIn : Frame → Type 0
-OpensIn f = f .opening < f .h
-
 module _ (place : ℕ) (f : Frame) where
   -- what row 15 says: of a refusal, whatever holds of it
   pub opening-says : (R : Code → Type 0) → (f .h ≤ f .opening → R (code 15 (place ∷ []))) → Says (λ _. OpensIn f) R (openingFault place f)
@@ -61,13 +52,6 @@ module _ (place : ℕ) (f : Frame) where
   pub opening-passes : OpensIn f → openingFault place f ≡ answered tt
   unfolding openingFault
   opening-passes o = simp (lt-leb _ _ o)
-
--- what rows 16, 6 and 7 leave
-pub record Sound (f : Frame) (e : Entry) : Type 0 where
-  pub opened : f .opening ≤ e .r
-  pub some-minutes : 1 ≤ e .p
-  pub in-day : e .d ≤ f .h
-  pub room : e .r + e .p ≤ e .d
 
 module _ (f : Frame) (at : ℕ) (e : Entry) where
   -- what rows 16, 6 and 7 say: of a refusal, whatever holds of each

@@ -211,6 +211,7 @@ module _ {test : Test} (planner : Planner test) (whole : ℕ → Bool) (w : Wind
       record {
         searches = searches;
         steps-room = steps-room;
+        steps-keep = λ ss names. steps-narrow planner whole ss w formed names .stays;
         by-rounds = by-rounds;
         widest = widest;
         refused-exactly = (λ z. none-settled (z .0) (z .1), refused-if-none);

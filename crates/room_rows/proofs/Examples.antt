@@ -18,4 +18,8 @@ row-examples =
       carried = refl;
       none-carried = refl;
       nothing = refl;
+      answer = refl;
+      turn-refused = refl;
+      refused-carries = refl;
+      nothing-carries = refl;
     }

@@ -6,7 +6,7 @@ use Rattle.rooms.specs.Turns.{took, none-unfinished}
 use Rattle.rooms.specs.Examples.{roomWith}
 use Rattle.rooms.specs.declared.types.Stage.the-variants.{Fresh, Begun, Settled, Refused}
 use Rattle.room_rows.specs.RoomRows.{roomRow, roomsIn, roomsFault}
-use Rattle.room_rows.specs.Calls.{turnValues, carriedBy}
+use Rattle.room_rows.specs.Calls.{turnValues, numbersBy, carriedBy}
 
 pub record RowExamples : Type 0 where
   -- "its stage (fresh, begun, settled, refused), rounds and moves"; a stage over 3 counts as 3
@@ -22,3 +22,8 @@ pub record RowExamples : Type 0 where
   pub carried : carriedBy (answered (took 2 (refused (code 9 (10 ∷ 20 ∷ 11 ∷ []))) 3)) (7 ∷ 7 ∷ 7 ∷ []) ≡ 10 ∷ 20 ∷ 11 ∷ []
   pub none-carried : carriedBy (answered (took 7 (answered tt) 0)) (7 ∷ 7 ∷ 7 ∷ []) ≡ 0 ∷ 0 ∷ 0 ∷ []
   pub nothing : turnValues 8 (none-unfinished 5) ≡ 8 ∷ 0 ∷ 5 ∷ []
+  -- the answer: 0 with these values, or the turn's own refusal with what it carries; and then what was carried before stays
+  pub answer : numbersBy 8 (answered (took 7 (answered tt) 0)) ≡ record { number = 0; values = 7 ∷ 0 ∷ 0 ∷ [] }
+  pub turn-refused : numbersBy 9 (refused (code 19 (9 ∷ []))) ≡ record { number = 19; values = 9 ∷ 0 ∷ 0 ∷ [] }
+  pub refused-carries : carriedBy (refused (code 19 (9 ∷ []))) (7 ∷ 8 ∷ 9 ∷ []) ≡ 7 ∷ 8 ∷ 9 ∷ []
+  pub nothing-carries : carriedBy (answered (none-unfinished 5)) (7 ∷ 8 ∷ 9 ∷ []) ≡ 7 ∷ 8 ∷ 9 ∷ []

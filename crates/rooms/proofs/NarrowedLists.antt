@@ -15,7 +15,8 @@ use Rattle.list.specs.Checks.{WellFormed}
 use Rattle.list.specs.declared.types.Entry.{Entry}
 use Rattle.list.specs.declared.types.Frame.{Frame}
 use Rattle.list.specs.declared.types.DayList.{DayList}
-use Rattle.list.proofs.Sound.{Sound, Every, sound-list}
+use Rattle.list.specs.Laws.{Sound}
+use Rattle.list.proofs.Sound.{Every, sound-list}
 use Rattle.format.specs.Forms.{entryBytes}
 use Rattle.format.specs.Writing.{bytesOfEntries, bytesOf}
 use Rattle.format.proofs.FormCases.{entry-length}

@@ -17,7 +17,8 @@ use Rattle.list.specs.Checks.{headerFault, openingFault}
 use Rattle.list.specs.declared.types.Entry.{Entry}
 use Rattle.list.specs.declared.types.Frame.{Frame}
 use Rattle.list.specs.declared.types.DayList.{DayList}
-use Rattle.list.proofs.Sound.{Header, header-says, OpensIn, opening-says}
+use Rattle.list.specs.Laws.{Header, OpensIn}
+use Rattle.list.proofs.Sound.{header-says, opening-says}
 use Rattle.format.specs.Headers.{frameOf, countOf, openingWritten, entriesPlace, zeroWritten, headerBytes}
 use Rattle.format.specs.Reading.{entriesRead, bodyOf, openedOf, decodeOf, readOf}
 use Rattle.format.specs.Laws.{PlaceIn}

@@ -13,7 +13,8 @@ use Rattle.base.proofs.Inversion.{Says, by-row, by-step, says-refusal}
 use Rattle.list.specs.Entries.{entryFault}
 use Rattle.list.specs.declared.types.Entry.{Entry}
 use Rattle.list.specs.declared.types.Frame.{Frame}
-use Rattle.list.proofs.Sound.{Sound, fault-says}
+use Rattle.list.specs.Laws.{Sound}
+use Rattle.list.proofs.Sound.{fault-says}
 use Rattle.format.specs.Maps.{legalMap, mapFields, sizeOf}
 use Rattle.format.specs.EntryFields.{entryAt, defaultWritten, fieldsEntry, entryOf}
 use Rattle.format.specs.Reading.{entriesFrom}

@@ -18,7 +18,8 @@ use Rattle.list.specs.declared.types.Entry.{Entry}
 use Rattle.list.specs.declared.types.Frame.{Frame}
 use Rattle.list.specs.declared.types.DayList.{DayList}
 use Rattle.list.proofs.ClashFacts.{apart-told}
-use Rattle.list.proofs.Sound.{Sound, Every, SoundList, header-passes, opening-passes, list-apart}
+use Rattle.list.specs.Laws.{Sound}
+use Rattle.list.proofs.Sound.{Every, SoundList, header-passes, opening-passes, list-apart}
 use Rattle.format.specs.Headers.{frameOf, countOf, entriesPlace, zeroWritten, headerSize, opensLater, headerBytes}
 use Rattle.format.specs.Reading.{entriesFrom, entriesRead, placeAfter, mapPlace}
 use Rattle.format.specs.Writing.{bytesOfEntries, bytesOf}

@@ -16,7 +16,8 @@ use Rattle.list.specs.declared.types.Entry.{Entry}
 use Rattle.list.specs.declared.types.Frame.{Frame}
 use Rattle.list.specs.declared.types.DayList.{DayList}
 use Rattle.list.proofs.ClashFacts.{clash-carried}
-use Rattle.list.proofs.Sound.{Sound, every-at-places, sound-list, sound-at, list-apart, well-formed}
+use Rattle.list.specs.Laws.{Sound}
+use Rattle.list.proofs.Sound.{every-at-places, sound-list, sound-at, list-apart, well-formed}
 use Rattle.windows.specs.Windows.{windowsOf}
 use Rattle.windows.specs.Mirrors.{mirror, mirrorEntry, mirrorList}
 use Rattle.windows.specs.Laws.{MirrorLaw}

@@ -7,7 +7,8 @@ use Rattle.list.specs.Refusals.{verdictOf}
 use Rattle.list.specs.Checks.{headerFault}
 use Rattle.format.specs.Headers.{frameOf, countOf}
 use Rattle.list.proofs.Verdicts.{by-accepted}
-use Rattle.list.proofs.Sound.{Header, header-of}
+use Rattle.list.specs.Laws.{Header}
+use Rattle.list.proofs.Sound.{header-of}
 use Rattle.format.proofs.ReadCases.{reads-refused, decode-short, decode-header, decode-opened}
 use Rattle.format.proofs.reader.decode.Statement.{statement}
 use Rattle.format.proofs.reader.decode.Tie as tie
