@@ -9,6 +9,7 @@ pub mod EntryTrip
 pub mod ListTrip
 mod MapPlaces
 pub mod ReadLaws
+pub mod ReadRows
 pub mod RoundTrip
 pub mod WriteLaws
 pub mod LongestList

@@ -13,8 +13,9 @@ pub mod StoredPlans
 pub mod Stretches
 mod StretchCounts
 pub mod StretchBytes
--- Lists that are planned alike.
+-- Lists that are planned alike, and the rows of filling a plan buffer.
 pub mod Alike
+pub mod FillLaws
 -- What the code's proofs cite, case by case.
 mod MinuteCases
 mod StretchCases

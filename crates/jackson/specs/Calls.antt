@@ -1,12 +1,12 @@
 -- What the public functions promise: the overload test, a day's minutes, starting a day, and filling a plan buffer.
-use Prim.Native.Nat.{ℕ, _<_}
+use Prim.Native.Nat.{ℕ, _<_, _≤_}
 use mathlib.Core.Path.{_≡_}
 use mathlib.Core.List.{List, [], _∷_, _++_}
 use lib.ListN.{length, take, drop}
 use lib.Dec.{ltb}
-use Rattle.base.specs.Outcomes.{Code, Outcome, answered, refused, Row, row, firstOf, andThen}
+use Rattle.base.specs.Outcomes.{Code, code, Outcome, answered, refused, Row, row, firstOf, andThen}
 use Rattle.list.specs.Refusals.{verdictOf}
-use Rattle.list.specs.Checks.{checkOf}
+use Rattle.list.specs.Checks.{checkOf, WellFormed}
 use Rattle.list.specs.DayLists.{emptyList}
 use Rattle.list.specs.declared.types.DayList.{DayList}
 use Rattle.list.specs.declared.types.Verdict.{Verdict}
@@ -58,6 +58,12 @@ bufferRow h room = row 11 (ltb room h) h
 -- filling a plan buffer of the length given: the value check, then rows 11 and 9
 unfoldable pub fillOf : DayList → ℕ → Outcome (Unit {0})
 fillOf l room = andThen (checkOf l) (λ _. firstOf (bufferRow (l .frame .h) room ∷ []) (overloadOf (windowsOf l)))
+
+-- `fill-law` of proofs/FillLaws.antt: these rows in the table's order, what 11 carries, and 9 last
+pub record FillLaw (l : DayList) (room : ℕ) : Type 0 where
+  pub before : (k : Code) → checkOf l ≡ refused k → fillOf l room ≡ refused k
+  pub short : WellFormed l → room < l .frame .h → fillOf l room ≡ refused (code 11 (l .frame .h ∷ []))
+  pub then : WellFormed l → l .frame .h ≤ room → fillOf l room ≡ overloadOf (windowsOf l)
 
 -- "In a longer buffer the bytes after H keep their values." "A refusal writes nothing to any lent buffer."
 abbrev pub planAfter : Outcome (Unit {0}) → Windows → List ℕ → List ℕ

@@ -3,14 +3,14 @@
 use mathlib.Core.Path.{_≡_, refl, sym, ap, _∙_}
 use mathlib.Core.Logic.{_⊎_, inl, inr}
 use mathlib.Core.List.{List, [], _∷_}
-use Prim.Native.Nat.{ℕ, zero, suc, _+_, _<_}
+use Prim.Native.Nat.{ℕ, zero, suc, _+_, _<_, _≤_}
 use native.Mathlib.Nat.{add-zero, zero-add}
 use native.Mathlib.Omega.{arith}
 use lib.ListN.{length, getD}
 use Rattle.base.specs.Outcomes.{Code, code, answered, refused}
 use Rattle.list.specs.Entries.{entryFault}
 use Rattle.list.specs.DayLists.{entriesOf, blank}
-use Rattle.list.specs.Checks.{entriesFault, valuesFault, checkOf}
+use Rattle.list.specs.Checks.{headerFault, openingFault, entriesFault, valuesFault, checkOf}
 use Rattle.list.specs.Laws.{FirstRow, sixteen, six, past-day, too-short, SoundValues, CheckLaw}
 use Rattle.list.specs.declared.types.Entry.{Entry}
 use Rattle.list.specs.declared.types.Frame.{Frame}
@@ -35,12 +35,23 @@ first-fault f at (x ∷ es) (suc i) h none k e =
     moved : (j : ℕ) → entryFault f (at + 1 + j) (getD es j blank) ≡ entryFault f (at + suc j) (getD es j blank)
     moved j = let z : at + 1 + j ≡ at + suc j = omega arith in ap (λ (p : ℕ). entryFault f p (getD es j blank)) z
 
+-- rows 2, 3 and 15, by the numbers; 3 and 15 carry the place given
+pub header-two : (place h n : ℕ) → (h ≡ 0) ⊎ (1440 < h) → headerFault place h n ≡ refused (code 2 (0 ∷ []))
+header-two place h n (inl z) = sym (cases.no-day place h n z)
+header-two place h n (inr l) = sym (cases.long-day place h n (omega arith) l)
+
+pub header-three : (place h n : ℕ) → 1 ≤ h → h ≤ 1440 → 64 < n → headerFault place h n ≡ refused (code 3 (place ∷ []))
+header-three place h n some day many = sym (cases.too-many place h n (omega arith) day many)
+
+pub opens-late : (place : ℕ) (f : Frame) → f .h ≤ f .opening → openingFault place f ≡ refused (code 15 (place ∷ []))
+opens-late place f h = sym (cases.opens-past-day place f h)
+
 -- the row that holds first is the entry's fault
-told : (f : Frame) (e : Entry) (place k : ℕ) → FirstRow f e k → entryFault f place e ≡ refused (code k (place ∷ []))
-told f e place _ (sixteen o) = sym (cases.before-opening f place e o)
-told f e place _ (six o z) = sym (cases.no-minutes f place e o z)
-told f e place _ (past-day o p h) = sym (cases.past-day f place e o (omega arith) h)
-told f e place _ (too-short o p w) =
+pub entry-told : (f : Frame) (e : Entry) (place k : ℕ) → FirstRow f e k → entryFault f place e ≡ refused (code k (place ∷ []))
+entry-told f e place _ (sixteen o) = sym (cases.before-opening f place e o)
+entry-told f e place _ (six o z) = sym (cases.no-minutes f place e o z)
+entry-told f e place _ (past-day o p h) = sym (cases.past-day f place e o (omega arith) h)
+entry-told f e place _ (too-short o p w) =
     le-or-lt (e .d) (f .h) (λ h. sym (cases.too-short f place e o (omega arith) h w))
     (λ h. sym (cases.past-day f place e o (omega arith) h))
 
@@ -64,11 +75,11 @@ module _ (l : DayList) where
               (record { header = s .header; opening = s .opening; entries = λ i h. sound-at l w i h }, list-apart l w),
           λ z. well-formed l (as-list (z .0)) (z .1),
         );
-        two = two;
-        three = λ some day many. rw (← (cases.too-many 0 (f .h) (l .n) (omega arith) day many)) refl;
-        fifteen = λ header h. rw (header-passes 0 (f .h) (l .n) header, ← (cases.opens-past-day 0 f h)) refl;
+        two = λ z. rw (header-two 0 (f .h) (l .n) z) refl;
+        three = λ some day many. rw (header-three 0 (f .h) (l .n) some day many) refl;
+        fifteen = λ header h. rw (header-passes 0 (f .h) (l .n) header, opens-late 0 f h) refl;
         entry = λ header o i h below k first.
-            let entry : entryFault f (0 + i) (getD es i blank) ≡ refused (code k (i ∷ [])) = simp zero-add (told f _ i k first) in
+            let entry : entryFault f (0 + i) (getD es i blank) ≡ refused (code k (i ∷ [])) = simp zero-add (entry-told f _ i k first) in
             rw (
               header-passes 0 (f .h) (l .n) header,
               opening-passes 0 f o,
@@ -76,7 +87,3 @@ module _ (l : DayList) where
             ) refl;
         fourteen = λ s i first. clash-law l .refuses i (sound-values l (as-list s)) first;
       }
-    where
-      two : (f .h ≡ 0) ⊎ (1440 < f .h) → checkOf l ≡ refused (code 2 (0 ∷ []))
-      two (inl z) = rw (← (cases.no-day 0 (f .h) (l .n) z)) refl
-      two (inr z) = rw (← (cases.long-day 0 (f .h) (l .n) (omega arith) z)) refl

@@ -16,8 +16,8 @@ use Rattle.list.specs.declared.types.Frame.{Frame}
 use Rattle.list.specs.declared.types.DayList.{DayList}
 use Rattle.base.proofs.Inversion.{Says}
 use Rattle.list.proofs.Sound.{check-tells, every-at-places, sound-list, sound-at, opening-passes, list-apart, well-formed}
-use Rattle.list.proofs.CheckCases.{opens-past-day, before-opening}
-use Rattle.list.proofs.CheckLaws.{first-fault}
+use Rattle.list.proofs.CheckCases.{before-opening}
+use Rattle.list.proofs.CheckLaws.{first-fault, opens-late}
 
 module _ (l : DayList) where
   abbrev f : Frame
@@ -81,7 +81,7 @@ module _ (l : DayList) where
         accepted = (opened, closed);
         before = λ k e. rw e refl;
         fifteen = λ at e. (rw e at told) .0 at refl;
-        opens-past-day = λ header h. rw (header, ← (opens-past-day 0 f h)) refl;
+        opens-past-day = λ header h. rw (header, opens-late 0 f h) refl;
         sixteen = λ i e. (rw e at told) .1 i refl;
         before-opening = λ header o i h r none.
             let entry : entryFault f (0 + i) (getD es i blank) ≡ refused (code 16 (i ∷ [])) =

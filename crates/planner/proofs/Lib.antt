@@ -5,6 +5,8 @@ pub mod Demands
 -- Lists that are planned alike, and document 01's examples.
 pub mod Alike
 pub mod Examples
+-- The rows of the calls in facts.
+pub mod RowLaws
 -- The contracts, and demand 3 alone, leave one answer.
 pub mod OneAnswer
 -- The fast way and the defined way.

@@ -1,13 +1,13 @@
 -- What the calls that narrow promise: "planning a list and showing an early or late plan".
-use Prim.Native.Nat.{ℕ}
+use Prim.Native.Nat.{ℕ, _<_, _≤_}
 use mathlib.Core.Path.{_≡_}
 use mathlib.Core.Bool.{Bool, cond}
 use mathlib.Core.List.{List, [], _∷_, _++_}
 use lib.ListN.{length, getD, take, drop, replicate}
 use lib.Dec.{eqb}
-use Rattle.base.specs.Outcomes.{Row, Outcome, answered, refused, firstOf, andThen}
+use Rattle.base.specs.Outcomes.{Code, code, Row, Outcome, answered, refused, firstOf, andThen}
 use Rattle.list.specs.DayLists.{emptyList, wholeIn, mostEntries}
-use Rattle.list.specs.Checks.{checkOf}
+use Rattle.list.specs.Checks.{checkOf, WellFormed}
 use Rattle.list.specs.declared.types.DayList.{DayList}
 use Rattle.list.specs.declared.types.Verdict.{Verdict}
 use Rattle.list.specs.declared.types.Verdict.the-variants.{Accepted}
@@ -17,7 +17,7 @@ use Rattle.windows.specs.Intervals.{overloadOf}
 use Rattle.jackson.specs.Minutes.{schedule}
 use Rattle.jackson.specs.Calls.{bufferRow}
 use Rattle.narrow.specs.Rounds.{Narrowed, narrowing}
-use Rattle.narrow.specs.Calls.{narrowedIn, AnswersAs, HoldsAnswer}
+use Rattle.narrow.specs.Calls.{settleOf, narrowedIn, AnswersAs, HoldsAnswer}
 use Rattle.bounds.specs.Ends.{leastEnds, greatestStarts}
 use Rattle.bounds.specs.ShownPlans.{earlyPlan, latePlan, boundOf, shownPlan}
 use Rattle.bounds.specs.Calls.{placeRow}
@@ -120,6 +120,16 @@ PlansDay l old = PlansAfter (planChecks l (length old)) l old
 -- the outcome of showing a plan of place k with a plan buffer of this length
 abbrev pub shownOf : DayList → ℕ → ℕ → Outcome Narrowed
 shownOf l k room = narrowAfter (shownChecks l k room) l
+
+-- `rows-law` of proofs/RowLaws.antt: the rows of a call with a plan buffer of this length, and of one that asks for place k, in the table's
+-- order, with what 13 and 11 carry; then narrowing, so that 9 and 10 are last
+pub record RowsLaw (l : DayList) (k room : ℕ) : Type 0 where
+  pub before : (c : Code) → checkOf l ≡ refused c → (planOf l room ≡ refused c) × (shownOf l k room ≡ refused c)
+  pub unknown : WellFormed l → l .n ≤ k → shownOf l k room ≡ refused (code 13 (k ∷ []))
+  pub plan-short : WellFormed l → room < l .frame .h → planOf l room ≡ refused (code 11 (l .frame .h ∷ []))
+  pub shown-short : WellFormed l → k < l .n → room < l .frame .h → shownOf l k room ≡ refused (code 11 (l .frame .h ∷ []))
+  pub plan-then : WellFormed l → l .frame .h ≤ room → planOf l room ≡ settleOf l
+  pub shown-then : WellFormed l → k < l .n → l .frame .h ≤ room → shownOf l k room ≡ settleOf l
 
 -- f, but v for the plan x of place k
 abbrev pub putShown : {A : Type 0} → Shown → ℕ → A → (Shown → ℕ → A) → Shown → ℕ → A

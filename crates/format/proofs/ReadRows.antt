@@ -1,0 +1,132 @@
+-- The rows of reading, each by what the bytes say.
+-- Assumes nothing.
+use mathlib.Core.Path.{_≡_, refl, ap}
+use mathlib.Core.Logic.{_⊎_, inl, inr}
+use mathlib.Core.Bool.{Bool, true, false, cond}
+use mathlib.Core.List.{List, [], _∷_}
+use Prim.Native.Nat.{ℕ, zero, suc, _+_, _≤_, _<_}
+use native.Mathlib.Omega.{arith}
+use borrow.Author.Tests.{eq-eqb, ne-eqb, lt-ltb, le-ltb}
+use lib.ListN.{length, getD, drop}
+use lib.Seq.{drop-drop}
+use Rattle.base.specs.Outcomes.{Code, code, Outcome, answered, refused, andThen}
+use Rattle.list.specs.Checks.{openingFault}
+use Rattle.list.specs.Laws.{Header}
+use Rattle.list.specs.declared.types.Entry.{Entry}
+use Rattle.list.specs.declared.types.Frame.{Frame}
+use Rattle.format.specs.Headers.{openingWritten, frameOf, countOf, entriesPlace, zeroWritten}
+use Rattle.format.specs.EntryFields.{fieldsEntry, entryOf}
+use Rattle.format.specs.Reading.{entriesFrom, entriesRead, bodyOf, openedOf, decodeOf, readOf}
+use Rattle.format.specs.Laws.{HeaderReads, EntryRow, no-map, map-breaks, field-missing, default, values, RowLaw}
+use Rattle.base.proofs.Inversion.{answered-same, answered-refused}
+use Rattle.list.proofs.Sound.{header-passes, opening-passes}
+use Rattle.list.proofs.CheckLaws.{entry-told, header-two, header-three, opens-late}
+use Rattle.format.proofs.ReadCases.{body-refused, body-left}
+
+-- the row that holds first turns the entry back
+entry-row : (f : Frame) (at : ℕ) (rest : List ℕ) (k : Code) → EntryRow f at rest k → entryOf f at rest ≡ refused k
+unfolding entryOf fieldsEntry
+entry-row f at rest _ (no-map z) = rw (z) (let q : at + 0 ≡ at = omega arith in rw q refl)
+entry-row f at rest _ (map-breaks s b) = let z : length rest ≡ 0 → ⊥ = omega arith in rw (ne-eqb _ _ z, b) refl
+entry-row f at rest _ (field-missing s b h) = let z : length rest ≡ 0 → ⊥ = omega arith in rw (ne-eqb _ _ z, b, lt-ltb _ _ h) refl
+entry-row f at rest _ (default s b h w) =
+    let z : length rest ≡ 0 → ⊥ = omega arith in
+    rw (ne-eqb _ _ z, b, le-ltb _ _ h, w) refl
+entry-row f at rest _ (values s b h w k first) =
+    let z : length rest ≡ 0 → ⊥ = omega arith in
+    rw (ne-eqb _ _ z, b, le-ltb _ _ h, w, entry-told f _ at k first) refl
+
+-- one entry in front of those that follow it
+abbrev withFirst : Entry → Outcome (List Entry × ℕ) → Outcome (List Entry × ℕ)
+withFirst e o = andThen o (λ more. answered (e ∷ more .0, more .1))
+
+module _ (f : Frame) (bs : List ℕ) where
+  -- where an entry is turned back, so are the n entries, those after it too
+  stops : (i n from : ℕ) (es : List Entry) (at : ℕ) → i < n → entriesFrom f i from (drop from bs) ≡ answered (es, at)
+      → (k : Code) → entryOf f at (drop at bs) ≡ refused k → entriesFrom f n from (drop from bs) ≡ refused k
+  unfolding entriesFrom
+  stops i zero from es at h e k r = absurd (omega arith)
+  stops zero (suc n) from es at h e k r =
+      let z : from ≡ at = ap (λ (x : List Entry × ℕ). x .1) (answered-same refl e) in
+      rw (z, r) refl
+  stops (suc i) (suc n) from es at h e k r =
+      go (λ size more read. stops i n (from + size) more at (omega arith) read k r) (entryOf f from (drop from bs)) refl e
+    where
+      rest : ℕ → Outcome (List Entry × ℕ)
+      rest size = entriesFrom f i (from + size) (drop size (drop from bs))
+
+      -- the entries after one of this size stop
+      Later : Type 0
+      Later =
+          (size : ℕ) (more : List Entry) → entriesFrom f i (from + size) (drop (from + size) bs) ≡ answered (more, at)
+          → entriesFrom f n (from + size) (drop (from + size) bs) ≡ refused k
+
+      after-one : Later → (one : Entry × ℕ) → entryOf f from (drop from bs) ≡ answered one
+          → (o : Outcome (List Entry × ℕ)) → rest (one .1) ≡ o
+          → withFirst (one .0) o ≡ answered (es, at)
+          → entriesFrom f (suc n) from (drop from bs) ≡ refused k
+      after-one later one q (refused x) p t = absurd (answered-refused t refl)
+      after-one later one q (answered more) p t =
+          let place : more .1 ≡ at = ap (λ (x : List Entry × ℕ). x .1) (answered-same refl t) in
+          let read : entriesFrom f i (from + one .1) (drop (from + one .1) bs) ≡ answered (more .0, at) =
+          rw (drop-drop (one .1) from bs, place) at p in
+          rw (q, drop-drop (one .1) from bs, later (one .1) (more .0) read) refl
+
+      go : Later → (o : Outcome (Entry × ℕ)) → entryOf f from (drop from bs) ≡ o
+          → andThen o (λ one. withFirst (one .0) (rest (one .1))) ≡ answered (es, at)
+          → entriesFrom f (suc n) from (drop from bs) ≡ refused k
+      go later (refused x) q s = absurd (answered-refused s refl)
+      go later (answered one) q s = after-one later one q (rest (one .1)) refl s
+
+module _ (bs : List ℕ) where
+  -- the header leaves the entries
+  entries-next : HeaderReads bs → decodeOf bs ≡ bodyOf bs
+  unfolding decodeOf openedOf
+  entries-next s =
+      let z = written (openingWritten bs) refl in
+      rw (le-ltb _ _ (s .long), header-passes 2 _ _ (s .header), le-ltb _ _ (z .0), z .1, opening-passes 3 _ (s .opens)) refl
+    where
+      written : (t : Bool) → openingWritten bs ≡ t → (entriesPlace bs ≤ length bs) × (zeroWritten bs ≡ false)
+      written true e =
+          let w = s .written e in
+          let z : frameOf bs .opening ≡ 0 → ⊥ = omega (arith, w .1) in
+          (rw e (w .0), rw (ne-eqb _ _ z, e) refl)
+      written false e = (rw e (s .long), rw e refl)
+
+  turned : (k : Code) → decodeOf bs ≡ refused k → readOf bs ≡ refused k
+  unfolding readOf
+  turned k e = rw e refl
+
+  pub row-law : RowLaw bs
+  unfolding decodeOf openedOf
+  row-law =
+      record {
+        short = λ h. turned _ (rw (lt-ltb _ _ h) refl);
+        two = λ h z. turned _ (rw (le-ltb _ _ h, header-two 2 _ (countOf bs) z) refl);
+        three = λ h some day many. turned _ (rw (le-ltb _ _ h, header-three 2 _ _ some day many) refl);
+        no-minute = λ h header e short. turned _ (rw (le-ltb _ _ h, header-passes 2 _ _ header, e, lt-ltb _ _ short) refl);
+        fifteen = fifteen;
+        entry = λ s i h es at read k first.
+            turned k
+            (rw (entries-next s)
+            (body-refused bs _ _ _ refl refl refl k
+            (stops (frameOf bs) bs i (countOf bs) (entriesPlace bs) es at h read k (entry-row _ at _ k first))));
+        eight = λ s es at read h. turned _ (rw (entries-next s) (body-left bs _ _ _ refl refl refl es at read h));
+      }
+    where
+      fifteen : Header (frameOf bs .h) (countOf bs) → openingWritten bs ≡ true → 5 ≤ length bs
+          → (frameOf bs .opening ≡ 0) ⊎ (frameOf bs .h ≤ frameOf bs .opening) → readOf bs ≡ refused (code 15 (3 ∷ []))
+      fifteen header e h which =
+          turned _ (rw (le-ltb _ _ (let z : 3 ≤ length bs = omega arith in z), header-passes 2 _ _ header, le-ltb _ _ place) (go which))
+        where
+          place : entriesPlace bs ≤ length bs
+          place = rw e h
+
+          go : (frameOf bs .opening ≡ 0) ⊎ (frameOf bs .h ≤ frameOf bs .opening)
+              → cond (zeroWritten bs) (refused (code 15 (3 ∷ []))) (andThen (openingFault 3 (frameOf bs)) (λ _. bodyOf bs))
+              ≡ refused (code 15 (3 ∷ []))
+          go (inl z) = let zero-is : zeroWritten bs ≡ true = rw (eq-eqb _ _ z, e) refl in rw zero-is refl
+          go (inr late) =
+              let z : frameOf bs .opening ≡ 0 → ⊥ = omega (arith, header .some-minutes) in
+              let later : zeroWritten bs ≡ false = rw (ne-eqb _ _ z, e) refl in
+              rw (later, opens-late 3 (frameOf bs) late) refl
