@@ -6,6 +6,8 @@ pub mod EndBounds
 pub mod StartBounds
 -- Bounds and shown plans as functions of the windows.
 pub mod ShownFacts
+-- The rows of a shown plan in facts.
+mod ShowLaws
 -- What the code's proofs cite, case by case.
 mod EndCases
 mod ShownCases

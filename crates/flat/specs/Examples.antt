@@ -1,5 +1,5 @@
--- The layout of a row, number by number, stored and read, the length of the layout before lists had an opening minute, and a stamped day's row;
--- `flat-examples` of proofs/Examples.antt proves it.
+-- The layout of a row, number by number, stored and read, the length of the layout before lists had an opening minute, and a stamped
+-- day's row; `flat-examples` of proofs/Examples.antt proves it.
 use mathlib.Core.Path.{_≡_}
 use mathlib.Core.List.{[], _∷_, _++_}
 use lib.ListN.{take, drop}

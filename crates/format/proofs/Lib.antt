@@ -1,5 +1,6 @@
--- What reading says of an input and writing of a list, and the round trips, with what they rest on: map bytes, the places of fields, of map bytes and those that
--- refusals carry; the longest one form; and that the first 966 bytes decide how an input is read. The crates above may cite what is public.
+-- What reading says of an input and writing of a list, and the round trips, with what they rest on: map bytes, the places of fields, of
+-- map bytes and those that refusals carry; the longest one form; and that the first 966 bytes decide how an input is read. The crates above
+-- may cite what is public.
 mod MapBytes
 pub mod Places
 mod CarriedPlaces

@@ -7,7 +7,7 @@ use mathlib.Core.List.{List, [], _∷_}
 use Prim.Native.Nat.{ℕ, zero, suc, _+_, _≤_, _<_}
 use native.Mathlib.Omega.{arith}
 use borrow.Author.Tests.{eq-eqb, ne-eqb, lt-ltb, le-ltb}
-use lib.ListN.{length, getD, drop}
+use lib.ListN.{length, drop}
 use lib.Seq.{drop-drop}
 use Rattle.base.specs.Outcomes.{Code, code, Outcome, answered, refused, andThen}
 use Rattle.list.specs.Checks.{openingFault}
@@ -16,7 +16,7 @@ use Rattle.list.specs.declared.types.Entry.{Entry}
 use Rattle.list.specs.declared.types.Frame.{Frame}
 use Rattle.format.specs.Headers.{openingWritten, frameOf, countOf, entriesPlace, zeroWritten}
 use Rattle.format.specs.EntryFields.{fieldsEntry, entryOf}
-use Rattle.format.specs.Reading.{entriesFrom, entriesRead, bodyOf, openedOf, decodeOf, readOf}
+use Rattle.format.specs.Reading.{entriesFrom, bodyOf, openedOf, decodeOf, readOf}
 use Rattle.format.specs.Laws.{HeaderReads, EntryRow, no-map, map-breaks, field-missing, default, values, RowLaw}
 use Rattle.base.proofs.Inversion.{answered-same, answered-refused}
 use Rattle.list.proofs.Sound.{header-passes, opening-passes}

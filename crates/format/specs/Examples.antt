@@ -1,4 +1,5 @@
--- The table's order of rows, days that have a serial twice, and rooms that open after midnight, as one statement; `read-examples` of proofs/Examples.antt proves it.
+-- The table's order of rows, days that have a serial twice, and rooms that open after midnight, as one statement;
+-- `read-examples` of proofs/Examples.antt proves it.
 use Prim.Native.Nat.{ℕ, _+_}
 use mathlib.Core.Path.{_≡_}
 use mathlib.Core.List.{List, [], _∷_, _++_}

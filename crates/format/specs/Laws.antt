@@ -1,5 +1,5 @@
--- What reading says of an input and writing of a list, in facts: `read-law` of proofs/ReadLaws.antt and `write-law` of proofs/WriteLaws.antt,
--- for all inputs, lists and buffers; and how long lists are.
+-- What reading says of an input and writing of a list, in facts: `read-law` of proofs/ReadLaws.antt and `write-law` of
+-- proofs/WriteLaws.antt, for all inputs, lists and buffers; and how long lists are.
 use Prim.Native.Nat.{ℕ, _+_, _<_, _≤_}
 use mathlib.Core.Path.{_≡_}
 use mathlib.Core.Logic.{_⊎_}

@@ -13,7 +13,7 @@ pub mod StoredPlans
 pub mod Stretches
 mod StretchCounts
 pub mod StretchBytes
--- Lists that are planned alike, and the rows of filling a plan buffer.
+-- Lists that are planned alike, and the rows of the overload test and of filling a plan buffer.
 pub mod Alike
 pub mod FillLaws
 -- What the code's proofs cite, case by case.

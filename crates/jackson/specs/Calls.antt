@@ -22,6 +22,11 @@ use Rattle.jackson.specs.declared.types.DayAnswer.{DayAnswer}
 unfoldable pub testOf : DayList → Outcome (Unit {0})
 testOf l = andThen (checkOf l) (λ _. overloadOf (windowsOf l))
 
+-- `test-law` of proofs/FillLaws.antt: 9 last
+pub record TestLaw (l : DayList) : Type 0 where
+  pub before : (k : Code) → checkOf l ≡ refused k → testOf l ≡ refused k
+  pub then : WellFormed l → testOf l ≡ overloadOf (windowsOf l)
+
 -- "A plan exists exactly when no interval is overloaded": what an answer whose last row tested is 9 says of plans
 pub record Decides (l : DayList) (o : Outcome (Unit {0})) : Type 0 where
   pub planned : o ≡ answered tt → Plannable (windowsOf l)

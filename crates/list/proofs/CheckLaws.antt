@@ -16,8 +16,8 @@ use Rattle.list.specs.declared.types.Entry.{Entry}
 use Rattle.list.specs.declared.types.Frame.{Frame}
 use Rattle.list.specs.declared.types.DayList.{DayList}
 use Rattle.base.proofs.Sums.{le-or-lt}
-use Rattle.list.proofs.Sound.{header-passes, opening-passes, faultless, every-at-places, sound-list, sound-at, sound-values, list-apart}
-use Rattle.list.proofs.Sound.{SoundList, well-formed}
+use Rattle.list.proofs.Sound.{SoundList, header-passes, opening-passes, faultless, every-at-places, sound-list, sound-at}
+use Rattle.list.proofs.Sound.{sound-values, list-apart, well-formed}
 use Rattle.list.proofs.ClashLaws.{clash-law}
 use Rattle.list.proofs.CheckCases as cases
 

@@ -19,8 +19,9 @@ pub mod OneOutcome
 -- A search of a round in the mirror, and lists that are narrowed alike.
 mod MirrorSides
 pub mod Alike
--- The list with the windows found, and what the answers of the calls on lists say.
+-- The list with the windows found, the rows of the calls on lists, and what their answers say.
 pub mod ListWindows
+mod ListRows
 pub mod ListAnswers
 -- What the code's proofs cite, case by case.
 mod RoundCases

@@ -4,7 +4,7 @@ use mathlib.Core.Path.{_≡_}
 use mathlib.Core.Bool.{Bool}
 use mathlib.Core.List.{List, [], _∷_, map}
 use lib.ListN.{getD}
-use Rattle.base.specs.Outcomes.{Outcome, answered, refused, andThen}
+use Rattle.base.specs.Outcomes.{Code, Outcome, answered, refused, andThen}
 use Rattle.list.specs.Refusals.{outcomeOf}
 use Rattle.list.specs.DayLists.{entriesOf, blank, dayList, emptyList, wholeIn, SameBox}
 use Rattle.list.specs.Checks.{checkOf, WellFormed}
@@ -67,6 +67,13 @@ settleOf l = andThen (checkOf l) (λ _. narrowing overloadOf (wholeIn l) (window
 -- one round: the value check, then the round and row 10. Row 9 is not tested: the windows may have no plan.
 unfoldable pub roundOf : DayList → Outcome Narrowed
 roundOf l = andThen (checkOf l) (λ _. round overloadOf (wholeIn l) (unmoved (windowsOf l)))
+
+-- the same in facts: the value check comes first. `checked-law` of proofs/ListRows.antt
+pub record CheckedLaw (l : DayList) : Type 0 where
+  pub settle-before : (k : Code) → checkOf l ≡ refused k → settleOf l ≡ refused k
+  pub settle-then : WellFormed l → settleOf l ≡ narrowing overloadOf (wholeIn l) (windowsOf l)
+  pub round-before : (k : Code) → checkOf l ≡ refused k → roundOf l ≡ refused k
+  pub round-then : WellFormed l → roundOf l ≡ round overloadOf (wholeIn l) (unmoved (windowsOf l))
 
 -- the list with the windows answered, and the moves
 abbrev pub listed : DayList → Outcome Narrowed → Outcome (DayList × ℕ)

@@ -55,6 +55,12 @@ settledOr x f (refused k) = x
 abbrev pub planned : (Windows → List ℕ) → List ℕ → Outcome Narrowed → List ℕ
 planned f old = settledOr old (λ w. f w ++ drop (w .h) old)
 
+-- the same in facts, where f gives a plan of H bytes: `buffer-law` of proofs/RowLaws.antt
+pub record BufferLaw (f : Windows → List ℕ) (old : List ℕ) (o : Outcome Narrowed) : Type 0 where
+  pub stays : (c : Code) → o ≡ refused c → planned f old o ≡ old
+  pub plan : (v : Narrowed) → o ≡ answered v → take (v .windows .h) (planned f old o) ≡ f (v .windows)
+  pub after : (v : Narrowed) → o ≡ answered v → (j : ℕ) → v .windows .h ≤ j → getD (planned f old o) j 0 ≡ getD old j 0
+
 -- Planning a list.
 
 -- the outcome of planning with a plan buffer of this length

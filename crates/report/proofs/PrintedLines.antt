@@ -1,6 +1,6 @@
 -- The numbers that lines say are those of which they were made.
 -- Assumes nothing.
-use mathlib.Core.Path.{_≡_, refl, ap, _∙_}
+use mathlib.Core.Path.{_≡_, refl, sym, ap, _∙_}
 use mathlib.Core.Bool.{Bool, true, false, cond}
 use mathlib.Core.List.{List, [], _∷_, _++_, map, map-append}
 use Prim.Native.Nat.{ℕ, zero, suc, _<_, _≤_}
@@ -9,7 +9,7 @@ use borrow.Author.Tests.{ne-eqb}
 use lib.ListN.{length, getD, take, drop, List·getD-append}
 use lib.Dec.{eqb}
 use lib.Seq.{take-suc, take-all, drop-at}
-use Rattle.base.specs.Outcomes.{code}
+use Rattle.base.specs.Outcomes.{Code, code}
 use Rattle.list.specs.DayLists.{blank, dayList}
 use Rattle.list.specs.declared.types.Seal.{Seal}
 use Rattle.list.specs.declared.types.Seal.the-variants.{Missing, Number}
@@ -17,11 +17,12 @@ use Rattle.list.specs.declared.types.Kind.{Kind}
 use Rattle.list.specs.declared.types.Kind.the-variants.{Pause, Whole}
 use Rattle.list.specs.declared.types.Entry.{Entry}
 use Rattle.base.specs.Counting.{listOf}
-use Rattle.report.specs.Text.{ascii, decimal, line}
+use Rattle.report.specs.Text.{ascii, digits, decimal, line}
 use Rattle.report.specs.Reports.{sealText, kindText, refusalLine}
 use Rattle.report.specs.Printed.{LineFields, linesOf, lineAt, numberIn, sameField, sealSaid, kindSaid, entrySaid, listPrinted}
 use Rattle.report.specs.Printed.{dayPrinted, countPrinted, movesPrinted, brokenPrinted, placePrinted, endPrinted, startPrinted}
 use Rattle.report.specs.Printed.{runsPrinted, codePrinted}
+use Rattle.report.specs.Laws.{LineLaw}
 use Rattle.report.proofs.DecimalFacts.{decimal-is}
 use Rattle.report.proofs.Fields.{Word, Words, decimal-word, line-alone, kept, all-length, all-at}
 
@@ -141,6 +142,10 @@ module _ {text : List ℕ} {h n moves broken : ℕ} {e : ℕ → Entry} {end sta
       ∙ List·getD-append (kept n (λ _. true) fields) runs [] i (omega (arith, all-length fields n))
       ∙ all-at fields n i l
 
+  -- the same fields, of the numbers that the lines say
+  pub head-line : lineAt text 0 ≡ headFields (dayPrinted text) (countPrinted text) (movesPrinted text) (brokenPrinted text)
+  head-line = head-is ∙ sym (λ j. headFields (day-is j) (count-is j) (moves-is j) (broken-printed-is j))
+
   pub place-is : (i : ℕ) → i < n → placePrinted text i ≡ i
   place-is i l = ap (λ (fs : LineFields). numberIn fs 0) (line-is i l) ∙ decimal-is i .value
 
@@ -149,6 +154,12 @@ module _ {text : List ℕ} {h n moves broken : ℕ} {e : ℕ → Entry} {end sta
 
   pub start-printed-is : (i : ℕ) → i < n → startPrinted text i ≡ start i
   start-printed-is i l = ap (λ (fs : LineFields). numberIn fs 8) (line-is i l) ∙ decimal-is (start i) .value
+
+  pub entry-line : (i : ℕ) → i < n → lineAt text (suc i)
+      ≡ entryFields (placePrinted text i) (entrySaid (lineAt text (suc i))) (endPrinted text i) (startPrinted text i)
+  entry-line i l =
+      let said : entrySaid (lineAt text (suc i)) ≡ e i = ap entrySaid (line-is i l) ∙ entry-said i (e i) (end i) (start i) in
+      line-is i l ∙ sym (λ j. entryFields (place-is i l j) (said j) (end-printed-is i l j) (start-printed-is i l j))
 
   pub runs-is : runsPrinted text ≡ runs
   runs-is =
@@ -205,3 +216,14 @@ module _ (k x : ℕ) (other : k ≡ 9 → ⊥) where
           ≡ code k (x ∷ [])
       go true = with-word (ascii "entry") (omega arith)
       go false = with-word (ascii "at") (omega arith)
+
+-- the fields of every refusal's line
+module _ (k : Code) where
+  pub line-law : LineLaw k
+  unfolding refusalLine ascii decimal digits
+  line-law =
+      record {
+        nine = λ z. rw z (line-alone _ (nine-words (getD (k .carries) 0 0) (getD (k .carries) 1 0) (getD (k .carries) 2 0)));
+        ten = λ z. rw z (line-alone _ (search (decimal-word, arith) depth 12));
+        other = λ nine ten. rw (ne-eqb _ _ nine, ne-eqb _ _ ten) (line-alone _ (search (decimal-word, arith) depth 12));
+      }

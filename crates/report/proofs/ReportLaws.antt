@@ -48,7 +48,7 @@ use Rattle.report.specs.Laws.{SaysRuns, PrintsPlan, PrintsRefusal, Repor
 use Rattle.report.proofs.Fields.{text-said, kept, kept-each, kept-text}
 use Rattle.report.proofs.PrintedLines.{headFields, head-words, entryFields, entry-words, Lines, day-is, count-is, moves-is}
 use Rattle.report.proofs.PrintedLines.{broken-printed-is, place-is, end-printed-is, start-printed-is, runs-is, list-printed-is}
-use Rattle.report.proofs.PrintedLines.{nine-said, one-said}
+use Rattle.report.proofs.PrintedLines.{head-line, entry-line, nine-said, one-said, line-law}
 use Rattle.report.proofs.PrintedRuns.{runFields, run-words, runsOf, place-said, runs-said}
 
 -- The lines of a list's text.
@@ -168,6 +168,8 @@ module _ (l : DayList) (formed : WellFormed l) (v : Narrowed) (e : narrowing ove
   prints-plan =
       record {
         list = list-printed ∙ ap (listWith l) (sym windows-printed);
+        head-line = head-line lines;
+        entry-lines = λ i below. entry-line lines i (omega (arith, count-is lines));
         places = λ i below. place-is lines i (omega (arith, count-is lines));
         demand2 = coe 1 0 (j. PlansWindows whole (windows-printed j) (plan-printed j) (broken-printed-is lines j)) demand2-given;
         demand3 = demand3 whole (windowsOf l) given (toldBy text) (told-is ∙ sym e) rules;
@@ -180,7 +182,7 @@ abbrev Says : Code → Type 0
 Says k = codePrinted (refusalLine k) ≡ k
 
 prints-refusal : (k : Code) → Says k → PrintsRefusal k (refusalLine k)
-prints-refusal k says = record { line = refl; says = says }
+prints-refusal k says = record { line = refl; fields = line-law k; says = says }
 
 -- no row of reading is 9, which carries more than a place
 not-nine : (n : ℕ) → ReadingRow n → n ≡ 9 → ⊥

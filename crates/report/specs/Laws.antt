@@ -1,8 +1,8 @@
 -- Demands 2 and 3 of the numbers that stand in the bytes printed: `report-law` of proofs/ReportLaws.antt, for every input.
-use Prim.Native.Nat.{ℕ, _<_}
+use Prim.Native.Nat.{ℕ, suc, _<_}
 use mathlib.Core.Path.{_≡_}
 use mathlib.Core.Logic.{_↔_}
-use mathlib.Core.List.{List, []}
+use mathlib.Core.List.{List, [], _∷_}
 use lib.ListN.{length, getD}
 use Rattle.base.specs.Outcomes.{Code, answered, refused}
 use Rattle.format.specs.Reading.{readOf}
@@ -15,9 +15,11 @@ use Rattle.narrow.specs.Calls.{listWith}
 use Rattle.planner.specs.Demand3.{Demand3}
 use Rattle.planner.specs.Demand2.{PlansWindows}
 use Rattle.report.specs.Runs.{Run}
-use Rattle.report.specs.Reports.{refusalLine, reportOf}
-use Rattle.report.specs.Printed.{LineFields, numberIn, dayPrinted, countPrinted, brokenPrinted, listPrinted, windowsPrinted}
-use Rattle.report.specs.Printed.{placePrinted, runsPrinted, planPrinted, toldBy, codePrinted, toldRefused}
+use Rattle.report.specs.Text.{ascii, decimal}
+use Rattle.report.specs.Reports.{sealText, kindText, refusalLine, reportOf}
+use Rattle.report.specs.Printed.{LineFields, linesOf, lineAt, numberIn, dayPrinted, countPrinted, movesPrinted, brokenPrinted}
+use Rattle.report.specs.Printed.{entrySaid, listPrinted, windowsPrinted, placePrinted, endPrinted, startPrinted}
+use Rattle.report.specs.Printed.{runsPrinted, planPrinted, toldBy, codePrinted, toldRefused}
 
 -- a run's line says the minutes from s to e and the place k
 pub record SaysRun (fs : LineFields) (s e k : ℕ) : Type 0 where
@@ -34,6 +36,14 @@ pub record SaysRuns (h : ℕ) (m : ℕ → ℕ) (ls : List LineFields) : Type 0 
 pub record PrintsPlan (l : DayList) (text : List ℕ) : Type 0 where
   -- H, n, and of each entry the serial, seal, kind and minutes of work are those of l; the opening minute of l is not printed
   pub list : listPrinted (l .frame .opening) text ≡ listWith l (windowsPrinted text)
+  -- the head line and those of the entries have these fields, with these words, and no others
+  pub head-line : lineAt text 0
+      ≡ ascii "day" ∷ decimal (dayPrinted text) ∷ ascii "entries" ∷ decimal (countPrinted text) ∷ ascii "moves"
+      ∷ decimal (movesPrinted text) ∷ ascii "broken" ∷ decimal (brokenPrinted text) ∷ []
+  pub entry-lines : (i : ℕ) → i < countPrinted text → let e = entrySaid (lineAt text (suc i)) in
+      lineAt text (suc i)
+      ≡ decimal (placePrinted text i) ∷ decimal (e .serial) ∷ sealText (e .seal) ∷ kindText (e .kind) ∷ decimal (e .r) ∷ decimal (e .d)
+      ∷ decimal (e .p) ∷ decimal (endPrinted text i) ∷ decimal (startPrinted text i) ∷ []
   -- the lines of the entries are in the order of their places
   pub places : (i : ℕ) → i < countPrinted text → placePrinted text i ≡ i
   -- the plan printed is Jackson's schedule of the windows printed, and a plan; `broken` counts the whole entries that it breaks
@@ -43,9 +53,20 @@ pub record PrintsPlan (l : DayList) (text : List ℕ) : Type 0 where
   -- the runs printed are the maximal runs of that plan
   pub runs : SaysRuns (dayPrinted text) (placesIn (planPrinted text)) (runsPrinted text)
 
+-- the fields of every refusal's line, with their words: `line-law` of proofs/PrintedLines.antt
+pub record LineLaw (k : Code) : Type 0 where
+  pub nine : k .number ≡ 9 → linesOf (refusalLine k)
+      ≡ (ascii "refused" ∷ ascii "9" ∷ ascii "from" ∷ decimal (getD (k .carries) 0 0) ∷ ascii "to" ∷ decimal (getD (k .carries) 1 0)
+      ∷ ascii "work" ∷ decimal (getD (k .carries) 2 0) ∷ []) ∷ []
+  pub ten : k .number ≡ 10
+      → linesOf (refusalLine k) ≡ (ascii "refused" ∷ ascii "10" ∷ ascii "entry" ∷ decimal (getD (k .carries) 0 0) ∷ []) ∷ []
+  pub other : (k .number ≡ 9 → ⊥) → (k .number ≡ 10 → ⊥)
+      → linesOf (refusalLine k) ≡ (ascii "refused" ∷ decimal (k .number) ∷ ascii "at" ∷ decimal (getD (k .carries) 0 0) ∷ []) ∷ []
+
 -- the line of the refusal k: its bytes, and what they say
 pub record PrintsRefusal (k : Code) (text : List ℕ) : Type 0 where
   pub line : text ≡ refusalLine k
+  pub fields : LineLaw k
   pub says : codePrinted text ≡ k
 
 -- what is printed for the input bs: one of three, and not two, since `readOf` and `reportOf` have one outcome

@@ -1,18 +1,13 @@
 -- Lists that have the same windows: those that differ in their opening minute, serials, seals and kinds alone.
 -- Assumes nothing.
 use mathlib.Core.Path.{_≡_, sym, ap, _∙_}
-use mathlib.Core.List.{List, map}
+use mathlib.Core.List.{List}
 use Prim.Native.Nat.{ℕ}
 use lib.ListN.{length, getD, length-map, List·getD-map}
-use Rattle.list.specs.DayLists.{entriesOf, blank, SameList}
+use Rattle.list.specs.DayLists.{entriesOf, blank}
 use Rattle.list.specs.declared.types.Entry.{Entry}
-use Rattle.list.specs.declared.types.Frame.{Frame}
 use Rattle.list.specs.declared.types.DayList.{DayList}
 use Rattle.windows.specs.Windows.{windowsOf, plain, SameWindows}
-
--- lists that are equal have the same numbers
-pub same-alike : {a b : DayList} → SameList a b → SameWindows a b
-same-alike s = record { h = ap (λ (f : Frame). f .h) (s .frame); n = s .n; entries = ap (map plain) (s .entries) }
 
 module _ {a b : DayList} (s : SameWindows a b) where
   -- lists of the same numbers have the same windows
