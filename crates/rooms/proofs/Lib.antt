@@ -10,6 +10,7 @@ mod SharesApart
 mod DeskTurns
 mod TurnFacts
 pub mod TurnLaws
+mod HeldLaws
 pub mod RunLaws
 mod Examples
 -- What the code's proofs cite, case by case.

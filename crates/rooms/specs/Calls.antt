@@ -2,7 +2,7 @@
 use Prim.Native.Nat.{ℕ, _<_, _≤_}
 use mathlib.Core.Path.{_≡_}
 use mathlib.Core.List.{List, _++_}
-use lib.ListN.{take, drop}
+use lib.ListN.{length, take, drop}
 use Rattle.base.specs.Outcomes.{Outcome, answered, refused}
 use Rattle.list.specs.Refusals.{codeOf, verdictOf}
 use Rattle.list.specs.declared.types.Refusal.the-variants.{RoomCount}
@@ -39,3 +39,9 @@ pub record TurnsFirst (held : List Room) (n : ℕ) (old : List ℕ) (number : �
 pub record TurnsHeld (held : List Room) (n : ℕ) (old : List ℕ) (number : ℕ) (a : HeldAnswer) (new : List ℕ) : Type 0 where
   pub few : n ≤ mostRooms → TurnsFirst held n old number a new
   pub many : mostRooms < n → (a ≡ record { rows = held; answer = NotTurned (RoomCount n) }) × (new ≡ old)
+
+-- so it refuses over eight rooms as `turn` refuses as many rows: `held-law` of proofs/HeldLaws.antt
+abbrev pub HeldLaw : Type 0
+HeldLaw =
+    (held : List Room) (n : ℕ) (old : List ℕ) (number : ℕ) (a : HeldAnswer) (new : List ℕ) → TurnsHeld held n old number a new → 8 < n
+    → (x : Lent) → length (x .rows) ≡ n → turnAnswerOf (a .answer) ≡ turnOf x number

@@ -10,7 +10,7 @@ use Rattle.base.specs.Outcomes.{Code, Outcome, answered, refused}
 use Rattle.base.proofs.Inversion.{Says, by-row}
 use Rattle.windows.specs.Windows.{Windows}
 use Rattle.windows.specs.Intervals.{work, Overloaded, IntervalShown, NoOverload, ShowsOverload, isOverloaded, leftOf, leftEnd}
-use Rattle.windows.specs.Intervals.{rightOf, rightEnd, overloadOf}
+use Rattle.windows.specs.Intervals.{rightOf, rightEnd, overloadOf, OverloadLaw}
 use Rattle.base.proofs.Scans.{smaller-ranks, larger-ranks, best-below, best-some, best-smallest, best-largest}
 
 -- what the overload test says by its answer, and by a refusal
@@ -91,6 +91,9 @@ module _ (w : Windows) where
   -- a refusal carries the interval shown and its work
   pub refused-shown : (k : Code) → overloadOf w ≡ refused k → ShowsOverload w k
   refused-shown k e = rw e at test-says
+
+  pub overload-law : OverloadLaw w
+  overload-law = record { none = (accepted-none, none-accepted); shown = refused-shown }
 
   -- one interval only is shown
   pub shown-one : (a b a′ b′ : ℕ) → IntervalShown w a b → IntervalShown w a′ b′ → (a ≡ a′) × (b ≡ b′)

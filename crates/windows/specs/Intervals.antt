@@ -1,10 +1,11 @@
 -- Overloaded intervals.
 use Prim.Native.Nat.{ℕ, _-_, _<_, _≤_}
 use mathlib.Core.Path.{_≡_}
+use mathlib.Core.Logic.{_↔_}
 use mathlib.Core.Bool.{Bool, cond, _&&_}
 use mathlib.Core.List.{[], _∷_}
 use lib.Dec.{leb, ltb}
-use Rattle.base.specs.Outcomes.{Code, code, Outcome, answered, firstOf}
+use Rattle.base.specs.Outcomes.{Code, code, Outcome, answered, refused, firstOf}
 use Rattle.base.specs.Counting.{sum, best, smaller, larger}
 use Rattle.windows.specs.Windows.{Windows}
 
@@ -68,3 +69,8 @@ overloadOf w =
     let b = w .d j in
     let a = w .r (leftEnd w b) in
     firstOf (record { holds = ltb j (w .n); refusal = code 9 (a ∷ b ∷ work w a b ∷ []) } ∷ []) (answered tt)
+
+-- the same in facts, for all windows: `overload-law` of proofs/ShownInterval.antt
+pub record OverloadLaw (w : Windows) : Type 0 where
+  pub none : (overloadOf w ≡ answered tt) ↔ NoOverload w
+  pub shown : (k : Code) → overloadOf w ≡ refused k → ShowsOverload w k
