@@ -1,11 +1,12 @@
 -- What the numbers of an answer say, and what a refusal leaves.
 -- Assumes nothing.
 use mathlib.Core.Path.{_≡_, refl, ap, _∙_}
-use mathlib.Core.List.{List, _++_}
-use Prim.Native.Nat.{ℕ, _+_, _<_}
+use mathlib.Core.Logic.{_⊎_, inl, inr}
+use mathlib.Core.List.{List, [], _∷_, _++_}
+use Prim.Native.Nat.{ℕ, suc, _+_, _*_, _<_, _≤_}
 use borrow.Author.Tests.{lt-ltb}
-use lib.ListN.{length, getD, List·getD-append}
-use lib.Seq.{getD-append-add}
+use lib.ListN.{length, getD, set, List·getD-append}
+use lib.Seq.{sets, getD-append-add, getD-set-other}
 use native.Mathlib.Omega.{arith}
 use Rattle.base.specs.Outcomes.{Code, Outcome, answered, refused}
 use Rattle.list.specs.DayLists.{wholeIn, byPlace}
@@ -13,6 +14,8 @@ use Rattle.bounds.specs.Ends.{leastEnds, greatestStarts}
 use Rattle.report.specs.Calls.{storeOf, textAfter}
 use Rattle.base.proofs.Listed.{list-length}
 use Rattle.list.proofs.ByPlace.{by-place-at}
+use Rattle.rooms.specs.Turns.{took}
+use Rattle.room_rows.specs.Calls.{roomsBy}
 use Rattle.abi.specs.Laws.{AnswerLaws}
 
 -- numbers by place, and others behind them
@@ -26,6 +29,17 @@ by-first n f g i h l =
 by-second : (n : ℕ) (f g : ℕ → ℕ) (i : ℕ) → i < 64 → i < n → getD (byPlace n f ++ byPlace n g) (64 + i) 0 ≡ g i
 by-second n f g i h l =
     (rw (by-length n f) at (getD-append-add (byPlace n f) (byPlace n g) i 0)) ∙ by-place-at g n i h ∙ rw (lt-ltb _ _ l) refl
+
+-- three numbers stored one after the other leave every other number
+three-apart : (xs : List ℕ) (i a b c j : ℕ) → (j < i) ⊎ (i + 3 ≤ j) → getD (sets xs i (a ∷ b ∷ c ∷ [])) j 0 ≡ getD xs j 0
+three-apart xs i a b c j apart =
+    getD-set-other (set (set xs i a) (suc i) b) (suc (suc i)) j c 0 (λ e. other (omega arith) (omega arith) apart)
+    ∙ getD-set-other (set xs i a) (suc i) j b 0 (λ e. other (omega arith) (omega arith) apart)
+    ∙ getD-set-other xs i j a 0 (λ e. other (omega arith) (omega arith) apart)
+  where
+    other : i ≤ j → j < i + 3 → (j < i) ⊎ (i + 3 ≤ j) → ⊥
+    other low high (inl h) = omega arith
+    other low high (inr h) = omega arith
 
 -- a text that is not stored leaves the buffer
 no-text : (o : Outcome (List ℕ)) (old : List ℕ) (k : Code) → storeOf o (length old) ≡ refused k → textAfter o old ≡ old
@@ -62,6 +76,9 @@ answer-laws =
       not-made = λ o old a new c k e. (c .answer ∙ rw e refl, c .day .buffer ∙ rw e refl);
       not-committed = λ d e o w p f b a day plan fields bounds c k q. c .day .buffer ∙ rw q refl;
       turned = λ x o xs old a rooms lists carried c i next e. (c .answer ∙ rw e refl, c .left .carried ∙ rw e refl);
+      other-rooms = λ x o xs old a rooms lists carried c i said next e j apart.
+          let are : rooms ≡ roomsBy (answered (took i said next)) x xs = c .left .rooms ∙ rw e refl in
+          ap (λ (z : List ℕ). getD z j 0) are ∙ three-apart xs (3 * i) _ _ _ j apart;
       stopped = λ x o xs old a rooms lists carried c i k next e. (c .answer ∙ rw e refl, c .left .carried ∙ rw e refl);
       nothing =
           λ x o xs old a rooms lists carried c used e.

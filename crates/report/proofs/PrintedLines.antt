@@ -17,7 +17,7 @@ use Rattle.list.specs.declared.types.Kind.{Kind}
 use Rattle.list.specs.declared.types.Kind.the-variants.{Pause, Whole}
 use Rattle.list.specs.declared.types.Entry.{Entry}
 use Rattle.base.specs.Counting.{listOf}
-use Rattle.report.specs.Text.{ascii, digits, decimal, line}
+use Rattle.report.specs.Text.{ascii, decimal, line}
 use Rattle.report.specs.Reports.{sealText, kindText, refusalLine}
 use Rattle.report.specs.Printed.{LineFields, linesOf, lineAt, numberIn, sameField, sealSaid, kindSaid, entrySaid, listPrinted}
 use Rattle.report.specs.Printed.{dayPrinted, countPrinted, movesPrinted, brokenPrinted, placePrinted, endPrinted, startPrinted}
@@ -220,7 +220,7 @@ module _ (k x : ℕ) (other : k ≡ 9 → ⊥) where
 -- the fields of every refusal's line
 module _ (k : Code) where
   pub line-law : LineLaw k
-  unfolding refusalLine ascii decimal digits
+  unfolding refusalLine ascii
   line-law =
       record {
         nine = λ z. rw z (line-alone _ (nine-words (getD (k .carries) 0 0) (getD (k .carries) 1 0) (getD (k .carries) 2 0)));

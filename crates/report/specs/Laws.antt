@@ -56,10 +56,10 @@ pub record PrintsPlan (l : DayList) (text : List ℕ) : Type 0 where
 -- the fields of every refusal's line, with their words: `line-law` of proofs/PrintedLines.antt
 pub record LineLaw (k : Code) : Type 0 where
   pub nine : k .number ≡ 9 → linesOf (refusalLine k)
-      ≡ (ascii "refused" ∷ ascii "9" ∷ ascii "from" ∷ decimal (getD (k .carries) 0 0) ∷ ascii "to" ∷ decimal (getD (k .carries) 1 0)
+      ≡ (ascii "refused" ∷ decimal 9 ∷ ascii "from" ∷ decimal (getD (k .carries) 0 0) ∷ ascii "to" ∷ decimal (getD (k .carries) 1 0)
       ∷ ascii "work" ∷ decimal (getD (k .carries) 2 0) ∷ []) ∷ []
   pub ten : k .number ≡ 10
-      → linesOf (refusalLine k) ≡ (ascii "refused" ∷ ascii "10" ∷ ascii "entry" ∷ decimal (getD (k .carries) 0 0) ∷ []) ∷ []
+      → linesOf (refusalLine k) ≡ (ascii "refused" ∷ decimal 10 ∷ ascii "entry" ∷ decimal (getD (k .carries) 0 0) ∷ []) ∷ []
   pub other : (k .number ≡ 9 → ⊥) → (k .number ≡ 10 → ⊥)
       → linesOf (refusalLine k) ≡ (ascii "refused" ∷ decimal (k .number) ∷ ascii "at" ∷ decimal (getD (k .carries) 0 0) ∷ []) ∷ []
 
