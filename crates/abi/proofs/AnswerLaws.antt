@@ -55,6 +55,8 @@ answer-laws =
       unwritten = λ l o old a out c k e. (c .answer ∙ rw e refl, c .buffer ∙ rw e refl);
       text = λ o old a out c n e. c .answer ∙ rw e refl;
       no-text = λ o old a out c k e. (c .answer ∙ rw e refl, c .buffer ∙ no-text o old k e);
+      tested = λ xs a c l read e. c ∙ rw (read, e) refl;
+      overloaded = λ xs a c l read k e. c ∙ rw (read, e) refl;
       filled = λ l o old a plan c e. c .answer ∙ rw e refl;
       unfilled = λ l o old a plan c k e. (c .answer ∙ rw e refl, c .buffer ∙ rw e refl);
       narrowed = λ o second third old a fields c x e. c .answer ∙ rw e refl;
@@ -73,7 +75,9 @@ answer-laws =
       unshown =
           λ x l i o p f a plan fields c k e.
           (c .narrowed .answer ∙ rw e refl, c .plan ∙ rw e refl, c .narrowed .buffer ∙ rw e refl);
+      made = λ o old a new c d e. (c .answer ∙ rw e refl, c .day .back d e);
       not-made = λ o old a new c k e. (c .answer ∙ rw e refl, c .day .buffer ∙ rw e refl);
+      committed = λ d e o w p f b a day plan fields bounds c v q. c .day .back _ (rw q refl);
       not-committed = λ d e o w p f b a day plan fields bounds c k q. c .day .buffer ∙ rw q refl;
       turned = λ x o xs old a rooms lists carried c i next e. (c .answer ∙ rw e refl, c .left .carried ∙ rw e refl);
       other-rooms = λ x o xs old a rooms lists carried c i said next e j apart.

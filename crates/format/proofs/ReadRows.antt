@@ -1,32 +1,35 @@
 -- The rows of reading, each by what the bytes say.
 -- Assumes nothing.
-use mathlib.Core.Path.{_≡_, refl, ap}
+use mathlib.Core.Path.{_≡_, refl, ap, _∙_}
 use mathlib.Core.Logic.{_⊎_, inl, inr}
 use mathlib.Core.Bool.{Bool, true, false, cond}
-use mathlib.Core.List.{List, [], _∷_}
+use mathlib.Core.List.{List, [], _∷_, _++_}
 use Prim.Native.Nat.{ℕ, zero, suc, _+_, _≤_, _<_}
 use native.Mathlib.Omega.{arith}
 use borrow.Author.Tests.{eq-eqb, ne-eqb, lt-ltb, le-ltb}
-use lib.ListN.{length, drop}
-use lib.Seq.{drop-drop}
+use lib.ListN.{length, getD, drop}
+use lib.Seq.{drop-drop, take-append-seam}
 use Rattle.base.specs.Outcomes.{Code, code, Outcome, answered, refused, andThen}
+use Rattle.list.specs.DayLists.{entriesOf, dayList}
 use Rattle.list.specs.Checks.{openingFault}
 use Rattle.list.specs.Laws.{Header}
 use Rattle.list.specs.declared.types.Entry.{Entry}
 use Rattle.list.specs.declared.types.Frame.{Frame}
 use Rattle.format.specs.Headers.{openingWritten, frameOf, countOf, entriesPlace, zeroWritten}
-use Rattle.format.specs.EntryFields.{fieldsEntry, entryOf}
+use Rattle.format.specs.Maps.{fieldsOf, sizeOf}
+use Rattle.format.specs.EntryFields.{entryAt, fieldsEntry, entryOf}
 use Rattle.format.specs.Reading.{entriesFrom, bodyOf, openedOf, decodeOf, readOf}
-use Rattle.format.specs.Laws.{HeaderReads, EntryRow, no-map, map-breaks, field-missing, default, values, RowLaw}
+use Rattle.format.specs.Laws.{HeaderReads, EntryRow, no-map, map-breaks, field-missing, default, values, EntryReads, ReadRowsLaw}
 use Rattle.base.proofs.Inversion.{answered-same, answered-refused}
-use Rattle.list.proofs.Sound.{header-passes, opening-passes}
+use Rattle.list.proofs.Sound.{header-passes, opening-passes, faultless}
 use Rattle.list.proofs.CheckLaws.{entry-told, header-two, header-three, opens-late}
-use Rattle.format.proofs.ReadCases.{body-refused, body-left}
+use Rattle.format.proofs.ReadCases.{body-refused, body-left, body-done}
+use Rattle.format.proofs.ReadLaws.{read-law}
 
 -- the row that holds first turns the entry back
 entry-row : (f : Frame) (at : ℕ) (rest : List ℕ) (k : Code) → EntryRow f at rest k → entryOf f at rest ≡ refused k
 unfolding entryOf fieldsEntry
-entry-row f at rest _ (no-map z) = rw (z) (let q : at + 0 ≡ at = omega arith in rw q refl)
+entry-row f at rest _ (no-map z) = rw (eq-eqb _ _ z) refl
 entry-row f at rest _ (map-breaks s b) = let z : length rest ≡ 0 → ⊥ = omega arith in rw (ne-eqb _ _ z, b) refl
 entry-row f at rest _ (field-missing s b h) = let z : length rest ≡ 0 → ⊥ = omega arith in rw (ne-eqb _ _ z, b, lt-ltb _ _ h) refl
 entry-row f at rest _ (default s b h w) =
@@ -35,6 +38,14 @@ entry-row f at rest _ (default s b h w) =
 entry-row f at rest _ (values s b h w k first) =
     let z : length rest ≡ 0 → ⊥ = omega arith in
     rw (ne-eqb _ _ z, b, le-ltb _ _ h, w, entry-told f _ at k first) refl
+
+-- an entry of which none holds is read
+entry-taken : (f : Frame) (at : ℕ) (rest : List ℕ) → EntryReads f rest
+    → let m = fieldsOf (getD rest 0 0) in entryOf f at rest ≡ answered (entryAt f m rest, sizeOf m)
+unfolding entryOf fieldsEntry
+entry-taken f at rest s =
+    let z : length rest ≡ 0 → ⊥ = omega (arith, s .some) in
+    rw (ne-eqb _ _ z, s .map, le-ltb _ _ (s .long), s .written, faultless f at _ (s .sound)) refl
 
 -- one entry in front of those that follow it
 abbrev withFirst : Entry → Outcome (List Entry × ℕ) → Outcome (List Entry × ℕ)
@@ -78,6 +89,51 @@ module _ (f : Frame) (bs : List ℕ) where
       go later (refused x) q s = absurd (answered-refused s refl)
       go later (answered one) q s = after-one later one q (rest (one .1)) refl s
 
+  -- one entry more
+  one-more : (i from : ℕ) (es : List Entry) (at : ℕ) → entriesFrom f i from (drop from bs) ≡ answered (es, at)
+      → (e : Entry) (size : ℕ) → entryOf f at (drop at bs) ≡ answered (e, size)
+      → entriesFrom f (suc i) from (drop from bs) ≡ answered (es ++ (e ∷ []), at + size)
+  unfolding entriesFrom
+  one-more zero from es at read e size one =
+      let z : _≡_ {A = List Entry × ℕ} ([], from) (es, at) = answered-same refl read in
+      go es at z one
+    where
+      go : (es : List Entry) (at : ℕ) → _≡_ {A = List Entry × ℕ} ([], from) (es, at) → entryOf f at (drop at bs) ≡ answered (e, size)
+          → entriesFrom f 1 from (drop from bs) ≡ answered (es ++ (e ∷ []), at + size)
+      go es at z one =
+          let place : from ≡ at = ap (λ (x : List Entry × ℕ). x .1) z in
+          let none : [] ≡ es = ap (λ (x : List Entry × ℕ). x .0) z in
+          rw (← none, place, one) refl
+  one-more (suc i) from es at read e size one =
+      go (λ taken more rest. one-more i (from + taken) more at rest e size one) (entryOf f from (drop from bs)) refl read
+    where
+      rest : ℕ → Outcome (List Entry × ℕ)
+      rest taken = entriesFrom f i (from + taken) (drop taken (drop from bs))
+
+      -- one more after an entry of this size
+      Later : Type 0
+      Later =
+          (taken : ℕ) (more : List Entry) → entriesFrom f i (from + taken) (drop (from + taken) bs) ≡ answered (more, at)
+          → entriesFrom f (suc i) (from + taken) (drop (from + taken) bs) ≡ answered (more ++ (e ∷ []), at + size)
+
+      after-one : Later → (x : Entry × ℕ) → entryOf f from (drop from bs) ≡ answered x
+          → (o : Outcome (List Entry × ℕ)) → rest (x .1) ≡ o → withFirst (x .0) o ≡ answered (es, at)
+          → entriesFrom f (suc (suc i)) from (drop from bs) ≡ answered (es ++ (e ∷ []), at + size)
+      after-one later x q (refused k) p t = absurd (answered-refused t refl)
+      after-one later x q (answered more) p t =
+          let same : _≡_ {A = List Entry × ℕ} (x .0 ∷ more .0, more .1) (es, at) = answered-same refl t in
+          let place : more .1 ≡ at = ap (λ (y : List Entry × ℕ). y .1) same in
+          let all : x .0 ∷ more .0 ≡ es = ap (λ (y : List Entry × ℕ). y .0) same in
+          let read : entriesFrom f i (from + x .1) (drop (from + x .1) bs) ≡ answered (more .0, at) =
+          rw (drop-drop (x .1) from bs, place) at p in
+          rw (q, drop-drop (x .1) from bs, later (x .1) (more .0) read, ← all) refl
+
+      go : Later → (o : Outcome (Entry × ℕ)) → entryOf f from (drop from bs) ≡ o
+          → andThen o (λ x. withFirst (x .0) (rest (x .1))) ≡ answered (es, at)
+          → entriesFrom f (suc (suc i)) from (drop from bs) ≡ answered (es ++ (e ∷ []), at + size)
+      go later (refused k) q s = absurd (answered-refused s refl)
+      go later (answered x) q s = after-one later x q (rest (x .1)) refl s
+
 module _ (bs : List ℕ) where
   -- the header leaves the entries
   entries-next : HeaderReads bs → decodeOf bs ≡ bodyOf bs
@@ -97,9 +153,9 @@ module _ (bs : List ℕ) where
   unfolding readOf
   turned k e = rw e refl
 
-  pub row-law : RowLaw bs
-  unfolding decodeOf openedOf
-  row-law =
+  pub read-rows-law : ReadRowsLaw bs
+  unfolding decodeOf openedOf entriesFrom
+  read-rows-law =
       record {
         short = λ h. turned _ (rw (lt-ltb _ _ h) refl);
         two = λ h z. turned _ (rw (le-ltb _ _ h, header-two 2 _ (countOf bs) z) refl);
@@ -111,6 +167,13 @@ module _ (bs : List ℕ) where
             (rw (entries-next s)
             (body-refused bs _ _ _ refl refl refl k
             (stops (frameOf bs) bs i (countOf bs) (entriesPlace bs) es at h read k (entry-row _ at _ k first))));
+        begin = (λ e. rw e refl, λ e. rw e refl);
+        next = λ i es at read taken.
+            one-more (frameOf bs) bs i (entriesPlace bs) es at read _ _ (entry-taken (frameOf bs) at (drop at bs) taken);
+        none = λ s es read apart.
+            let kept : entriesOf (dayList (frameOf bs) es) ≡ es = take-append-seam es _ in
+            read-law bs .apart (dayList (frameOf bs) es)
+            (entries-next s ∙ body-done bs _ _ _ refl refl refl es (length bs) read (omega arith)) (rw kept apart);
         eight = λ s es at read h. turned _ (rw (entries-next s) (body-left bs _ _ _ refl refl refl es at read h));
       }
     where

@@ -70,6 +70,10 @@ pub record ReadExamples : Type 0 where
   -- before 7; "entry by entry"
   pub no-map : readOf (tenMinutes 1) ≡ refused (code 1 (3 ∷ []))
   pub map-first : readOf (tenMinutes 1 ++ (0x91 ∷ [])) ≡ refused (code 4 (3 ∷ []))
+  -- bits 0 and 4 must stand, bits 6 and 7 are clear
+  pub no-serial : readOf (tenMinutes 1 ++ (0x10 ∷ [])) ≡ refused (code 4 (3 ∷ []))
+  pub no-minutes : readOf (tenMinutes 1 ++ (0x01 ∷ [])) ≡ refused (code 4 (3 ∷ []))
+  pub bit-six : readOf (tenMinutes 1 ++ (0x51 ∷ [])) ≡ refused (code 4 (3 ∷ []))
   pub field-first : readOf (tenMinutes 1 ++ (0x15 ∷ 0xF5 ∷ 0x01 ∷ 0x00 ∷ 0x00 ∷ 0x00 ∷ 0x00 ∷ 0x01 ∷ [])) ≡ refused (code 1 (11 ∷ []))
   pub written-first : readOf (tenMinutes 1 ++ windowWritten 0 11 0) ≡ refused (code 5 (3 ∷ []))
   pub minutes-first : readOf (tenMinutes 1 ++ windowWritten 5 3 0) ≡ refused (code 6 (3 ∷ []))

@@ -1,16 +1,16 @@
 -- What reading says of an input and writing of a list, in facts: `read-law` of proofs/ReadLaws.antt and `write-law` of
 -- proofs/WriteLaws.antt, for all inputs, lists and buffers; and how long lists are.
-use Prim.Native.Nat.{ℕ, _+_, _<_, _≤_}
+use Prim.Native.Nat.{ℕ, suc, _+_, _<_, _≤_}
 use mathlib.Core.Path.{_≡_}
 use mathlib.Core.Logic.{_⊎_}
 use mathlib.Core.Bool.{true, false}
 use mathlib.Core.List.{List, [], _∷_, _++_}
 use lib.ListN.{length, getD, take, drop}
 use Rattle.base.specs.Outcomes.{Code, code, answered, refused}
-use Rattle.list.specs.DayLists.{entriesOf, blank}
+use Rattle.list.specs.DayLists.{entriesOf, blank, dayList}
 use Rattle.list.specs.Clashes.{Apart, FirstClash}
 use Rattle.list.specs.Checks.{checkOf, WellFormed}
-use Rattle.list.specs.Laws.{Header, OpensIn, FirstRow}
+use Rattle.list.specs.Laws.{Header, OpensIn, Sound, FirstRow}
 use Rattle.list.specs.declared.types.Entry.{Entry}
 use Rattle.list.specs.declared.types.Frame.{Frame}
 use Rattle.list.specs.declared.types.DayList.{DayList}
@@ -60,7 +60,7 @@ pub record ReadLaw (bs : List ℕ) : Type 0 where
   pub clash : (l : DayList) → decodeOf bs ≡ answered l → (k : ℕ) → FirstClash (entriesOf l) k
       → (at : ℕ) × (readOf bs ≡ refused (code 14 (at ∷ [])))
 
--- The rows of reading, each by what the bytes say: `row-law` of proofs/ReadRows.antt.
+-- The rows of reading, each by what the bytes say: `read-rows-law` of proofs/ReadRows.antt.
 
 -- what the rows of the header leave: 1, 2, 3, then 1 and 15 for the opening minute
 pub record HeaderReads (bs : List ℕ) : Type 0 where
@@ -72,7 +72,7 @@ pub record HeaderReads (bs : List ℕ) : Type 0 where
 -- the first row of an entry that holds, where rest is what is left of the input from place at on: "a missing map byte is 1", then 4, 1 for
 -- a field that is missing, 5, and the rows of its values
 pub data EntryRow (f : Frame) (at : ℕ) (rest : List ℕ) : Code → Type 0 where
-  no-map : length rest ≡ 0 → EntryRow f at rest (code 1 (at ∷ []))
+  no-map : length rest ≡ 0 → EntryRow f at rest (code 1 ((at + length rest) ∷ []))
   map-breaks : 1 ≤ length rest → legalMap (getD rest 0 0) ≡ false → EntryRow f at rest (code 4 (at ∷ []))
   field-missing : 1 ≤ length rest → legalMap (getD rest 0 0) ≡ true → length rest < sizeOf (fieldsOf (getD rest 0 0))
       → EntryRow f at rest (code 1 ((at + length rest) ∷ []))
@@ -83,8 +83,16 @@ pub data EntryRow (f : Frame) (at : ℕ) (rest : List ℕ) : Code → Type 0 whe
       → defaultWritten f (fieldsOf (getD rest 0 0)) (entryAt f (fieldsOf (getD rest 0 0)) rest) ≡ false
       → (k : ℕ) → FirstRow f (entryAt f (fieldsOf (getD rest 0 0)) rest) k → EntryRow f at rest (code k (at ∷ []))
 
--- "Rows are tested in this order, entry by entry ..; the first that holds is given": which number, and with which place
-pub record RowLaw (bs : List ℕ) : Type 0 where
+-- an entry of which no row holds
+pub record EntryReads (f : Frame) (rest : List ℕ) : Type 0 where
+  pub some : 1 ≤ length rest
+  pub map : legalMap (getD rest 0 0) ≡ true
+  pub long : sizeOf (fieldsOf (getD rest 0 0)) ≤ length rest
+  pub written : defaultWritten f (fieldsOf (getD rest 0 0)) (entryAt f (fieldsOf (getD rest 0 0)) rest) ≡ false
+  pub sound : Sound f (entryAt f (fieldsOf (getD rest 0 0)) rest)
+
+-- "Rows are tested in this order, entry by entry ..; the first that holds is given, none otherwise.": which number, and with which place
+pub record ReadRowsLaw (bs : List ℕ) : Type 0 where
   pub short : length bs < 3 → readOf bs ≡ refused (code 1 (length bs ∷ []))
   pub two : 3 ≤ length bs → (frameOf bs .h ≡ 0) ⊎ (1440 < frameOf bs .h) → readOf bs ≡ refused (code 2 (0 ∷ []))
   pub three : 3 ≤ length bs → 1 ≤ frameOf bs .h → frameOf bs .h ≤ 1440 → 64 < countOf bs → readOf bs ≡ refused (code 3 (2 ∷ []))
@@ -92,11 +100,18 @@ pub record RowLaw (bs : List ℕ) : Type 0 where
       → readOf bs ≡ refused (code 1 (length bs ∷ []))
   pub fifteen : Header (frameOf bs .h) (countOf bs) → openingWritten bs ≡ true → 5 ≤ length bs
       → (frameOf bs .opening ≡ 0) ⊎ (frameOf bs .h ≤ frameOf bs .opening) → readOf bs ≡ refused (code 15 (3 ∷ []))
-  -- the first i entries were read and end at place at, so that the next one's map byte is there
+  -- the entries begin after the header
+  pub begin : (openingWritten bs ≡ false → entriesRead bs 0 ≡ answered ([], 3)) × (openingWritten bs ≡ true → entriesRead bs 0 ≡ answered ([], 5))
+  -- where the first i entries end, at place at, is the next one's map byte; if no row of it holds it is read, and ends after its fields
+  pub next : (i : ℕ) (es : List Entry) (at : ℕ) → entriesRead bs i ≡ answered (es, at) → EntryReads (frameOf bs) (drop at bs)
+      → let m = fieldsOf (getD (drop at bs) 0 0) in
+      entriesRead bs (suc i) ≡ answered (es ++ (entryAt (frameOf bs) m (drop at bs) ∷ []), at + sizeOf m)
   pub entry : HeaderReads bs → (i : ℕ) → i < countOf bs → (es : List Entry) (at : ℕ) → entriesRead bs i ≡ answered (es, at)
       → (k : Code) → EntryRow (frameOf bs) at (drop at bs) k → readOf bs ≡ refused k
   pub eight : HeaderReads bs → (es : List Entry) (at : ℕ) → entriesRead bs (countOf bs) ≡ answered (es, at) → at < length bs
       → readOf bs ≡ refused (code 8 (at ∷ []))
+  pub none : HeaderReads bs → (es : List Entry) → entriesRead bs (countOf bs) ≡ answered (es, length bs) → Apart es
+      → readOf bs ≡ answered (dayList (frameOf bs) es)
 
 -- writing the list l to a buffer that held old
 pub record WriteLaw (l : DayList) (old : List ℕ) : Type 0 where

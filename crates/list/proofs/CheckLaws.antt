@@ -22,7 +22,7 @@ use Rattle.list.proofs.ClashLaws.{clash-law}
 use Rattle.list.proofs.CheckCases as cases
 
 -- the first entry that has a fault is told
-pub first-fault : (f : Frame) (at : ℕ) (es : List Entry) (i : ℕ) → i < length es
+first-fault : (f : Frame) (at : ℕ) (es : List Entry) (i : ℕ) → i < length es
     → ((j : ℕ) → j < i → entryFault f (at + j) (getD es j blank) ≡ answered tt)
     → (k : Code) → entryFault f (at + i) (getD es i blank) ≡ refused k → entriesFault f at es ≡ refused k
 unfolding entriesFault

@@ -1,23 +1,19 @@
 -- Rows 15 and 16 of the value check, in facts.
 -- Assumes nothing.
-use mathlib.Core.Path.{_≡_, refl, sym, ap, subst}
+use mathlib.Core.Path.{_≡_, refl, ap, subst}
 use mathlib.Core.List.{List, [], _∷_}
-use Prim.Native.Nat.{ℕ, _+_, _<_, _≤_}
-use native.Mathlib.Nat.{zero-add}
+use Prim.Native.Nat.{ℕ, _<_, _≤_}
 use native.Mathlib.Omega.{arith}
 use lib.ListN.{length, getD}
-use Rattle.base.specs.Outcomes.{Code, code, refused}
-use Rattle.list.specs.Entries.{entryFault}
+use Rattle.base.specs.Outcomes.{Code, code}
 use Rattle.list.specs.DayLists.{entriesOf, blank, alwaysOpen}
-use Rattle.list.specs.Checks.{valuesFault, checkOf, WellFormed}
+use Rattle.list.specs.Checks.{checkOf, WellFormed}
 use Rattle.list.specs.Laws.{OpensInTime, OpeningLaw}
 use Rattle.list.specs.declared.types.Entry.{Entry}
 use Rattle.list.specs.declared.types.Frame.{Frame}
 use Rattle.list.specs.declared.types.DayList.{DayList}
 use Rattle.base.proofs.Inversion.{Says}
-use Rattle.list.proofs.Sound.{check-tells, every-at-places, sound-list, sound-at, opening-passes, list-apart, well-formed}
-use Rattle.list.proofs.CheckCases.{before-opening}
-use Rattle.list.proofs.CheckLaws.{first-fault, opens-late}
+use Rattle.list.proofs.Sound.{check-tells, every-at-places, sound-list, sound-at, list-apart, well-formed}
 
 module _ (l : DayList) where
   abbrev f : Frame
@@ -75,16 +71,9 @@ module _ (l : DayList) where
       place q = ap (λ (x : Code). getD (x .carries) 0 0) q
 
   pub opening-law : OpeningLaw l
-  unfolding checkOf valuesFault
   opening-law =
       record {
         accepted = (opened, closed);
-        before = λ k e. rw e refl;
         fifteen = λ at e. (rw e at told) .0 at refl;
-        opens-past-day = λ header h. rw (header, opens-late 0 f h) refl;
         sixteen = λ i e. (rw e at told) .1 i refl;
-        before-opening = λ header o i h r none.
-            let entry : entryFault f (0 + i) (getD es i blank) ≡ refused (code 16 (i ∷ [])) =
-            simp zero-add (sym (before-opening f i _ r)) in
-            rw (header, opening-passes 0 f o, first-fault f 0 es i h (λ j b. simp zero-add (none j b)) _ entry) refl;
       }

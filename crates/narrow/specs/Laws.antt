@@ -55,7 +55,7 @@ pub record NarrowLaw (test : Test) (whole : ℕ → Bool) (w : Windows) (o : Out
   pub searches : (v : Windows) → RoomInside w v → (k : ℕ) → k < w .n → SearchLaw test v k
   -- and the windows that a list of steps leaves are such windows
   pub steps-room : (ss : List Step) → NamesWhole whole (w .n) ss → RoomInside w (stepsLeave test ss w)
-  -- no list of steps, finished or not, takes a minute that a settled set has: every such set inside stays inside
+  -- every settled set inside the given windows is inside those that a list of steps leaves, finished or not
   pub steps-keep : (ss : List Step) → NamesWhole whole (w .n) ss
       → (r d : ℕ → ℕ) → SettledInside whole w r d → SettledInside whole (stepsLeave test ss w) r d
   -- the answer is that of the rounds as document 01 has them, each search of which finds the minute for which a plan exists

@@ -6,7 +6,7 @@ pub mod Demands
 pub mod Alike
 pub mod Examples
 -- The rows of the calls in facts.
-pub mod RowLaws
+pub mod CallLaws
 -- The contracts, and demand 3 alone, leave one answer.
 pub mod OneAnswer
 -- The fast way and the defined way.

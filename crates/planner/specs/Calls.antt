@@ -55,10 +55,11 @@ settledOr x f (refused k) = x
 abbrev pub planned : (Windows → List ℕ) → List ℕ → Outcome Narrowed → List ℕ
 planned f old = settledOr old (λ w. f w ++ drop (w .h) old)
 
--- the same in facts, where f gives a plan of H bytes: `buffer-law` of proofs/RowLaws.antt
+-- the same in facts; `buffer-law` of proofs/CallLaws.antt proves it where f gives H bytes
 pub record BufferLaw (f : Windows → List ℕ) (old : List ℕ) (o : Outcome Narrowed) : Type 0 where
   pub stays : (c : Code) → o ≡ refused c → planned f old o ≡ old
   pub plan : (v : Narrowed) → o ≡ answered v → take (v .windows .h) (planned f old o) ≡ f (v .windows)
+  pub long : (v : Narrowed) → o ≡ answered v → v .windows .h ≤ length old → length (planned f old o) ≡ length old
   pub after : (v : Narrowed) → o ≡ answered v → (j : ℕ) → v .windows .h ≤ j → getD (planned f old o) j 0 ≡ getD old j 0
 
 -- Planning a list.
@@ -127,9 +128,9 @@ PlansDay l old = PlansAfter (planChecks l (length old)) l old
 abbrev pub shownOf : DayList → ℕ → ℕ → Outcome Narrowed
 shownOf l k room = narrowAfter (shownChecks l k room) l
 
--- `rows-law` of proofs/RowLaws.antt: the rows of a call with a plan buffer of this length, and of one that asks for place k, in the table's
+-- `call-rows-law` of proofs/CallLaws.antt: the rows of a call with a plan buffer of this length, and of one that asks for place k, in the table's
 -- order, with what 13 and 11 carry; then narrowing, so that 9 and 10 are last
-pub record RowsLaw (l : DayList) (k room : ℕ) : Type 0 where
+pub record CallRowsLaw (l : DayList) (k room : ℕ) : Type 0 where
   pub before : (c : Code) → checkOf l ≡ refused c → (planOf l room ≡ refused c) × (shownOf l k room ≡ refused c)
   pub unknown : WellFormed l → l .n ≤ k → shownOf l k room ≡ refused (code 13 (k ∷ []))
   pub plan-short : WellFormed l → room < l .frame .h → planOf l room ≡ refused (code 11 (l .frame .h ∷ []))

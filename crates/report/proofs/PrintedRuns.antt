@@ -74,7 +74,7 @@ module _ (h : ℕ) (m : ℕ → ℕ) where
   said : (j t : ℕ) → Line j t → SaysRun (getD runsOf j []) t (runEnd h m t) (m t)
   said j t line =
       rw (line .is)
-      (record { first = decimal-is t .value; end = decimal-is (runEnd h m t) .value; place = decimal-is (m t) .value })
+      (record { fields = refl; first = decimal-is t .value; end = decimal-is (runEnd h m t) .value; place = decimal-is (m t) .value })
 
   begins : (t : ℕ) → t < h → beginsRun m t ≡ true → Run h m t (runEnd h m t) (m t)
   begins t below e = runs-are h m t _ _ .1 (below, e, refl, refl)

@@ -23,6 +23,7 @@ use Rattle.report.specs.Printed.{runsPrinted, planPrinted, toldBy, codeP
 
 -- a run's line says the minutes from s to e and the place k
 pub record SaysRun (fs : LineFields) (s e k : ℕ) : Type 0 where
+  pub fields : fs ≡ decimal s ∷ decimal e ∷ decimal k ∷ []
   pub first : numberIn fs 0 ≡ s
   pub end : numberIn fs 1 ≡ e
   pub place : numberIn fs 2 ≡ k
@@ -36,7 +37,7 @@ pub record SaysRuns (h : ℕ) (m : ℕ → ℕ) (ls : List LineFields) : Type 0 
 pub record PrintsPlan (l : DayList) (text : List ℕ) : Type 0 where
   -- H, n, and of each entry the serial, seal, kind and minutes of work are those of l; the opening minute of l is not printed
   pub list : listPrinted (l .frame .opening) text ≡ listWith l (windowsPrinted text)
-  -- the head line and those of the entries have these fields, with these words, and no others
+  -- the head line and those of the entries have these fields, with these words, and no others; their bytes are in `ReportExamples`
   pub head-line : lineAt text 0
       ≡ ascii "day" ∷ decimal (dayPrinted text) ∷ ascii "entries" ∷ decimal (countPrinted text) ∷ ascii "moves"
       ∷ decimal (movesPrinted text) ∷ ascii "broken" ∷ decimal (brokenPrinted text) ∷ []

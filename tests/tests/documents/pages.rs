@@ -78,6 +78,14 @@ fn declared(line: &str) -> Option<&str> {
     words.find(|word| !MARKS.contains(word))
 }
 
+/// Whether a file declares a name, or of `Record.field` the record and the field.
+fn declares(text: &str, name: &str) -> bool {
+    let (whole, field) = name.split_once('.').unwrap_or((name, ""));
+    let start = format!("{field} :");
+    let is_field = |line: &str| line.trim_start().trim_start_matches("pub ").starts_with(&start);
+    text.lines().any(|line| declared(line) == Some(whole)) && (field.is_empty() || text.lines().any(is_field))
+}
+
 /// The name by which a link leads to a heading: "Two commands" is two-commands.
 fn anchor(heading: &str) -> String {
     let kept = heading.chars().filter(|c| c.is_alphanumeric() || " -_".contains(*c));
@@ -118,8 +126,7 @@ fn a_file_that_is_linked_declares_the_name_before_the_link() {
         if !file.extension().is_some_and(|ending| ending == "rt" || ending == "antt") {
             continue;
         }
-        let declares = text_of(&file).lines().any(|line| declared(line) == Some(&name));
-        assert!(declares, "{page}: {} does not declare {name}", file.display());
+        assert!(declares(&text_of(&file), &name), "{page}: {} does not declare {name}", file.display());
         found += 1;
     }
     assert!(found > 140, "{found} names");

@@ -6,7 +6,7 @@ use mathlib.Core.List.{List, _++_}
 use Prim.Native.Nat.{ℕ, _+_, _-_, _≤_}
 use native.Mathlib.Omega.{arith}
 use borrow.Author.Tests.{lt-ltb, le-ltb, le-leb, lt-leb}
-use lib.ListN.{length, getD, drop}
+use lib.ListN.{length, getD, drop, length-append, length-drop}
 use lib.Seq.{take-at, getD-append-add, getD-drop}
 use Rattle.base.specs.Outcomes.{Outcome, answered}
 use Rattle.list.specs.declared.types.DayList.{DayList}
@@ -17,13 +17,13 @@ use Rattle.narrow.specs.Calls.{settleOf}
 use Rattle.bounds.specs.ShownPlans.{shownPlan}
 use Rattle.bounds.specs.declared.types.Shown.{Shown}
 use Rattle.bounds.specs.declared.types.Shown.the-variants.{Early, Late}
-use Rattle.planner.specs.Calls.{planChecks, shownChecks, planned, BufferLaw, RowsLaw}
+use Rattle.planner.specs.Calls.{planChecks, shownChecks, planned, BufferLaw, CallRowsLaw}
 use Rattle.base.proofs.Listed.{list-length}
 use Rattle.jackson.proofs.Schedules.{schedule-long}
 
-pub rows-law : (l : DayList) (k room : ℕ) → RowsLaw l k room
+pub call-rows-law : (l : DayList) (k room : ℕ) → CallRowsLaw l k room
 unfolding planChecks shownChecks settleOf
-rows-law l k room =
+call-rows-law l k room =
     record {
       before = λ c e. (rw e refl, rw e refl);
       unknown = λ w h. rw (w, le-leb _ _ h) refl;
@@ -40,6 +40,8 @@ module _ (f : Windows → List ℕ) (long : (w : Windows) → length (f w) ≡ w
       record {
         stays = λ c e. rw e refl;
         plan = λ v e. rw e (take-at (f (v .windows)) _ (v .windows .h) (long (v .windows)));
+        long = λ v e h.
+            rw e (length-append (f (v .windows)) _ ∙ rw (long (v .windows), length-drop (v .windows .h) old) (omega arith));
         after = after;
       }
     where
