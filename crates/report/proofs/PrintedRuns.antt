@@ -156,7 +156,8 @@ module _ (h : ℕ) (m : ℕ → ℕ) where
           let (below, passes, end, place) = runs-are h m s e k .0 run in
           let (j, line) = line-of s below passes in
           let so = said j s line in
-          (j, line .place, record { first = so .first; end = so .end ∙ sym end; place = so .place ∙ sym place })
+          let fields = so .fields ∙ sym (λ i. decimal s ∷ decimal (end i) ∷ decimal (place i) ∷ []) in
+          (j, line .place, record { fields = fields; first = so .first; end = so .end ∙ sym end; place = so .place ∙ sym place })
 
       back : (s e k : ℕ) → Some s e k → Run h m s e k
       back s e k (j, below, says) =
