@@ -88,8 +88,8 @@ pub record AnswerLaws : Type 0 where
       → a ≡ answerNumbers 0 (v .moves) (boundOf x (wholeIn l) i (v .windows)) 0
   pub unshown : (x : Shown) (l : DayList) (i : ℕ) (o : Outcome Narrowed) (p f : List ℕ) (a : Answer) (plan fields : List ℕ)
       → ShownCall x l i o p f a plan fields → (k : Code) → o ≡ refused k → (a ≡ refusalTold k) × (plan ≡ p) × (fields ≡ f)
-  -- a day's row: it says the day made or committed, and is kept beside a refusal. Of an ask and a commit the answer and the other buffers are
-  -- said above, of their field `planned`
+  -- a day's row: it says the day made or committed, and is kept beside a refusal. Of an ask and a commit the answer and the other buffers
+  -- are said above, of their field `planned`
   pub made : (o : Outcome StampedDay) (old : List ℕ) (a : Answer) (new : List ℕ) → MadeCall o old a new
       → (d : StampedDay) → o ≡ answered d → (a ≡ answerNumbers 0 0 0 0) × (dayIn new ≡ answered d)
   pub not-made : (o : Outcome StampedDay) (old : List ℕ) (a : Answer) (new : List ℕ) → MadeCall o old a new

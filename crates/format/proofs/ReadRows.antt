@@ -167,7 +167,8 @@ module _ (bs : List ℕ) where
             (rw (entries-next s)
             (body-refused bs _ _ _ refl refl refl k
             (stops (frameOf bs) bs i (countOf bs) (entriesPlace bs) es at h read k (entry-row _ at _ k first))));
-        begin = (λ e. rw e refl, λ e. rw e refl);
+        begin = λ e. rw e refl;
+        begin-later = λ e. rw e refl;
         next = λ i es at read taken.
             one-more (frameOf bs) bs i (entriesPlace bs) es at read _ _ (entry-taken (frameOf bs) at (drop at bs) taken);
         none = λ s es read apart.

@@ -101,7 +101,8 @@ pub record ReadRowsLaw (bs : List ℕ) : Type 0 where
   pub fifteen : Header (frameOf bs .h) (countOf bs) → openingWritten bs ≡ true → 5 ≤ length bs
       → (frameOf bs .opening ≡ 0) ⊎ (frameOf bs .h ≤ frameOf bs .opening) → readOf bs ≡ refused (code 15 (3 ∷ []))
   -- the entries begin after the header
-  pub begin : (openingWritten bs ≡ false → entriesRead bs 0 ≡ answered ([], 3)) × (openingWritten bs ≡ true → entriesRead bs 0 ≡ answered ([], 5))
+  pub begin : openingWritten bs ≡ false → entriesRead bs 0 ≡ answered ([], 3)
+  pub begin-later : openingWritten bs ≡ true → entriesRead bs 0 ≡ answered ([], 5)
   -- where the first i entries end, at place at, is the next one's map byte; if no row of it holds it is read, and ends after its fields
   pub next : (i : ℕ) (es : List Entry) (at : ℕ) → entriesRead bs i ≡ answered (es, at) → EntryReads (frameOf bs) (drop at bs)
       → let m = fieldsOf (getD (drop at bs) 0 0) in

@@ -128,8 +128,8 @@ PlansDay l old = PlansAfter (planChecks l (length old)) l old
 abbrev pub shownOf : DayList → ℕ → ℕ → Outcome Narrowed
 shownOf l k room = narrowAfter (shownChecks l k room) l
 
--- `call-rows-law` of proofs/CallLaws.antt: the rows of a call with a plan buffer of this length, and of one that asks for place k, in the table's
--- order, with what 13 and 11 carry; then narrowing, so that 9 and 10 are last
+-- `call-rows-law` of proofs/CallLaws.antt: the rows of a call with a plan buffer of this length, and of one that asks for place k, in the
+-- table's order, with what 13 and 11 carry; then narrowing, so that 9 and 10 are last
 pub record CallRowsLaw (l : DayList) (k room : ℕ) : Type 0 where
   pub before : (c : Code) → checkOf l ≡ refused c → (planOf l room ≡ refused c) × (shownOf l k room ≡ refused c)
   pub unknown : WellFormed l → l .n ≤ k → shownOf l k room ≡ refused (code 13 (k ∷ []))
