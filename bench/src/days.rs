@@ -2,7 +2,7 @@
 
 use dock_tests::day::{Day, Entry, LONGEST_DAY, MOST_ENTRIES};
 use dock_tests::random::{self, Random};
-use dock_tests::{chains, samples};
+use dock_tests::{chains, found, samples};
 
 /// A full day, its name, what is special about it, and the number that narrowing answers.
 pub struct FullDay {
@@ -12,9 +12,20 @@ pub struct FullDay {
     pub list: Day,
 }
 
-/// All of them.
-pub fn all() -> [FullDay; 7] {
-    [loose(), light(), tight(), many_rounds(), refused_by_9(), refused_by_10(), long_block()]
+/// All of them: seven that are made here, and three that a search found.
+pub fn all() -> [FullDay; 10] {
+    [
+        loose(),
+        light(),
+        tight(),
+        many_rounds(),
+        refused_by_9(),
+        refused_by_10(),
+        long_block(),
+        slowest(),
+        worst_ratio(),
+        worst_ratio_720(),
+    ]
 }
 
 /// Minutes to spare, so that most first starts have a plan.
@@ -83,6 +94,36 @@ fn long_block() -> FullDay {
     let wholes = Vec::from_iter(1..MOST_ENTRIES);
     let day = samples::whole(samples::windows(LONGEST_DAY, &entries), &wholes);
     full("long block", "pause [0,1300) p 1,300 and 63 whole [0,1440) p 1", 0, day)
+}
+
+/// Found by a search for days that take the library long.
+fn slowest() -> FullDay {
+    full(
+        "slowest found",
+        "63 whole entries, most of 22 minutes in nested windows, and a pause entry",
+        0,
+        found::day("slowest"),
+    )
+}
+
+/// Found by a search for days that take the library long beside plain Rust.
+fn worst_ratio() -> FullDay {
+    full(
+        "worst ratio found",
+        "64 entries of a minute or little more, nearly all in [0,68)",
+        0,
+        found::day("worst-ratio"),
+    )
+}
+
+/// Found by the same search among days with work for half of the day.
+fn worst_ratio_720() -> FullDay {
+    full(
+        "worst ratio, 720",
+        "721 minutes of work in wide windows, most of which begin early",
+        0,
+        found::day("worst-ratio-720"),
+    )
 }
 
 fn full(name: &'static str, about: &'static str, number: u64, list: Day) -> FullDay {

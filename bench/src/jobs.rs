@@ -15,8 +15,8 @@ pub struct Times {
     pub enough: Duration,
 }
 
-/// A job with one of the seven days, and with one of many days.
-pub const OF_SEVEN: Times = Times { least: 5, most: 1_000, enough: Duration::from_secs(1) };
+/// A job with a single day, and with one of many days.
+pub const OF_ONE: Times = Times { least: 5, most: 1_000, enough: Duration::from_secs(1) };
 pub const OF_MANY: Times = Times { least: 3, most: 50, enough: Duration::from_millis(200) };
 
 /// A call: it gets a list and all that may be lent, and answers.
@@ -34,7 +34,7 @@ pub struct Job {
     fast: Call,
 }
 
-const PLAN: Job = Job {
+pub const PLAN: Job = Job {
     name: "plan",
     of_refused: true,
     cleared: false,
@@ -61,7 +61,7 @@ const SCHEDULE: Job = Job {
     fast: |fields, lent| fast::schedule(fields, &mut lent.plan),
 };
 
-/// Those with one of the seven days. Planning is timed both ways.
+/// Those with a single day. Planning is timed both ways.
 pub const ALL: [Job; 4] = [PLAN, Job { name: "plan, cleared", cleared: true, ..PLAN }, NARROWING, SCHEDULE];
 /// Those with one of many days.
 pub const NOT_CLEARED: [Job; 3] = [PLAN, NARROWING, SCHEDULE];
@@ -90,9 +90,13 @@ impl Job {
     }
 
     /// The programs that are part of this one: the library, plain Rust and fast Rust.
+    pub fn linked<'a>(&self, fields: &'a Fields) -> [Linked<'a>; 3] {
+        [self.proved, self.plain, self.fast].map(|call| Linked::new(call, self.cleared, fields))
+    }
+
+    /// The same, each as any program.
     pub fn programs<'a>(&self, fields: &'a Fields) -> Vec<Box<dyn Program + 'a>> {
-        let linked = |call| Box::new(Linked::new(call, self.cleared, fields)) as Box<dyn Program>;
-        [self.proved, self.plain, self.fast].map(linked).into()
+        self.linked(fields).map(|program| Box::new(program) as Box<dyn Program>).into()
     }
 
     /// The times that each program takes for this job. They do it in turn, after each did it once.
@@ -143,19 +147,34 @@ impl Linked<'_> {
     fn new(call: Call, cleared: bool, fields: &Fields) -> Linked<'_> {
         Linked { call, cleared, fields, lent: Lent::untouched(LONGEST_DAY.into()) }
     }
-}
 
-impl Program for Linked<'_> {
-    fn call(&mut self) -> Done {
-        let start = Instant::now();
+    /// Does the job.
+    pub fn answer(&mut self) -> Answer {
         if self.cleared {
             self.lent.plan.fill(0);
             self.lent.narrowed.fill(0);
             self.lent.bounds.fill(0);
         }
-        let answer = (self.call)(black_box(self.fields), black_box(&mut self.lent));
+        (self.call)(black_box(self.fields), black_box(&mut self.lent))
+    }
+
+    /// All that was lent.
+    pub fn lent(&self) -> &Lent {
+        &self.lent
+    }
+
+    /// A digest of what it left in that.
+    pub fn left(&self) -> u64 {
+        digest(&self.lent)
+    }
+}
+
+impl Program for Linked<'_> {
+    fn call(&mut self) -> Done {
+        let start = Instant::now();
+        let answer = self.answer();
         let time = start.elapsed();
-        Done { time, answer, left: digest(&self.lent) }
+        Done { time, answer, left: self.left() }
     }
 }
 

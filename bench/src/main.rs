@@ -1,12 +1,16 @@
-//! Times the proved library beside two Rust programs, a plain one and one with the library's own algorithm: on seven
-//! full days of 1,440 minutes and 64 entries, on classes of such days, and on days of several lengths and sizes. It is
-//! no test, and the gate builds it and does not run it. From the repository's root:
+//! Times the proved library beside two Rust programs, a plain one and one with the library's own algorithm: on
+//! single full days of 1,440 minutes and 64 entries, on classes of such days, and on days of several lengths and sizes.
+//! Or looks for days on which the library is slow. It is no test, and the gate builds it and does not run it. From the
+//! repository's root:
 //!
 //!     bench/run
-//!     bench/run COMMIT    # the seven days beside the library as it was at COMMIT, too
+//!     bench/run COMMIT    # the single days beside the library as it was at COMMIT, too
+//!     bench/climb         # the search, which says its arguments
 
 mod before;
 mod classes;
+mod climb;
+mod cpu;
 mod days;
 mod fast;
 mod growth;
@@ -28,14 +32,15 @@ fn main() {
         [] => compare(None),
         ["before", commit, program] => compare(Some(Before::start(commit, program))),
         [before::ANSWER] => before::answer(),
-        _ => panic!("unknown arguments; bench/run runs this program"),
+        ["climb", ref arguments @ ..] => climb::run(arguments),
+        _ => panic!("unknown arguments; bench/run and bench/climb run this program"),
     }
 }
 
 /// Prints all tables, with or without the library before.
 fn compare(mut before: Option<Before>) {
     println!("{}", table::text(before.as_ref()));
-    let mut rows = seven_days(before.as_mut());
+    let mut rows = single_days(before.as_mut());
     if let Some(before) = before {
         println!("\n{}", table::since(&rows));
         before.end();
@@ -45,8 +50,8 @@ fn compare(mut before: Option<Before>) {
     growth::compare();
 }
 
-/// Prints a line for each job with each of the seven days.
-fn seven_days(mut before: Option<&mut Before>) -> Vec<Row> {
+/// Prints a line for each job with each of the single days.
+fn single_days(mut before: Option<&mut Before>) -> Vec<Row> {
     let mut rows = vec![];
     for (place, FullDay { name: day, about, number, list }) in days::all().into_iter().enumerate() {
         let fields = flat::of_day(&list);
@@ -58,7 +63,7 @@ fn seven_days(mut before: Option<&mut Before>) -> Vec<Row> {
             if let Some(before) = &mut before {
                 programs.push(Box::new(before.at(place, at)));
             }
-            let times = job.compare(&mut programs, &jobs::OF_SEVEN);
+            let times = job.compare(&mut programs, &jobs::OF_ONE);
             let row = Row { day: day.to_string(), number, job: job.name, times };
             println!("{row}");
             rows.push(row);

@@ -1,12 +1,12 @@
 //! What is printed.
 
 use crate::before::Before;
-use crate::jobs::{self, Times, OF_MANY, OF_SEVEN};
+use crate::jobs::{self, Times, OF_MANY, OF_ONE};
 use dock_tests::classes::DAYS;
 use std::fmt::{self, Display, Formatter};
 use std::time::Duration;
 
-/// What is compared and how, and the heads of the seven days' columns.
+/// What is compared and how, and the heads of the single days' columns.
 pub fn text(before: Option<&Before>) -> String {
     let how = format!(
         "\
@@ -30,7 +30,7 @@ Each program does each job once untimed, and then all in turn,
 program. Buffers are not cleared first: each holds what the time before left in it. For 'plan, cleared' all
 that is lent is set to 0 before each call, and that is timed too.
 ",
-        how_often(&OF_SEVEN)
+        how_often(&OF_ONE)
     );
     match before {
         None => [how, heads(&PROGRAMS, &["now : plain", "now : fast"])].join("\n"),

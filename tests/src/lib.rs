@@ -42,6 +42,7 @@ pub mod cases; // inputs with their reports, from files
 pub mod chains; // days that need many rounds
 pub mod clashes; // lists in which a serial stands twice
 pub mod classes; // classes of full days
+pub mod found; // full days that a search for slow ones found
 pub mod ignored; // values that differ in what no call looks at
 pub mod opening; // days with an opening minute, and the same days without one
 pub mod random; // lists, damaged inputs and values, fixed by their seeds

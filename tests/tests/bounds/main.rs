@@ -5,6 +5,7 @@ mod buffers;
 mod clashes;
 mod classes;
 mod examples;
+mod found_days;
 mod full_days;
 mod ignored;
 mod limits;

@@ -4,6 +4,7 @@ mod all_small_days;
 mod classes;
 mod examples;
 mod fields;
+mod found_days;
 mod full_days;
 mod ignored;
 mod limits;

@@ -1,4 +1,4 @@
-//! The script bench/run, where it stops before it builds anything, and where it begins to.
+//! The scripts bench/run and bench/climb, where they stop before they build anything, and where the first begins to.
 
 use crate::folder::{succeeds, Folder};
 use dock_tests::cases::root;
@@ -30,10 +30,11 @@ fn git(folder: &Folder, arguments: &[&str]) -> String {
     succeeds(command(folder, "git").args(settings).args(arguments))
 }
 
-/// A repository with the script, in which the crate flat has these sources at one commit after the other.
+/// A repository with the scripts, in which the crate flat has these sources at one commit after the other.
 fn repository(name: &str, sources: &[&str]) -> Folder {
     let folder = Folder::with(name, &["crates/flat/src", "bench"]);
     folder.copy("bench/run");
+    folder.copy("bench/climb");
     git(&folder, &["init", "-q"]);
     for source in sources {
         fs::write(folder.join("crates/flat/src/lib.rt"), source).expect("a source");
@@ -43,9 +44,9 @@ fn repository(name: &str, sources: &[&str]) -> Folder {
     folder
 }
 
-/// Runs the script with what it finds first in that folder, and gives what it says on standard error.
-fn run(folder: &Folder, arguments: &[&str]) -> (Output, String) {
-    let mut command = command(folder, folder.join("bench/run"));
+/// Runs a script with what it finds first in that folder, and gives what it says on standard error.
+fn run(folder: &Folder, script: &str, arguments: &[&str]) -> (Output, String) {
+    let mut command = command(folder, folder.join(script));
     folder.first_in_path(&mut command);
     let output = command.args(arguments).output().expect("it must start");
     let said = String::from_utf8_lossy(&output.stderr).into_owned();
@@ -54,8 +55,8 @@ fn run(folder: &Folder, arguments: &[&str]) -> (Output, String) {
 
 /// It ends with status 2, says this line, prints nothing and builds nothing.
 #[track_caller]
-fn stops(folder: &Folder, arguments: &[&str], wanted: &str) {
-    let (output, said) = run(folder, arguments);
+fn stops(folder: &Folder, script: &str, arguments: &[&str], wanted: &str) {
+    let (output, said) = run(folder, script, arguments);
     assert_eq!(said, format!("{wanted}\n"));
     assert_eq!((output.status.code(), &output.stdout[..]), (Some(2), &b""[..]));
     assert!(!folder.join("target").exists(), "something is built");
@@ -73,7 +74,7 @@ fn a_commit_with_rows_of_another_length() {
             "bench/run: at {} a list has {numbers} numbers, and now 451; the libraries cannot be called alike",
             short.trim_end()
         );
-        stops(&folder, &[commit], &wanted);
+        stops(&folder, "bench/run", &[commit], &wanted);
     }
 }
 
@@ -82,7 +83,7 @@ fn a_commit_with_rows_of_another_length() {
 fn a_commit_with_rows_of_the_same_length() {
     let folder = repository("bench-same", &[NOW, &format!("{NOW}// more\n")]);
     folder.program("rt", "echo \"rt $*\"; cat crates/flat/src/lib.rt; exit 7");
-    let (output, said) = run(&folder, &["HEAD~1"]);
+    let (output, said) = run(&folder, "bench/run", &["HEAD~1"]);
     assert_eq!(said, format!("rt staticlib abi\n{NOW}"));
     assert_eq!((output.status.code(), &output.stdout[..]), (Some(7), &b""[..]));
 }
@@ -90,9 +91,19 @@ fn a_commit_with_rows_of_the_same_length() {
 #[test]
 fn what_is_no_commit() {
     let folder = repository("bench-unknown", &[NOW]);
-    stops(&folder, &["none"], "bench/run: git knows no commit 'none'");
+    stops(&folder, "bench/run", &["none"], "bench/run: git knows no commit 'none'");
     let usage = "usage: bench/run [COMMIT], where COMMIT is what git takes for a commit";
-    stops(&folder, &["HEAD", "HEAD"], usage);
+    stops(&folder, "bench/run", &["HEAD", "HEAD"], usage);
+}
+
+/// A search needs an aim, a seed, its minutes and a file.
+#[test]
+fn a_search_with_too_few_or_too_many_arguments() {
+    let folder = repository("bench-climb", &[NOW]);
+    let usage = "usage: bench/climb time|ratio SEED MINUTES FILE [LEAST-ENTRIES [LEAST-WORK]]";
+    for arguments in [&[][..], &["time", "1", "1"], &["time", "1", "1", "f", "64", "0", "0"]] {
+        stops(&folder, "bench/climb", arguments, usage);
+    }
 }
 
 /// The script reads the number that this library has, which is the tests' own.

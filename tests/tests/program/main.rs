@@ -1,4 +1,4 @@
-//! The program `dock` as it is built, the sample days, the command ./dock-report and the script bench/run.
+//! The program `dock` as it is built, the sample days, the command ./dock-report and the scripts of bench/.
 
 mod bench;
 mod cases;
