@@ -100,7 +100,7 @@ fn long_block() -> FullDay {
 fn slowest() -> FullDay {
     full(
         "slowest found",
-        "63 whole entries, most of 22 minutes in nested windows, and a pause entry",
+        "64 whole entries, most of 22 minutes, in windows one inside the other",
         0,
         found::day("slowest"),
     )

@@ -13,7 +13,7 @@ fn settled(name: &str, number_of_rounds: usize, moves: u64) {
 
 #[test]
 fn the_slowest_day() {
-    settled("slowest", 39, 131);
+    settled("slowest", 39, 134);
 }
 
 #[test]
