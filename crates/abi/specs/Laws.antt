@@ -1,8 +1,7 @@
 -- What the numbers of an answer say, and what a refusal leaves, in facts: `answer-laws` of proofs/AnswerLaws.antt, of all that the
 -- contracts of the calls allow.
-use Prim.Native.Nat.{ℕ, _+_, _*_, _<_, _≤_}
+use Prim.Native.Nat.{ℕ, _+_, _<_}
 use mathlib.Core.Path.{_≡_}
-use mathlib.Core.Logic.{_⊎_}
 use mathlib.Core.List.{List, [], _∷_}
 use lib.ListN.{length, getD}
 use Rattle.base.specs.Outcomes.{Code, Outcome, answered, refused}
@@ -103,10 +102,6 @@ pub record AnswerLaws : Type 0 where
   pub turned : (x : Lent) (o : Outcome Turn) (xs c : List ℕ) (a : Answer) (rooms lists carried : List ℕ)
       → TurnedCall x o xs c a rooms lists carried → (i next : ℕ) → o ≡ answered (took i (answered tt) next)
       → (a ≡ answerNumbers 0 i 0 next) × (carried ≡ 0 ∷ 0 ∷ 0 ∷ [])
-  -- and no other room's numbers change, whatever they are
-  pub other-rooms : (x : Lent) (o : Outcome Turn) (xs c : List ℕ) (a : Answer) (rooms lists carried : List ℕ)
-      → TurnedCall x o xs c a rooms lists carried → (i : ℕ) (said : Outcome (Unit {0})) (next : ℕ) → o ≡ answered (took i said next)
-      → (j : ℕ) → (j < 3 * i) ⊎ (3 * i + 3 ≤ j) → getD rooms j 0 ≡ getD xs j 0
   pub stopped : (x : Lent) (o : Outcome Turn) (xs c : List ℕ) (a : Answer) (rooms lists carried : List ℕ)
       → TurnedCall x o xs c a rooms lists carried → (i : ℕ) (k : Code) (next : ℕ) → o ≡ answered (took i (refused k) next)
       → (a ≡ answerNumbers 0 i (k .number) next) × (carried ≡ refusalTold k .values)

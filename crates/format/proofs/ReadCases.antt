@@ -52,7 +52,7 @@ pub record SoFar (f : Frame) (n : ℕ) (bs : List ℕ) (from : ℕ) (entries : L
   pub unused : drop i entries ≡ replicate (64 - i) blank
   pub rest : entriesFrom f n from (drop from bs) ≡ before (take i entries) (entriesFrom f (n - i) at (drop at bs))
 
-before-nothing : (o : Outcome (List Entry × ℕ)) → o ≡ before [] o
+pub before-nothing : (o : Outcome (List Entry × ℕ)) → o ≡ before [] o
 before-nothing (answered p) = refl
 before-nothing (refused k) = refl
 

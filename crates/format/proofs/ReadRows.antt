@@ -4,7 +4,7 @@ use mathlib.Core.Path.{_≡_, refl, ap, _∙_}
 use mathlib.Core.Logic.{_⊎_, inl, inr}
 use mathlib.Core.Bool.{Bool, true, false, cond}
 use mathlib.Core.List.{List, [], _∷_, _++_}
-use Prim.Native.Nat.{ℕ, zero, suc, _+_, _≤_, _<_}
+use Prim.Native.Nat.{ℕ, zero, suc, _+_, _-_, _≤_, _<_}
 use native.Mathlib.Omega.{arith}
 use borrow.Author.Tests.{eq-eqb, ne-eqb, lt-ltb, le-ltb}
 use lib.ListN.{length, getD, drop}
@@ -23,7 +23,7 @@ use Rattle.format.specs.Laws.{HeaderReads, EntryRow, no-map, map-breaks,
 use Rattle.base.proofs.Inversion.{answered-same, answered-refused}
 use Rattle.list.proofs.Sound.{header-passes, opening-passes, faultless}
 use Rattle.list.proofs.CheckLaws.{entry-told, header-two, header-three, opens-late}
-use Rattle.format.proofs.ReadCases.{body-refused, body-left, body-done}
+use Rattle.format.proofs.ReadCases.{before, before-nothing, body-refused, body-left, body-done}
 use Rattle.format.proofs.ReadLaws.{read-law}
 
 -- the row that holds first turns the entry back
@@ -51,88 +51,64 @@ entry-taken f at rest s =
 abbrev withFirst : Entry → Outcome (List Entry × ℕ) → Outcome (List Entry × ℕ)
 withFirst e o = andThen o (λ more. answered (e ∷ more .0, more .1))
 
+first-before : (e : Entry) (es : List Entry) (o : Outcome (List Entry × ℕ)) → withFirst e (before es o) ≡ before (e ∷ es) o
+first-before e es (answered p) = refl
+first-before e es (refused k) = refl
+
 module _ (f : Frame) (bs : List ℕ) where
-  -- where an entry is turned back, so are the n entries, those after it too
-  stops : (i n from : ℕ) (es : List Entry) (at : ℕ) → i < n → entriesFrom f i from (drop from bs) ≡ answered (es, at)
-      → (k : Code) → entryOf f at (drop at bs) ≡ refused k → entriesFrom f n from (drop from bs) ≡ refused k
+  -- n entries, of which the first i are read and end at place at, are these and the k after them
+  split : (i n k from : ℕ) (es : List Entry) (at : ℕ) → n ≡ i + k → entriesFrom f i from (drop from bs) ≡ answered (es, at)
+      → entriesFrom f n from (drop from bs) ≡ before es (entriesFrom f k at (drop at bs))
   unfolding entriesFrom
-  stops i zero from es at h e k r = absurd (omega arith)
-  stops zero (suc n) from es at h e k r =
-      let z : from ≡ at = ap (λ (x : List Entry × ℕ). x .1) (answered-same refl e) in
-      rw (z, r) refl
-  stops (suc i) (suc n) from es at h e k r =
-      go (λ size more read. stops i n (from + size) more at (omega arith) read k r) (entryOf f from (drop from bs)) refl e
-    where
-      rest : ℕ → Outcome (List Entry × ℕ)
-      rest size = entriesFrom f i (from + size) (drop size (drop from bs))
-
-      -- the entries after one of this size stop
-      Later : Type 0
-      Later =
-          (size : ℕ) (more : List Entry) → entriesFrom f i (from + size) (drop (from + size) bs) ≡ answered (more, at)
-          → entriesFrom f n (from + size) (drop (from + size) bs) ≡ refused k
-
-      after-one : Later → (one : Entry × ℕ) → entryOf f from (drop from bs) ≡ answered one
-          → (o : Outcome (List Entry × ℕ)) → rest (one .1) ≡ o
-          → withFirst (one .0) o ≡ answered (es, at)
-          → entriesFrom f (suc n) from (drop from bs) ≡ refused k
-      after-one later one q (refused x) p t = absurd (answered-refused t refl)
-      after-one later one q (answered more) p t =
-          let place : more .1 ≡ at = ap (λ (x : List Entry × ℕ). x .1) (answered-same refl t) in
-          let read : entriesFrom f i (from + one .1) (drop (from + one .1) bs) ≡ answered (more .0, at) =
-          rw (drop-drop (one .1) from bs, place) at p in
-          rw (q, drop-drop (one .1) from bs, later (one .1) (more .0) read) refl
-
-      go : Later → (o : Outcome (Entry × ℕ)) → entryOf f from (drop from bs) ≡ o
-          → andThen o (λ one. withFirst (one .0) (rest (one .1))) ≡ answered (es, at)
-          → entriesFrom f (suc n) from (drop from bs) ≡ refused k
-      go later (refused x) q s = absurd (answered-refused s refl)
-      go later (answered one) q s = after-one later one q (rest (one .1)) refl s
-
-  -- one entry more
-  one-more : (i from : ℕ) (es : List Entry) (at : ℕ) → entriesFrom f i from (drop from bs) ≡ answered (es, at)
-      → (e : Entry) (size : ℕ) → entryOf f at (drop at bs) ≡ answered (e, size)
-      → entriesFrom f (suc i) from (drop from bs) ≡ answered (es ++ (e ∷ []), at + size)
-  unfolding entriesFrom
-  one-more zero from es at read e size one =
+  split zero n k from es at all read =
       let z : _≡_ {A = List Entry × ℕ} ([], from) (es, at) = answered-same refl read in
-      go es at z one
-    where
-      go : (es : List Entry) (at : ℕ) → _≡_ {A = List Entry × ℕ} ([], from) (es, at) → entryOf f at (drop at bs) ≡ answered (e, size)
-          → entriesFrom f 1 from (drop from bs) ≡ answered (es ++ (e ∷ []), at + size)
-      go es at z one =
-          let place : from ≡ at = ap (λ (x : List Entry × ℕ). x .1) z in
-          let none : [] ≡ es = ap (λ (x : List Entry × ℕ). x .0) z in
-          rw (← none, place, one) refl
-  one-more (suc i) from es at read e size one =
-      go (λ taken more rest. one-more i (from + taken) more at rest e size one) (entryOf f from (drop from bs)) refl read
+      let place : from ≡ at = ap (λ (x : List Entry × ℕ). x .1) z in
+      let none : [] ≡ es = ap (λ (x : List Entry × ℕ). x .0) z in
+      let count : n ≡ k = omega arith in
+      rw (← none, place, count) (before-nothing (entriesFrom f k at (drop at bs)))
+  split (suc i) zero k from es at all read = absurd (omega arith)
+  split (suc i) (suc n) k from es at all read =
+      go (λ taken more rest. split i n k (from + taken) more at (omega arith) rest) (entryOf f from (drop from bs)) refl read
     where
       rest : ℕ → Outcome (List Entry × ℕ)
       rest taken = entriesFrom f i (from + taken) (drop taken (drop from bs))
 
-      -- one more after an entry of this size
+      -- the same of those after an entry of this size
       Later : Type 0
       Later =
           (taken : ℕ) (more : List Entry) → entriesFrom f i (from + taken) (drop (from + taken) bs) ≡ answered (more, at)
-          → entriesFrom f (suc i) (from + taken) (drop (from + taken) bs) ≡ answered (more ++ (e ∷ []), at + size)
+          → entriesFrom f n (from + taken) (drop (from + taken) bs) ≡ before more (entriesFrom f k at (drop at bs))
 
       after-one : Later → (x : Entry × ℕ) → entryOf f from (drop from bs) ≡ answered x
           → (o : Outcome (List Entry × ℕ)) → rest (x .1) ≡ o → withFirst (x .0) o ≡ answered (es, at)
-          → entriesFrom f (suc (suc i)) from (drop from bs) ≡ answered (es ++ (e ∷ []), at + size)
-      after-one later x q (refused k) p t = absurd (answered-refused t refl)
+          → entriesFrom f (suc n) from (drop from bs) ≡ before es (entriesFrom f k at (drop at bs))
+      after-one later x q (refused c) p t = absurd (answered-refused t refl)
       after-one later x q (answered more) p t =
           let same : _≡_ {A = List Entry × ℕ} (x .0 ∷ more .0, more .1) (es, at) = answered-same refl t in
           let place : more .1 ≡ at = ap (λ (y : List Entry × ℕ). y .1) same in
-          let all : x .0 ∷ more .0 ≡ es = ap (λ (y : List Entry × ℕ). y .0) same in
+          let whole : x .0 ∷ more .0 ≡ es = ap (λ (y : List Entry × ℕ). y .0) same in
           let read : entriesFrom f i (from + x .1) (drop (from + x .1) bs) ≡ answered (more .0, at) =
           rw (drop-drop (x .1) from bs, place) at p in
-          rw (q, drop-drop (x .1) from bs, later (x .1) (more .0) read, ← all) refl
+          rw (q, drop-drop (x .1) from bs, later (x .1) (more .0) read, ← whole)
+          (first-before (x .0) (more .0) (entriesFrom f k at (drop at bs)))
 
       go : Later → (o : Outcome (Entry × ℕ)) → entryOf f from (drop from bs) ≡ o
           → andThen o (λ x. withFirst (x .0) (rest (x .1))) ≡ answered (es, at)
-          → entriesFrom f (suc (suc i)) from (drop from bs) ≡ answered (es ++ (e ∷ []), at + size)
-      go later (refused k) q s = absurd (answered-refused s refl)
+          → entriesFrom f (suc n) from (drop from bs) ≡ before es (entriesFrom f k at (drop at bs))
+      go later (refused c) q s = absurd (answered-refused s refl)
       go later (answered x) q s = after-one later x q (rest (x .1)) refl s
+
+  -- so where an entry is turned back, all n are; and one that is read comes after them
+  stops : (i n from : ℕ) (es : List Entry) (at : ℕ) → i < n → entriesFrom f i from (drop from bs) ≡ answered (es, at)
+      → (k : Code) → entryOf f at (drop at bs) ≡ refused k → entriesFrom f n from (drop from bs) ≡ refused k
+  unfolding entriesFrom
+  stops i n from es at h read k r = split i n (suc (n - suc i)) from es at (omega arith) read ∙ rw r refl
+
+  one-more : (i from : ℕ) (es : List Entry) (at : ℕ) → entriesFrom f i from (drop from bs) ≡ answered (es, at)
+      → (e : Entry) (size : ℕ) → entryOf f at (drop at bs) ≡ answered (e, size)
+      → entriesFrom f (suc i) from (drop from bs) ≡ answered (es ++ (e ∷ []), at + size)
+  unfolding entriesFrom
+  one-more i from es at read e size one = split i (suc i) 1 from es at (omega arith) read ∙ rw one refl
 
 module _ (bs : List ℕ) where
   -- the header leaves the entries

@@ -1,14 +1,14 @@
 -- Numbers by place, and an array in which they are stored one after the other.
 -- Assumes nothing.
-use mathlib.Core.Path.{_≡_, sym, ap, _∙_}
+use mathlib.Core.Path.{_≡_, refl, sym, ap, _∙_}
 use mathlib.Core.Bool.{cond}
-use mathlib.Core.List.{List}
+use mathlib.Core.List.{List, _++_}
 use Prim.Native.Nat.{ℕ, _+_, _<_, _≤_}
 use native.Mathlib.Omega.{arith}
 use borrow.Author.Tests.{lt-ltb, le-ltb}
 use lib.Dec.{ltb}
-use lib.ListN.{length, getD, set, replicate, length-set, length-replicate, getD-replicate}
-use lib.Seq.{getD-set-same, getD-set-other}
+use lib.ListN.{length, getD, set, replicate, length-set, length-replicate, getD-replicate, List·getD-append}
+use lib.Seq.{getD-set-same, getD-set-other, getD-append-add}
 use Rattle.base.proofs.Sums.{le-or-lt, same-cases}
 use Rattle.base.proofs.Listed.{list-same, list-is, list-length, list-at}
 use Rattle.list.specs.DayLists.{byPlace}
@@ -67,3 +67,15 @@ module _ (f : ℕ → ℕ) (n : ℕ) where
 
   pub placed-all : (xs : List ℕ) (i : ℕ) → Placed f n xs i → n ≤ i → xs ≡ byPlace n f
   placed-all xs i so h = let z : i ≡ n = omega (arith, so .passed) in rw (← z) (so .is)
+
+-- numbers by place, and others behind them
+by-place-length : (n : ℕ) (f : ℕ → ℕ) → length (byPlace n f) ≡ 64
+by-place-length n f = list-length 64 _
+
+pub by-place-first : (n : ℕ) (f g : ℕ → ℕ) (i : ℕ) → i < 64 → i < n → getD (byPlace n f ++ byPlace n g) i 0 ≡ f i
+by-place-first n f g i h l =
+    List·getD-append (byPlace n f) (byPlace n g) 0 i (omega (arith, by-place-length n f)) ∙ by-place-at f n i h ∙ rw (lt-ltb _ _ l) refl
+
+pub by-place-second : (n : ℕ) (f g : ℕ → ℕ) (i : ℕ) → i < 64 → i < n → getD (byPlace n f ++ byPlace n g) (64 + i) 0 ≡ g i
+by-place-second n f g i h l =
+    (rw (by-place-length n f) at (getD-append-add (byPlace n f) (byPlace n g) i 0)) ∙ by-place-at g n i h ∙ rw (lt-ltb _ _ l) refl

@@ -1,5 +1,6 @@
--- Laws of the report's text.
+-- Laws of the report's text, and of storing one.
 mod Texts
+pub mod TextLaws
 -- Numbers are printed in base ten.
 pub mod DecimalFacts
 -- The runs found are the maximal runs.

@@ -1,9 +1,9 @@
 -- What `report` and `refusal_line` promise.
-use Prim.Native.Nat.{ℕ, _≤_}
+use Prim.Native.Nat.{ℕ, _<_, _≤_}
 use mathlib.Core.Path.{_≡_}
-use mathlib.Core.List.{List}
-use lib.ListN.{length, take}
-use Rattle.base.specs.Outcomes.{code, Outcome, answered, refused, andThen}
+use mathlib.Core.List.{List, [], _∷_, _++_}
+use lib.ListN.{length, take, drop}
+use Rattle.base.specs.Outcomes.{Code, code, Outcome, answered, refused, andThen}
 use Rattle.list.specs.Refusals.{writeAnswerOf}
 use Rattle.format.specs.Writing.{readLimit, storing, stored}
 use Rattle.list.specs.declared.types.WriteAnswer.{WriteAnswer}
@@ -19,6 +19,15 @@ storeOf o room = andThen o (λ text. storing text room)
 abbrev pub textAfter : Outcome (List ℕ) → List ℕ → List ℕ
 textAfter (answered text) old = stored (storing text (length old)) text old
 textAfter (refused k) old = old
+
+-- the same in facts: `text-law` of proofs/TextLaws.antt
+pub record TextLaw (o : Outcome (List ℕ)) (old : List ℕ) : Type 0 where
+  pub before : (k : Code) → o ≡ refused k → storeOf o (length old) ≡ refused k
+  pub short : (text : List ℕ) → o ≡ answered text → length old < length text
+      → storeOf o (length old) ≡ refused (code 12 (length text ∷ []))
+  pub fits : (text : List ℕ) → o ≡ answered text → length text ≤ length old
+      → (storeOf o (length old) ≡ answered (length text)) × (textAfter o old ≡ text ++ drop (length text) old)
+  pub stays : (k : Code) → storeOf o (length old) ≡ refused k → textAfter o old ≡ old
 
 -- what a call answers of a text, or of a refusal, and leaves in a buffer that held old
 pub record StoresText (o : Outcome (List ℕ)) (old : List ℕ) (a : WriteAnswer) (new : List ℕ) : Type 0 where

@@ -1,8 +1,9 @@
 -- A turn over rows of numbers: what it answers, and what it leaves in all that is lent.
-use Prim.Native.Nat.{ℕ, _*_}
+use Prim.Native.Nat.{ℕ, _+_, _*_, _<_, _≤_}
 use mathlib.Core.Path.{_≡_}
+use mathlib.Core.Logic.{_⊎_}
 use mathlib.Core.List.{List, [], _∷_}
-use lib.ListN.{length}
+use lib.ListN.{length, getD}
 use lib.Seq.{sets}
 use Rattle.base.specs.Outcomes.{Outcome, answered, refused, andThen}
 use Rattle.codes.specs.Codes.{three}
@@ -56,6 +57,12 @@ pub record RoomsLeft (x : Lent) (o : Outcome Turn) (xs oldCarried newRooms newLi
   pub lists : newLists ≡ lentBy o x .lists
   pub carried : newCarried ≡ carriedBy o oldCarried
   pub back : roomsIn newRooms ≡ lentBy o x .rows
+
+-- so the numbers of no other room change, whatever they say: `rooms-law` of proofs/RoomLaws.antt
+abbrev pub RoomsLaw : Type 0
+RoomsLaw =
+    (x : Lent) (xs : List ℕ) (i : ℕ) (said : Outcome (Unit {0})) (next : ℕ) (j : ℕ) → (j < 3 * i) ⊎ (3 * i + 3 ≤ j)
+    → getD (roomsBy (answered (took i said next)) x xs) j 0 ≡ getD xs j 0
 
 -- what it answers, and leaves
 pub record NumbersTurn (x : Lent) (o : Outcome Turn) (xs oldCarried : List ℕ) (a : TurnNumbers)
