@@ -1,0 +1,33 @@
+-- What the search in windows promises.
+use Prim.Native.Nat.{ℕ}
+use mathlib.Core.Path.{_≡_}
+use mathlib.Core.Bool.{Bool}
+use Rattle.windows.specs.Windows.{Windows, windowsIn}
+use Rattle.windows.specs.Intervals.{overloadOf}
+use Rattle.windows.specs.declared.types.WindowSet.{WindowSet}
+use Rattle.backtracking.specs.Searches.{Search, found, none, spent, trialsOf, searchWithin}
+use Rattle.backtracking.specs.declared.types.Ending.{Ending}
+use Rattle.backtracking.specs.declared.types.Ending.the-variants.{DayFound, NoneExists, TrialsSpent}
+use Rattle.backtracking.specs.declared.types.SearchAnswer.{SearchAnswer}
+
+-- how it is said that a search ended
+abbrev pub endingOf : Search → Ending
+endingOf (found v t) = DayFound
+endingOf (none t) = NoneExists
+endingOf (spent t) = TrialsSpent
+
+-- the windows with the starts fixed where a day was found, else those given
+abbrev pub windowsAfter : Windows → Search → Windows
+windowsAfter w (found v t) = v
+windowsAfter w (none t) = w
+windowsAfter w (spent t) = w
+
+-- the answer says that the search in the windows w ended with x
+pub record Says (w : Windows) (x : Search) (a : SearchAnswer) : Type 0 where
+  pub ending : a .ending ≡ endingOf x
+  pub windows : windowsIn (a .windows) ≡ windowsAfter w x
+  pub trials : a .trials ≡ trialsOf x
+
+-- what `search_windows` answers of the windows s, whatever they are: the overload test is what a trial asks
+abbrev pub SearchesWindows : (ℕ → Bool) → WindowSet → ℕ → SearchAnswer → Type 0
+SearchesWindows whole s limit = Says (windowsIn s) (searchWithin overloadOf limit whole (windowsIn s))
