@@ -32,11 +32,13 @@ NotAfter whole n a b =
     ((k : ℕ) × (k < n) × (whole k ≡ true) × (a k < b k) × ((i : ℕ) → i < k → whole i ≡ true → a i ≡ b i))
     ⊎ ((i : ℕ) → i < n → whole i ≡ true → a i ≡ b i)
 
+-- x at the whole places below n, else y
+abbrev pub atWhole : (ℕ → Bool) → ℕ → (ℕ → ℕ) → (ℕ → ℕ) → ℕ → ℕ
+atWhole whole n x y i = cond (ltb i n && whole i) (x i) (y i)
+
 -- "with the starts fixed": each whole entry's window is [s, s + p), the others are as they were
 abbrev pub withStarts : (ℕ → Bool) → Windows → (ℕ → ℕ) → Windows
-withStarts whole w s =
-    let fixed = λ (i : ℕ). ltb i (w .n) && whole i in
-    withWindows w (λ i. cond (fixed i) (s i) (w .r i)) (λ i. cond (fixed i) (s i + w .p i) (w .d i))
+withStarts whole w s = withWindows w (atWhole whole (w .n) s (w .r)) (atWhole whole (w .n) (λ i. s i + w .p i) (w .d))
 
 -- the bytes are an unbroken day of the windows w with the starts s, "and among all unbroken days its list of whole entries' starts is the
 -- least, compared from place 0 on"
