@@ -1,13 +1,13 @@
 -- What the search in windows promises.
 use Prim.Native.Nat.{ℕ}
 use mathlib.Core.Path.{_≡_}
-use mathlib.Core.Bool.{Bool}
+use mathlib.Core.Bool.{Bool, true, false}
 use Rattle.windows.specs.Windows.{Windows, windowsIn}
 use Rattle.windows.specs.Intervals.{overloadOf}
 use Rattle.windows.specs.declared.types.WindowSet.{WindowSet}
 use Rattle.backtracking.specs.Searches.{Search, found, none, spent, trialsOf, searchWithin}
 use Rattle.backtracking.specs.declared.types.Ending.{Ending}
-use Rattle.backtracking.specs.declared.types.Ending.the-variants.{DayFound, NoneExists, TrialsSpent}
+use Rattle.backtracking.specs.declared.types.Ending.the-variants.{Unsearched, DayFound, NoneExists, TrialsSpent}
 use Rattle.backtracking.specs.declared.types.SearchAnswer.{SearchAnswer}
 
 -- how it is said that a search ended
@@ -15,6 +15,13 @@ abbrev pub endingOf : Search → Ending
 endingOf (found v t) = DayFound
 endingOf (none t) = NoneExists
 endingOf (spent t) = TrialsSpent
+
+-- whether a day was found
+abbrev pub isFound : Ending → Bool
+isFound Unsearched = false
+isFound DayFound = true
+isFound NoneExists = false
+isFound TrialsSpent = false
 
 -- the windows with the starts fixed where a day was found, else those given
 abbrev pub windowsAfter : Windows → Search → Windows

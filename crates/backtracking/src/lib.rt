@@ -5,4 +5,5 @@
 mod search;
 pub mod types;
 
+pub use search::is_found;
 pub use search::search_windows;

@@ -13,7 +13,7 @@ ghost use Rattle.base.specs.Outcomes.{accepts};
 ghost use Rattle.list.specs.DayLists.{marked};
 ghost use Rattle.windows.specs.Windows.{windowsIn, withWindow};
 ghost use Rattle.windows.specs.Intervals.{overloadOf};
-ghost use Rattle.backtracking.specs.Calls.{SearchesWindows};
+ghost use Rattle.backtracking.specs.Calls.{isFound, SearchesWindows};
 ghost use Rattle.backtracking.specs.Internal.{NextWhole, LastWhole, FixedBelow, Stands, Enters, Reopens, StartLeft, Tries};
 
 // Where the search stands: the windows with the starts fixed so far, the entry that is tried, its next start, and the trials made.
@@ -22,6 +22,18 @@ pub struct Position {
     pub place: usize,
     pub start: u32,
     pub trials: u32,
+}
+
+// Whether a day was found.
+pub fn is_found(ending: Ending) -> bool
+    ensures { λ b. ⌜ b ≡ isFound ending ⌝ }
+{
+    match ending {
+        Ending::Unsearched => false,
+        Ending::DayFound => true,
+        Ending::NoneExists => false,
+        Ending::TrialsSpent => false,
+    }
 }
 
 // The windows with [s, e) as that of entry k.

@@ -38,7 +38,7 @@ fn buffer_fault(h: usize, room: usize) -> Verdict
 }
 
 // The value check, then row 11.
-fn plan_checks(list: DayList, room: usize) -> Verdict
+pub fn plan_checks(list: DayList, room: usize) -> Verdict
     ensures { λ v. ⌜ verdictOf v ≡ planChecks list room ⌝ }
 {
     let verdict = list::check(list);
