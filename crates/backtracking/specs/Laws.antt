@@ -10,7 +10,7 @@ use Rattle.windows.specs.Plans.{Plan, placesIn, PlanBytes, IsStart}
 use Rattle.jackson.specs.Minutes.{schedule}
 use Rattle.narrow.specs.Searching.{Test}
 use Rattle.narrow.specs.Settling.{Unbroken}
-use Rattle.backtracking.specs.Searches.{Search, found, none, spent, trialsOf, searchAll, searchWithin}
+use Rattle.backtracking.specs.Searches.{found, none, spent, trialsOf, searchAll, searchWithin}
 
 -- "a day in which all whole boxes stay in one piece": a plan in the windows w that keeps every whole entry in one piece
 pub record UnbrokenDay (whole : ℕ → Bool) (w : Windows) (m : ℕ → ℕ) : Type 0 where

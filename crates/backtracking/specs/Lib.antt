@@ -1,4 +1,5 @@
 pub mod Searches
 pub mod Laws
 pub mod Calls
+pub mod Examples
 pub mod Internal

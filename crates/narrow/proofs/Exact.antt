@@ -71,10 +71,10 @@ module _ {test : Test} (planner : Planner test) (w : Windows) (formed : Formed w
     fixed-exact : Plannable (fixedAt w k s) ↔ (test (fixedAt w k s) ≡ answered tt)
     fixed-exact = planner .exact (fixedAt w k s) (fixed-formed w formed k s place room)
 
-    plan-accepted : Plannable (fixedAt w k s) → accepts (test (fixedAt w k s)) ≡ true
+    pub plan-accepted : Plannable (fixedAt w k s) → accepts (test (fixedAt w k s)) ≡ true
     plan-accepted plan = ap accepts (fixed-exact .0 plan)
 
-    accepted-plan : accepts (test (fixedAt w k s)) ≡ true → Plannable (fixedAt w k s)
+    pub accepted-plan : accepts (test (fixedAt w k s)) ≡ true → Plannable (fixedAt w k s)
     accepted-plan e = fixed-exact .1 (accepted-answered _ e)
 
   -- what the search for a start answers

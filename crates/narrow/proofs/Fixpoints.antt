@@ -17,7 +17,7 @@ use Rattle.narrow.specs.StepLists.{NothingLeft}
 use Rattle.narrow.proofs.Planners.{Planner}
 use Rattle.narrow.proofs.RoundsEnd.{rounds-by}
 use Rattle.windows.proofs.Puts.{place-cases, put-same, put-back, with-r, with-d}
-use Rattle.narrow.proofs.MirrorSettled.{SidePlan}
+use Rattle.narrow.proofs.MirrorSettled.{SidePlan, set-formed}
 use Rattle.narrow.proofs.SettledSteps.{Narrows, NarrowsOr, step-narrows, rounds-narrow}
 
 -- Windows that no step changes.
@@ -172,6 +172,10 @@ rounds-widest {test} planner whole fuel s formed planned enough =
 module _ (whole : ℕ → Bool) (w : Windows) where
   pub widest-set : (v : Windows) → Widest whole w v → SettledInside whole w (v .r) (v .d)
   widest-set v a = record { inside = record { r = a .inside .r; d = a .inside .d }; settled = rw (a .entries) at (a .settled) }
+
+  -- they leave each entry room
+  pub widest-formed : (v : Windows) → Formed w → Widest whole w v → Formed v
+  widest-formed v formed a = rw (a .entries) (set-formed whole w formed (v .r) (v .d) (widest-set v a))
 
   lies-inside : (v u : Windows) → Widest whole w v → Widest whole w u → (i : ℕ) → i < w .n → (u .r i ≤ v .r i) × (v .d i ≤ u .d i)
   lies-inside v u a b i place =

@@ -2,12 +2,11 @@
 -- Assumes nothing.
 use mathlib.Core.Path.{_≡_, refl, ap}
 use mathlib.Core.Bool.{Bool, true, false, cond}
-use Prim.Native.Nat.{ℕ, _+_, _-_, _<_, _≤_, min}
+use Prim.Native.Nat.{ℕ, _+_, _-_, _<_, _≤_}
 use native.Mathlib.Omega.{arith}
 use Rattle.windows.specs.Windows.{Windows, withWindows, Formed}
 use Rattle.windows.specs.Plans.{Plan, startOf, Consecutive}
-use Rattle.base.proofs.Sums.{le-or-lt}
-use Rattle.windows.proofs.PlanFacts.{minutes-within, other-windows, widen, plan-start, start-released}
+use Rattle.windows.proofs.PlanFacts.{other-windows, widen, run-start, run-due, plan-start, start-released}
 use Rattle.narrow.specs.Settling.{SettledInside, NoneSettled, Widest, Unbroken}
 
 module _ (whole : ℕ → Bool) (w : Windows) (formed : Formed w) (m : ℕ → ℕ) (plan : Plan w m) (unbroken : Unbroken whole w m) where
@@ -27,27 +26,14 @@ module _ (whole : ℕ → Bool) (w : Windows) (formed : Formed w) (m : ℕ → �
   module _ (k : ℕ) (place : k < w .n) (is-whole : whole k ≡ true) where
     -- its minutes are consecutive from its start on
     run : Consecutive (w .h) m k (start k) (start k + w .p k)
-    run = let z = unbroken k place is-whole in rw (same (z .0) (z .1)) at (z .1)
-      where
-        same : (s : ℕ) → Consecutive (w .h) m k s (s + w .p k) → s ≡ start k
-        same s block =
-            let first = plan-start w m plan k place (formed .minutes k place) in
-            let from = block .only (start k) (first .below) (first .minute) .0 in
-            let here = block .each s (omega (arith, first .below)) (omega arith) (omega (arith, formed .minutes k place)) in
-            le-or-lt (start k) s (λ l. omega arith) (λ l. absurd (first .none-before s l here))
+    run =
+        let z = unbroken k place is-whole in
+        let some = formed .minutes k place in
+        rw (run-start (w .h) m k (start k) (z .0) _ (plan-start w m plan k place some) (z .1) (omega arith)) at (z .1)
 
-    -- they end by its d: from the start on, and below d, there must be room for p minutes
+    -- they end by its d
     due : start k + w .p k ≤ w .d k
-    due = omega (arith, minutes-within (w .h) m k (start k) end inside, plan .exact k place, formed .minutes k place)
-      where
-        end : ℕ
-        end = min (start k + w .p k) (w .d k)
-
-        inside : (t : ℕ) → t < w .h → m t ≡ k → (start k ≤ t) × (t < end)
-        inside t below e =
-            let a = run .only t below e in
-            let b = plan .inside k t place below e in
-            (a .0, omega (arith, a .1, b .1))
+    due = run-due w m plan k place (formed .minutes k place) (start k) run
 
   -- All entries.
 

@@ -36,6 +36,7 @@ use Rattle.narrow.specs.declared.types.WindowsAnswer.{WindowsAnswer}
 use Rattle.narrow.specs.declared.types.NarrowAnswer.{NarrowAnswer}
 use Rattle.narrow.proofs.OverloadPlanner.{overload-planner}
 use Rattle.narrow.proofs.StepsKeep.{Keeps}
+use Rattle.narrow.proofs.Fixpoints.{widest-formed}
 use Rattle.narrow.proofs.NarrowLaws.{narrow-law}
 use Rattle.narrow.proofs.ListAnswers.{answers-refused, settle-keeps, holds-answer}
 use Rattle.bounds.specs.ShownPlans.{boundOf, shownPlan}
@@ -51,7 +52,7 @@ use Rattle.planner.specs.BrokenEntries.{brokenIn}
 use Rattle.planner.specs.Demand2.{PlansWindows}
 use Rattle.planner.specs.Calls.{beforeNine, planChecks, shownChecks, narrowAfter, settledOr, planned, endsOf, startsOf, brokenOf}
 use Rattle.planner.specs.Internal.{HoldsPlan, NarrowsAfter}
-use Rattle.planner.proofs.Demands.{widest-formed, plans-windows}
+use Rattle.planner.proofs.Demands.{plans-windows}
 
 -- The checks before 9.
 module _ (l : DayList) (v : Verdict) (checked : verdictOf v ≡ checkOf l) where

@@ -11,13 +11,11 @@ use Rattle.windows.specs.Intervals.{overloadOf}
 use Rattle.jackson.specs.Minutes.{schedule}
 use Rattle.jackson.specs.Laws.{ScheduleLaw}
 use Rattle.jackson.proofs.Law.{schedule-law}
-use Rattle.narrow.specs.Settling.{Widest}
 use Rattle.narrow.specs.Rounds.{Narrowed, narrowing}
 use Rattle.narrow.specs.Laws.{NarrowLaw}
 use Rattle.windows.proofs.Room.{formed-roomy}
 use Rattle.narrow.proofs.OverloadPlanner.{overload-planner}
-use Rattle.narrow.proofs.MirrorSettled.{set-formed}
-use Rattle.narrow.proofs.Fixpoints.{widest-set}
+use Rattle.narrow.proofs.Fixpoints.{widest-formed}
 use Rattle.narrow.proofs.NarrowLaws.{narrow-law}
 use Rattle.bounds.specs.Ends.{leastEnd, greatestStart}
 use Rattle.planner.specs.BrokenEntries.{brokenIn}
@@ -39,10 +37,6 @@ pub record AtPlace (whole : ℕ → Bool) (w : Windows) (told : Told) (k : ℕ) 
 -- of each entry, in the windows answered
 abbrev pub ByRules : (ℕ → Bool) → Told → Type 0
 ByRules whole told = (v : Narrowed) → told .outcome ≡ answered v → (k : ℕ) → k < v .windows .n → AtPlace whole (v .windows) told k
-
--- the widest settled windows leave each entry room
-pub widest-formed : (whole : ℕ → Bool) (w v : Windows) → Formed w → Widest whole w v → Formed v
-widest-formed whole w v formed best = rw (best .entries) (set-formed whole w formed (v .r) (v .d) (widest-set whole w v best))
 
 pub demand3 : (whole : ℕ → Bool) (w : Windows) → Formed w → (told : Told) → told .outcome ≡ narrowing overloadOf whole w
     → ByRules whole told → Demand3 whole w told

@@ -28,6 +28,7 @@ use Rattle.narrow.specs.Rounds.{Narrowed, narrowing}
 use Rattle.narrow.specs.Laws.{NarrowLaw}
 use Rattle.narrow.specs.Calls.{entryWith, listWith}
 use Rattle.narrow.proofs.OverloadPlanner.{overload-planner}
+use Rattle.narrow.proofs.Fixpoints.{widest-formed}
 use Rattle.narrow.proofs.NarrowLaws.{narrow-law}
 use Rattle.narrow.proofs.Costs.{by-test}
 use Rattle.narrow.proofs.Alike.{with-length, listed-entry}
@@ -35,7 +36,7 @@ use Rattle.bounds.specs.Ends.{leastEnd, greatestStart}
 use Rattle.planner.specs.BrokenEntries.{isBroken, brokenIn}
 use Rattle.bounds.proofs.EndBounds.{early-is}
 use Rattle.bounds.proofs.StartBounds.{late-is}
-use Rattle.planner.proofs.Demands.{widest-formed, plans-windows}
+use Rattle.planner.proofs.Demands.{plans-windows}
 use Rattle.report.specs.Runs.{beginsRun, runEnd}
 use Rattle.report.specs.Reports.{entryLineAt, entryLines, runLine, runLines, dayText, plannedText, reportOf}
 use Rattle.report.specs.Calls.{enough}

@@ -28,6 +28,7 @@ use Rattle.narrow.specs.Laws.{Reason}
 use Rattle.narrow.specs.Calls.{listWith, settleOf}
 use Rattle.narrow.specs.declared.types.NarrowAnswer.{NarrowAnswer}
 use Rattle.narrow.proofs.OverloadPlanner.{overload-planner}
+use Rattle.narrow.proofs.Fixpoints.{widest-formed}
 use Rattle.narrow.proofs.NarrowLaws.{narrow-law}
 use Rattle.narrow.proofs.Alike.{listed-entries}
 use Rattle.windows.proofs.FormedLists.{list-formed}
@@ -37,7 +38,7 @@ use Rattle.planner.specs.BrokenEntries.{brokenIn}
 use Rattle.bounds.specs.ShownPlans.{earlyPlan, latePlan}
 use Rattle.planner.specs.Demand3.{Demand3}
 use Rattle.planner.specs.Demand2.{PlansWindows}
-use Rattle.planner.proofs.Demands.{AtPlace, ByRules, widest-formed, demand3, plans-windows}
+use Rattle.planner.proofs.Demands.{AtPlace, ByRules, demand3, plans-windows}
 use Rattle.report.specs.Text.{line}
 use Rattle.report.specs.Runs.{beginsRun}
 use Rattle.report.specs.Reports.{headLine, entryLine, entryLines, runLine, runLines, refusalLine, dayText, plannedText, reportOf}

@@ -3,14 +3,14 @@
 use mathlib.Core.Path.{_≡_, refl, sym, ap, _∙_, fun-ext}
 use mathlib.Core.Bool.{cond, _&&_}
 use mathlib.Core.List.{List, [], _∷_}
-use Prim.Native.Nat.{ℕ, zero, suc, _+_, _-_, _<_, _≤_}
+use Prim.Native.Nat.{ℕ, zero, suc, _+_, _-_, _<_, _≤_, min}
 use native.Mathlib.Omega.{arith}
 use borrow.Author.Tests.{eqb-true, eq-eqb, lt-ltb, le-ltb}
 use lib.Dec.{eqb, leb, ltb}
 use lib.ListN.{length, getD}
 use Rattle.base.specs.Counting.{same}
 use Rattle.windows.specs.Windows.{Windows, Inside, withWindows}
-use Rattle.windows.specs.Plans.{minutesOf, Plan, startOf, endOf, IsStart, IsEnd, idle, placesIn, PlanBytes}
+use Rattle.windows.specs.Plans.{minutesOf, Plan, startOf, endOf, IsStart, IsEnd, Consecutive, idle, placesIn, PlanBytes}
 use Rattle.windows.specs.Mirrors.{mirror, mirrorPlan, mirrorBytes}
 use Rattle.base.proofs.Sums.{le-or-lt, same-cases, same-ne, between-is, sum-le, sum-lt, sum-cong, sum-zero, sum-reverse, count-between}
 use Rattle.base.proofs.Listed.{list-length, list-at}
@@ -119,6 +119,13 @@ pub start-to-end : (h : ℕ) (m : ℕ → ℕ) (i s e : ℕ) → IsStart h m i s
 start-to-end h m i s e start end t below q =
     (le-or-lt s t (λ l. l) (λ l. absurd (start .none-before t l q)), le-or-lt e t (λ l. absurd (end .none-after t l below q)) (λ l. l))
 
+-- consecutive minutes begin at the start
+pub run-start : (h : ℕ) (m : ℕ → ℕ) (i s a b : ℕ) → IsStart h m i s → Consecutive h m i a b → a < b → a ≡ s
+run-start h m i s a b start run some =
+    let from = run .only s (start .below) (start .minute) .0 in
+    let here = run .each a (omega (arith, start .below)) (omega arith) some in
+    le-or-lt s a (λ l. omega arith) (λ l. absurd (start .none-before a l here))
+
 -- Plans.
 
 -- two that agree in their first t minutes give an entry equally many of them
@@ -153,6 +160,18 @@ module _ (w : Windows) (m : ℕ → ℕ) (plan : Plan w m) (i : ℕ) (place : i 
       minutes-fill (w .h) m i (w .r i) (w .d i) (λ t. plan .inside i t place) in-day (omega (arith, plan .exact i place))
 
   module _ (some : 1 ≤ w .p i) where
+    -- its minutes, if consecutive, end by its d: from their first on, and below d, there must be room for them
+    pub run-due : (s : ℕ) → Consecutive (w .h) m i s (s + w .p i) → s + w .p i ≤ w .d i
+    run-due s run =
+        let end = min (s + w .p i) (w .d i) in
+        omega (arith, plan .exact i place, some, minutes-within (w .h) m i s end inside)
+      where
+        inside : (t : ℕ) → t < w .h → m t ≡ i → (s ≤ t) × (t < min (s + w .p i) (w .d i))
+        inside t below e =
+            let a = run .only t below e in
+            let b = plan .inside i t place below e in
+            (a .0, omega (arith, a .1, b .1))
+
     -- a window in a plan has room for its entry's minutes
     pub plan-room : w .r i + w .p i ≤ w .d i
     plan-room = omega (arith, plan .exact i place, minutes-within (w .h) m i (w .r i) (w .d i) (λ t. plan .inside i t place))
