@@ -106,7 +106,7 @@ module _ (l : DayList) where
   unfolding planChecks
   plan-formed room e = rows-passed (bufferRow (l .frame .h) room ∷ []) e .0
 
-  plan-room : (room : ℕ) → planChecks l room ≡ answered tt → l .frame .h ≤ room
+  pub plan-room : (room : ℕ) → planChecks l room ≡ answered tt → l .frame .h ≤ room
   unfolding planChecks
   plan-room room e = ltb-false _ _ (row-passed _ _ _ (rows-passed (bufferRow (l .frame .h) room ∷ []) e .1) .0)
 
