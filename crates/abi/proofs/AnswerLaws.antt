@@ -1,12 +1,15 @@
 -- What the numbers of an answer say, and what a refusal leaves.
 -- Assumes nothing.
 use mathlib.Core.Path.{_≡_, refl, ap, _∙_}
+use mathlib.Core.Bool.{cond}
 use mathlib.Core.List.{List, _++_}
 use Prim.Native.Nat.{ℕ, _+_}
+use borrow.Author.Tests.{lt-ltb}
 use lib.ListN.{getD}
 use Rattle.list.specs.DayLists.{wholeIn}
 use Rattle.bounds.specs.Ends.{leastEnds, greatestStarts}
-use Rattle.list.proofs.ByPlace.{by-place-first, by-place-second}
+use Rattle.list.proofs.ByPlace.{by-place-at, by-place-first, by-place-second}
+use Rattle.unbroken.specs.Calls.{wholeStarts}
 use Rattle.report.proofs.TextLaws.{text-law}
 use Rattle.abi.specs.Laws.{AnswerLaws}
 
@@ -39,6 +42,21 @@ answer-laws =
       unshown =
           λ x l i o p f a plan fields c k e.
           (c .narrowed .answer ∙ rw e refl, c .plan ∙ rw e refl, c .narrowed .buffer ∙ rw e refl);
+      day-found = λ l o x p f s a plan fields starts c v e u t q. c .narrowed .answer ∙ rw (e, q) refl;
+      whole-start = λ l o x p f s a plan fields starts c u t q i h n is.
+          let are : starts ≡ wholeStarts (wholeIn l) u = c .starts ∙ rw q refl in
+          ap (λ (z : List ℕ). getD z i 0) are
+          ∙ by-place-at (λ j. cond (wholeIn l j) (u .r j) 0) (u .n) i h
+          ∙ rw (lt-ltb i (u .n) n, is) refl;
+      none-exists =
+          λ l o x p f s a plan fields starts c v e t q.
+          (c .narrowed .answer ∙ rw (e, q) refl, c .plan ∙ rw q refl, c .starts ∙ rw q refl);
+      trials-spent =
+          λ l o x p f s a plan fields starts c v e t q.
+          (c .narrowed .answer ∙ rw (e, q) refl, c .plan ∙ rw q refl, c .starts ∙ rw q refl);
+      unsearched =
+          λ l o x p f s a plan fields starts c k e q.
+          (c .narrowed .answer ∙ rw e refl, c .plan ∙ rw q refl, c .narrowed .buffer ∙ rw e refl, c .starts ∙ rw q refl);
       made = λ o old a new c d e. (c .answer ∙ rw e refl, c .day .back d e);
       not-made = λ o old a new c k e. (c .answer ∙ rw e refl, c .day .buffer ∙ rw e refl);
       committed = λ d e o w p f b a day plan fields bounds c v q. c .day .back _ (rw q refl);

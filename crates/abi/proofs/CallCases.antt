@@ -46,14 +46,14 @@ module _ {o : Outcome DayList} (a : ReadAnswer) (w : readAnswerOf a ≡ o) where
   taken : a .verdict ≡ Accepted → o ≡ answered (a .list)
   taken = by-verdict (a .list) w
 
-  turned-back : (x : Refusal) → a .verdict ≡ Refused x → o ≡ refused (codeOf x)
+  pub turned-back : (x : Refusal) → a .verdict ≡ Refused x → o ≡ refused (codeOf x)
   turned-back x = by-verdict (a .list) w
 
 -- a refusal leaves the row as it was
 nothing-read : (x : Refusal) (old : List ℕ) (b : Answer) → RefusedAs x b → TakenCall (refused (codeOf x)) old b old
 nothing-read x old b q = record { answer = q; buffer = refl; back = λ l e. absurd (answered-refused e refl) }
 
-nothing-narrowed : (x : Refusal) (second third : ℕ) (old : List ℕ) (b : Answer) → RefusedAs x b
+pub nothing-narrowed : (x : Refusal) (second third : ℕ) (old : List ℕ) (b : Answer) → RefusedAs x b
     → NarrowCall (refused (codeOf x)) second third old b old
 nothing-narrowed x second third old b q = record { answer = q; buffer = refl; back = λ y e. absurd (answered-refused e refl) }
 
@@ -130,7 +130,7 @@ module _ (xs fields : List ℕ) where
 
 -- rows that were turned back: the refusal is handed on, and what is lent stays
 module _ (xs : List ℕ) (a : ReadAnswer) (x : Refusal) (v : a .verdict ≡ Refused x) (b : Answer) (q : VerdictAs (a .verdict) b) where
-  told : RefusedAs x b
+  pub told : RefusedAs x b
   told = rw v at q
 
   module _ (w : ReadsFlat xs a) where

@@ -4,3 +4,4 @@ mod AnswerLaws
 mod CallCases
 mod DayCases
 mod RoomCases
+mod SearchCases

@@ -2,12 +2,14 @@
 -- contracts of the calls allow.
 use Prim.Native.Nat.{ℕ, _+_, _<_}
 use mathlib.Core.Path.{_≡_}
+use mathlib.Core.Bool.{true}
 use mathlib.Core.List.{List, [], _∷_}
 use lib.ListN.{length, getD}
 use Rattle.base.specs.Outcomes.{Code, Outcome, answered, refused}
 use Rattle.list.specs.DayLists.{wholeIn}
 use Rattle.list.specs.declared.types.Entry.{Entry}
 use Rattle.list.specs.declared.types.DayList.{DayList}
+use Rattle.windows.specs.Windows.{Windows}
 use Rattle.windows.specs.Plans.{placesIn}
 use Rattle.windows.specs.Intervals.{overloadOf}
 use Rattle.jackson.specs.Minutes.{schedule}
@@ -15,6 +17,7 @@ use Rattle.jackson.specs.Calls.{testOf}
 use Rattle.narrow.specs.Rounds.{Narrowed}
 use Rattle.bounds.specs.Ends.{leastEnd, greatestStart}
 use Rattle.bounds.specs.ShownPlans.{boundOf}
+use Rattle.backtracking.specs.Searches.{Search, found, none, spent}
 use Rattle.planner.specs.BrokenEntries.{brokenIn}
 use Rattle.report.specs.Calls.{storeOf}
 use Rattle.rooms.specs.Turns.{Lent, Turn, took, none-unfinished}
@@ -25,6 +28,7 @@ use Rattle.flat.specs.DayRows.{dayIn}
 use Rattle.abi.specs.Calls.{TakenCall, WrittenCall, OverloadCall, FilledCall, NarrowCall, PlannedCall, ShownCall, TextCall}
 use Rattle.abi.specs.DayCalls.{MadeCall, CommittedCall}
 use Rattle.abi.specs.RoomCalls.{TurnedCall}
+use Rattle.abi.specs.SearchCalls.{SearchedCall}
 use Rattle.bounds.specs.declared.types.Shown.{Shown}
 use Rattle.abi.specs.declared.Answer.{Answer}
 
@@ -87,6 +91,22 @@ pub record AnswerLaws : Type 0 where
       → a ≡ answerNumbers 0 (v .moves) (boundOf x (wholeIn l) i (v .windows)) 0
   pub unshown : (x : Shown) (l : DayList) (i : ℕ) (o : Outcome Narrowed) (p f : List ℕ) (a : Answer) (plan fields : List ℕ)
       → ShownCall x l i o p f a plan fields → (k : Code) → o ≡ refused k → (a ≡ refusalTold k) × (plan ≡ p) × (fields ≡ f)
+  -- looking for an unbroken day: the moves, how it ended and the trials; 1 found, 2 none exists, 3 all trials spent
+  pub day-found : (l : DayList) (o : Outcome Narrowed) (x : Outcome Search) (p f s : List ℕ) (a : Answer) (plan fields starts : List ℕ)
+      → SearchedCall l o x p f s a plan fields starts → (v : Narrowed) → o ≡ answered v → (u : Windows) (t : ℕ) → x ≡ answered (found u t)
+      → a ≡ answerNumbers 0 (v .moves) 1 t
+  pub whole-start : (l : DayList) (o : Outcome Narrowed) (x : Outcome Search) (p f s : List ℕ) (a : Answer) (plan fields starts : List ℕ)
+      → SearchedCall l o x p f s a plan fields starts → (u : Windows) (t : ℕ) → x ≡ answered (found u t)
+      → (i : ℕ) → i < 64 → i < u .n → wholeIn l i ≡ true → getD starts i 0 ≡ u .r i
+  pub none-exists : (l : DayList) (o : Outcome Narrowed) (x : Outcome Search) (p f s : List ℕ) (a : Answer) (plan fields starts : List ℕ)
+      → SearchedCall l o x p f s a plan fields starts → (v : Narrowed) → o ≡ answered v → (t : ℕ) → x ≡ answered (none t)
+      → (a ≡ answerNumbers 0 (v .moves) 2 t) × (plan ≡ p) × (starts ≡ s)
+  pub trials-spent : (l : DayList) (o : Outcome Narrowed) (x : Outcome Search) (p f s : List ℕ) (a : Answer) (plan fields starts : List ℕ)
+      → SearchedCall l o x p f s a plan fields starts → (v : Narrowed) → o ≡ answered v → (t : ℕ) → x ≡ answered (spent t)
+      → (a ≡ answerNumbers 0 (v .moves) 3 t) × (plan ≡ p) × (starts ≡ s)
+  pub unsearched : (l : DayList) (o : Outcome Narrowed) (x : Outcome Search) (p f s : List ℕ) (a : Answer) (plan fields starts : List ℕ)
+      → SearchedCall l o x p f s a plan fields starts → (k : Code) → o ≡ refused k → x ≡ refused k
+      → (a ≡ refusalTold k) × (plan ≡ p) × (fields ≡ f) × (starts ≡ s)
   -- a day's row: it says the day made or committed, and is kept beside a refusal. Of an ask and a commit the answer and the other buffers
   -- are said above, of their field `planned`
   pub made : (o : Outcome StampedDay) (old : List ℕ) (a : Answer) (new : List ℕ) → MadeCall o old a new

@@ -1,13 +1,14 @@
 // The planner's calls for programs in other languages: slices and numbers only.
 // Promises: each call answers 0 or a refusal's number, with its values, and leaves in its buffers what specs/Calls.antt,
-// specs/DayCalls.antt and specs/RoomCalls.antt say, whatever the bytes and numbers are. A list value crosses as a row of 451 numbers, a
+// specs/DayCalls.antt, specs/RoomCalls.antt and specs/SearchCalls.antt say, whatever the bytes and numbers are. A list value crosses as a row of 451 numbers, a
 // stamped day as one of 452, an entry as one of 7 (crate flat), the rooms of a control desk as 3 each (crate room_rows). `bytes`, `out`,
 // `plan` and `lists`, and the rows `fields`, `narrowed`, `day`, `entry` and `rooms`, come with their lengths; a row of another length is
 // refused as 100 before all else, those given before the one lent. What a call cannot check are the pointers and that they have the
-// lengths told: `bounds` has 128 numbers, `values` and `carried` 3, and no two of what is lent overlap. Uses all crates but order, shares
+// lengths told: `bounds` has 128 numbers, `starts` 64, `values` and `carried` 3, and no two of what is lent overlap. Uses all crates but order, shares
 // and dock.
 mod days;
 mod desk;
+mod search;
 
 use codes::RefusalCode;
 use flat::BOUNDS;
@@ -81,7 +82,7 @@ fn count_as(answer: WriteAnswer) -> Answer
 }
 
 // The list value that `fields` says, where a row of the length `lent` is lent beside it; row 100 for either.
-fn list_beside(fields: &[u32], lent: usize) -> ReadAnswer
+pub(crate) fn list_beside(fields: &[u32], lent: usize) -> ReadAnswer
     ensures { λ a. ⌜ readAnswerOf a ≡ flatBeside (now (fields .entry)) lent ⌝ }
 {
     let given = list_in(fields);
@@ -156,7 +157,12 @@ pub extern "C" fn dock_schedule(fields: &[u32], plan: &mut [u8]) -> Answer
 }
 
 // What narrowing answered: the values are the moves and these two, and `narrowed` is the list; refused, it keeps its values.
-fn give_narrowed(answer: NarrowAnswer, second: u64, third: u64, narrowed: &mut [u32]) -> Answer
+pub(crate) fn give_narrowed(
+    answer: NarrowAnswer,
+    second: u64,
+    third: u64,
+    narrowed: &mut [u32],
+) -> Answer
     requires { ⌜ length (now narrowed) ≡ flatNumbers ⌝ }
     ensures { λ a. ⌜ NarrowCall (narrowAnswerOf answer) second third (now (narrowed .entry)) a (now (narrowed .exit)) ⌝ }
 {

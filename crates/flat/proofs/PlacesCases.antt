@@ -1,14 +1,17 @@
 -- The numbers of the 64 places, one after the other.
 -- Assumes nothing.
-use mathlib.Core.Path.{_≡_, sym, _∙_}
+use mathlib.Core.Path.{_≡_, refl, sym, _∙_}
 use mathlib.Core.List.{List, [], _∷_, _++_, append-nil}
 use Prim.Native.Nat.{ℕ, _+_, _≤_, _<_}
 use native.Mathlib.Nat.{add-zero}
 use native.Mathlib.Numerals.{add-one}
 use native.Mathlib.Omega.{arith}
+use borrow.Author.Tests.{lt-ltb}
 use lib.ListN.{length, getD, drop, set, length-append, drop-of-length-le}
 use lib.Seq.{drop-cons, sets, sets-eq}
+use Rattle.base.proofs.Listed.{list-is}
 use Rattle.base.proofs.Stores.{sets-append}
+use Rattle.list.specs.DayLists.{byPlace}
 
 -- i of the numbers xs were stored from place at on, over what was there
 pub record PlacesSoFar (old : List ℕ) (at : ℕ) (xs now : List ℕ) (i : ℕ) : Type 0 where
@@ -39,3 +42,7 @@ module _ (old ends starts : List ℕ) (long : length old ≡ 128) (e : length en
       let none : drop (0 + length (ends ++ starts)) old ≡ [] = drop-of-length-le old short in
       let run : sets old 0 (ends ++ starts) ≡ sets (sets old 0 ends) 64 starts = rw e at (sets-append old 0 ends starts) in
       sym run ∙ sets-eq (ends ++ starts) old 0 (omega (arith, all)) ∙ rw none (append-nil (ends ++ starts))
+
+-- the numbers of an array of 64, by place
+pub places-all : (xs : List ℕ) → length xs ≡ 64 → byPlace 64 (λ j. getD xs j 0) ≡ xs
+places-all xs long = list-is 64 _ 0 xs long (λ t h. rw (lt-ltb t 64 h) refl)

@@ -1,4 +1,4 @@
-// Least ends and greatest starts, one after the other.
+// Minutes by place, as numbers of 32 bits: those of one array, and least ends and greatest starts one after the other.
 use crate::BOUNDS;
 use list::types::ENTRIES;
 ghost use mathlib.Core.Path.{_≡_};
@@ -13,6 +13,19 @@ fn zero_bounds() -> [u32; BOUNDS]
     ensures { λ r. ⌜ r ≡ replicate boundNumbers 0 ⌝ }
 {
     [0; BOUNDS]
+}
+
+// The numbers of the 64 places.
+pub fn place_numbers(xs: [u16; ENTRIES]) -> [u32; ENTRIES]
+    ensures { λ r. ⌜ r ≡ xs ⌝ }
+{
+    let mut r: [u32; ENTRIES] = [0; ENTRIES];
+    let mut i: usize = 0;
+    while i < ENTRIES {
+        r[i] = xs[i] as u32;
+        i += 1;
+    }
+    r
 }
 
 // Stores a number for each of the 64 places, from place at of the bounds on.
