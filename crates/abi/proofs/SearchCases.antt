@@ -15,7 +15,7 @@ use Rattle.list.specs.declared.types.ReadAnswer.{ReadAnswer}
 use Rattle.narrow.specs.Calls.{narrowAnswerOf}
 use Rattle.backtracking.specs.Searches.{Search, found, none, spent}
 use Rattle.backtracking.specs.Calls.{isFound}
-use Rattle.unbroken.specs.Calls.{unbrokenOf, endingAfter, trialsAfter, startsAfter, FindsUnbroken}
+use Rattle.unbroken.specs.Calls.{unbrokenOf, endingAfter, startsAfter, FindsUnbroken}
 use Rattle.unbroken.specs.declared.types.UnbrokenAnswer.{UnbrokenAnswer}
 use Rattle.flat.specs.Flat.{valueOf}
 use Rattle.abi.specs.Calls.{flatBeside, NarrowCall}
@@ -46,7 +46,8 @@ pub unbroken-said : (xs oldFields newFields : List ℕ) (l : DayList) → Given 
     → NarrowCall (narrowAnswerOf (a .narrowed)) ending (a .trials) oldFields b newFields
     → UnbrokenCall xs limit oldPlan oldFields oldStarts b newPlan newFields newStarts
 unbroken-said xs oldFields newFields l g b limit oldPlan newPlan oldStarts newStarts a w put ending number given =
-    let f : FindsUnbroken (valueOf xs) limit oldPlan a newPlan = subst (λ (k : DayList). FindsUnbroken k limit oldPlan a newPlan) (g .value) w in
+    let f : FindsUnbroken (valueOf xs) limit oldPlan a newPlan =
+    subst (λ (k : DayList). FindsUnbroken k limit oldPlan a newPlan) (g .value) w in
     let o = unbrokenOf (valueOf xs) limit (length oldPlan) in
     rw (g .passed)
     (record {

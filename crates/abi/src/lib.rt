@@ -1,11 +1,11 @@
 // The planner's calls for programs in other languages: slices and numbers only.
 // Promises: each call answers 0 or a refusal's number, with its values, and leaves in its buffers what specs/Calls.antt,
-// specs/DayCalls.antt, specs/RoomCalls.antt and specs/SearchCalls.antt say, whatever the bytes and numbers are. A list value crosses as a row of 451 numbers, a
-// stamped day as one of 452, an entry as one of 7 (crate flat), the rooms of a control desk as 3 each (crate room_rows). `bytes`, `out`,
-// `plan` and `lists`, and the rows `fields`, `narrowed`, `day`, `entry` and `rooms`, come with their lengths; a row of another length is
-// refused as 100 before all else, those given before the one lent. What a call cannot check are the pointers and that they have the
-// lengths told: `bounds` has 128 numbers, `starts` 64, `values` and `carried` 3, and no two of what is lent overlap. Uses all crates but order, shares
-// and dock.
+// specs/DayCalls.antt, specs/RoomCalls.antt and specs/SearchCalls.antt say, whatever the bytes and numbers are. A list value crosses as a
+// row of 451 numbers, a stamped day as one of 452, an entry as one of 7 (crate flat), the rooms of a control desk as 3 each (crate
+// room_rows). `bytes`, `out`, `plan` and `lists`, and the rows `fields`, `narrowed`, `day`, `entry` and `rooms`, come with their lengths; a
+// row of another length is refused as 100 before all else, those given before the one lent. What a call cannot check are the pointers and
+// that they have the lengths told: `bounds` has 128 numbers, `starts` 64, `values` and `carried` 3, and no two of what is lent overlap.
+// Uses all crates but order, shares and dock.
 mod days;
 mod desk;
 mod search;

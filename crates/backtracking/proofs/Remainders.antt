@@ -1,19 +1,19 @@
 -- What is left of the search where it stands, and how a trial, the next place and going back change it.
 -- Assumes nothing.
 use mathlib.Core.Path.{_≡_, refl, sym, ap, _∙_, fun-ext}
-use mathlib.Core.Bool.{Bool, true, false, cond}
+use mathlib.Core.Bool.{Bool, true, false}
 use Prim.Native.Nat.{ℕ, zero, suc, _+_, _-_, _<_, _≤_}
 use native.Mathlib.Numerals.{add-one}
 use native.Mathlib.Omega.{arith}
 use borrow.Author.Tests.{lt-ltb, le-ltb}
 use lib.Dec.{ltb}
 use Rattle.base.specs.Outcomes.{accepts}
-use Rattle.windows.specs.Windows.{Windows, withWindows, withWindow, fixedAt, put}
+use Rattle.windows.specs.Windows.{Windows, withWindow, fixedAt}
 use Rattle.windows.specs.Intervals.{overloadOf}
-use Rattle.windows.proofs.Puts.{put-back, put-same, put-other, put-twice}
-use Rattle.narrow.specs.Searching.{trials}
-use Rattle.backtracking.specs.Searches.{Search, found, none, spent, orElse, trial, startsFrom, searchFrom, searchWithin}
-use Rattle.backtracking.specs.Internal.{NextWhole, LastWhole, FixedBelow, entriesOn, startsOn, reopened, goingBack, fromPlace, fromStart}
+use Rattle.windows.proofs.Puts.{put-same, put-twice, own-window}
+use Rattle.backtracking.specs.Searches.{Search, found, none, spent, orElse, trial, startsFrom, searchFrom}
+use Rattle.backtracking.specs.Internal.{NextWhole, LastWhole, FixedBelow, entriesOn, startsOn}
+use Rattle.backtracking.specs.Internal.{goingBack, fromPlace, fromStart}
 
 else-none : (x : Search) → orElse x (λ u. none u) ≡ x
 else-none (found v t) = refl
@@ -128,7 +128,7 @@ module _ (limit : ℕ) (whole : ℕ → Bool) (w : Windows) where
       again : FixedBelow whole w v k → withWindow (fixedAt v k s) k (w .r k) (w .d k) ≡ v
       again so =
           let here = so .later k (omega arith) in
-          rw (← (here .0), ← (here .1), put-twice k (v .r k) s (v .r), put-twice k (v .d k) (s + v .p k) (v .d), put-back k (v .r), put-back k (v .d)) refl
+          rw (← (here .0), ← (here .1), put-twice k (v .r k) s (v .r), put-twice k (v .d k) (s + v .p k) (v .d)) (own-window v k)
 
       back-own : FixedBelow whole w v k → whole k ≡ true → (u : ℕ) → back (suc k) (fixedAt v k s) u ≡ start k (s + 1) v u
       unfolding goingBack

@@ -11,14 +11,15 @@ use Rattle.windows.specs.Windows.{Windows, windowsIn, withWindows, withWindow, 
 use Rattle.windows.specs.Intervals.{overloadOf}
 use Rattle.windows.specs.declared.types.WindowSet.{WindowSet}
 use Rattle.base.proofs.Sums.{le-or-lt}
-use Rattle.windows.proofs.Puts.{place-cases, put-same, put-other}
+use Rattle.windows.proofs.Puts.{put-same, put-other}
 use Rattle.backtracking.specs.Searches.{Search, found, none, spent, searchWithin}
 use Rattle.backtracking.specs.Calls.{Says}
-use Rattle.backtracking.specs.Internal.{NextWhole, LastWhole, FixedBelow, goingBack, fromStart, Stands, Enters, Reopens, StartLeft, Tries, OnTheWay}
+use Rattle.backtracking.specs.Internal.{NextWhole, LastWhole, FixedBelow, goingBack, fromStart, Stands, Enters, Reopens}
+use Rattle.backtracking.specs.Internal.{StartLeft, Tries, OnTheWay}
 use Rattle.backtracking.specs.declared.search.Position.{Position}
 use Rattle.backtracking.specs.declared.types.Ending.the-variants.{DayFound, NoneExists, TrialsSpent}
-use Rattle.backtracking.proofs.Remainders.{from-first, from-last, from-next, from-whole, back-none, back-whole, start-none, start-spent}
-use Rattle.backtracking.proofs.Remainders.{start-fails, start-holds}
+use Rattle.backtracking.proofs.Remainders.{from-first, from-last, from-next, from-whole, back-none, back-whole}
+use Rattle.backtracking.proofs.Remainders.{start-none, start-spent, start-fails, start-holds}
 
 -- A walk over the places from k on: those before j are pause entries.
 pub record PausesTo (whole : ℕ → Bool) (n k j : ℕ) : Type 0 where
@@ -130,7 +131,8 @@ module _ (whole : ℕ → Bool) (w : Windows) where
 -- Place k is reached.
 module _ (whole : ℕ → Bool) (w : Windows) (v : WindowSet) (k t j : ℕ) (so : FixedBelow whole w (windowsIn v) k)
     (next : NextWhole whole (w .n) k j) where
-  pub enters-whole : j < w .n → w .r j ≤ 65536 → Enters whole w (windowsIn v) k t (record { windows = v; place = j; start = w .r j; trials = t })
+  pub enters-whole : j < w .n → w .r j ≤ 65536
+      → Enters whole w (windowsIn v) k t (record { windows = v; place = j; start = w .r j; trials = t })
   enters-whole place small =
       let here = fixed-later whole w (windowsIn v) k so j (next .from) in
       record {
@@ -169,7 +171,8 @@ module _ (whole : ℕ → Bool) (w : Windows) (at : Position) (stands : Stands w
   is-fixed : u ≡ fixedAt v (at .place) (at .start)
   is-fixed =
       fixed
-      ∙ ap (λ (p : ℕ). withWindow v (at .place) (at .start) (at .start + p)) (sym (same-p whole w v (at .place) (stands .fixed) (at .place)))
+      ∙ ap (λ (p : ℕ). withWindow v (at .place) (at .start) (at .start + p))
+      (sym (same-p whole w v (at .place) (stands .fixed) (at .place)))
 
   pub tried-fixed : FixedBelow whole w u (at .place + 1)
   tried-fixed = rw fixed (fixed-next whole w v (at .place) (stands .fixed) _ _ (stands .is-whole (left .place)))
@@ -239,7 +242,8 @@ module _ (whole : ℕ → Bool) (s : WindowSet) (limit : ℕ) where
       pub way-left : leb (at .start + given .p (at .place)) (given .d (at .place)) ≡ true → StartLeft given at
       way-left e = record { place = place; room = leb-true _ _ e }
 
-      pub way-spent : StartLeft given at → limit ≤ at .trials → Says given x (record { ending = TrialsSpent; windows = s; trials = at .trials })
+      pub way-spent : StartLeft given at → limit ≤ at .trials
+          → Says given x (record { ending = TrialsSpent; windows = s; trials = at .trials })
       way-spent left l =
           let z : x ≡ spent (at .trials) =
           way-start ∙ start-spent limit whole given (at .place) (at .start) now (at .trials) (left .room) l in

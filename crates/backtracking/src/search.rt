@@ -1,4 +1,5 @@
-// The search, entry by entry and start by start. It keeps its place in the windows: the starts of the whole entries before it are fixed there.
+// The search, entry by entry and start by start. It keeps its place in the windows, in which the starts of the whole entries before it are
+// fixed.
 use crate::types::Ending;
 use crate::types::SearchAnswer;
 use list::is_accepted;

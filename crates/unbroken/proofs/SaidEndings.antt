@@ -1,19 +1,17 @@
 -- Which search ended so, where an answer says how it ended, and that starts count at whole places alone.
 -- Assumes nothing.
 use mathlib.Core.Path.{_≡_, refl, sym, ap, _∙_, fun-ext}
-use mathlib.Core.Logic.{_⊎_, inl, inr}
-use mathlib.Core.Bool.{Bool, true, false, cond, _&&_}
+use mathlib.Core.Logic.{inl, inr}
+use mathlib.Core.Bool.{Bool, true, false, cond}
 use mathlib.Core.List.{List}
 use Prim.Native.Nat.{ℕ, _+_, _<_}
 use native.Mathlib.Omega.{arith}
 use borrow.Author.Tests.{lt-ltb, le-ltb}
-use lib.Dec.{ltb}
 use Rattle.base.proofs.Sums.{le-or-lt}
 use Rattle.windows.specs.Windows.{Windows, withWindows}
 use Rattle.backtracking.specs.Searches.{Search, found, none, spent}
 use Rattle.backtracking.specs.Laws.{NotAfter, atWhole, withStarts, LeastDay}
 use Rattle.backtracking.specs.Calls.{endingOf}
-use Rattle.backtracking.specs.declared.types.Ending.{Ending}
 use Rattle.backtracking.specs.declared.types.Ending.the-variants.{DayFound, NoneExists, TrialsSpent}
 
 -- Endings differ.

@@ -2,15 +2,15 @@
 -- Assumes nothing.
 use mathlib.Core.Path.{_≡_, refl, sym, ap, _∙_}
 use mathlib.Core.Bool.{Bool, true, false, cond}
-use mathlib.Core.List.{List, _++_}
+use mathlib.Core.List.{List}
 use Prim.Native.Nat.{ℕ, _<_, _≤_}
 use native.Mathlib.Omega.{arith}
 use borrow.Author.Tests.{le-ltb}
 use lib.ListN.{length, getD, take, length-take}
 use lib.Seq.{take-at}
-use Rattle.base.specs.Outcomes.{Outcome, answered, refused}
+use Rattle.base.specs.Outcomes.{answered, refused}
 use Rattle.base.proofs.Inversion.{answered-refused}
-use Rattle.list.specs.DayLists.{wholeIn, mostEntries}
+use Rattle.list.specs.DayLists.{wholeIn}
 use Rattle.list.specs.Refusals.{codeOf, verdictOf}
 use Rattle.list.specs.declared.types.DayList.{DayList}
 use Rattle.list.specs.declared.types.Refusal.{Refusal}
@@ -22,9 +22,8 @@ use Rattle.windows.specs.Windows.{Windows, windowsOf, windowsIn}
 use Rattle.windows.specs.Intervals.{overloadOf}
 use Rattle.windows.proofs.FormedLists.{list-formed}
 use Rattle.jackson.specs.Minutes.{schedule}
-use Rattle.jackson.specs.Calls.{bufferFault, planAfter}
 use Rattle.jackson.proofs.Schedules.{schedule-long}
-use Rattle.narrow.specs.Rounds.{Narrowed, narrowing}
+use Rattle.narrow.specs.Rounds.{narrowing}
 use Rattle.narrow.specs.Calls.{settleOf, Settles}
 use Rattle.narrow.specs.Laws.{NarrowLaw}
 use Rattle.narrow.specs.declared.types.NarrowAnswer.{NarrowAnswer}
@@ -37,12 +36,11 @@ use Rattle.planner.proofs.CallLaws.{call-rows-law}
 use Rattle.planner.proofs.CallCases.{plan-formed, plan-room, after-checks, settledIn, IsSettled, is-settled, settled-few, settled-day}
 use Rattle.backtracking.specs.Searches.{Search, found, none, spent, trialsOf, searchWithin}
 use Rattle.backtracking.specs.Laws.{withStarts, LeastDay, FoundLaw, UnbrokenLaw}
-use Rattle.backtracking.specs.Calls.{endingOf, isFound, windowsAfter, Says}
-use Rattle.backtracking.specs.declared.types.Ending.{Ending}
-use Rattle.backtracking.specs.declared.types.Ending.the-variants.{Unsearched, DayFound, NoneExists, TrialsSpent}
+use Rattle.backtracking.specs.Calls.{endingOf, windowsAfter, Says}
+use Rattle.backtracking.specs.declared.types.Ending.the-variants.{DayFound, TrialsSpent}
 use Rattle.backtracking.specs.declared.types.SearchAnswer.{SearchAnswer}
 use Rattle.backtracking.proofs.UnbrokenLaws.{settled-law, refused-none}
-use Rattle.unbroken.specs.Calls.{unbrokenOf, wholeStarts, startsFound, foundAfter, unsearched, needed, startIn, TellsUnbroken}
+use Rattle.unbroken.specs.Calls.{unbrokenOf, wholeStarts, startsFound, foundAfter, unsearched, startIn, TellsUnbroken}
 use Rattle.unbroken.specs.Calls.{FindsUnbroken}
 use Rattle.unbroken.specs.Internal.{startsSaid, StoresFound}
 use Rattle.unbroken.specs.declared.types.UnbrokenAnswer.{UnbrokenAnswer}

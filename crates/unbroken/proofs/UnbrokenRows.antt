@@ -5,12 +5,9 @@ use mathlib.Core.List.{List}
 use Prim.Native.Nat.{ℕ}
 use Rattle.base.specs.Outcomes.{Outcome, answered}
 use Rattle.list.specs.declared.types.DayList.{DayList}
-use Rattle.narrow.specs.Rounds.{Narrowed}
-use Rattle.jackson.specs.Minutes.{schedule}
-use Rattle.planner.specs.Calls.{planOf}
 use Rattle.planner.proofs.CallLaws.{call-rows-law, plan-buffer}
 use Rattle.backtracking.specs.Searches.{Search}
-use Rattle.unbroken.specs.Calls.{unbrokenOf, UnbrokenRowsLaw, unbrokenAfter, FoundBufferLaw}
+use Rattle.unbroken.specs.Calls.{unbrokenOf, UnbrokenRowsLaw, FoundBufferLaw}
 
 pub unbroken-rows-law : (l : DayList) (limit room : ℕ) → UnbrokenRowsLaw l limit room
 unfolding unbrokenOf

@@ -2,7 +2,7 @@
 use Prim.Native.Nat.{ℕ, _<_, _≤_}
 use mathlib.Core.Path.{_≡_}
 use mathlib.Core.Logic.{_↔_}
-use mathlib.Core.Bool.{Bool, true, false, cond}
+use mathlib.Core.Bool.{Bool, false, cond}
 use mathlib.Core.List.{List, [], _∷_, _++_}
 use lib.ListN.{length, getD, take, drop, replicate}
 use Rattle.base.specs.Outcomes.{Code, code, Outcome, answered, refused, andThen}
@@ -115,9 +115,11 @@ pub record FindsUnbroken (l : DayList) (limit : ℕ) (old : List ℕ) (a : Unbro
   -- where 9 and 10 were not given
   pub tells : a .narrowed .verdict ≡ Accepted → TellsUnbroken (wholeIn l) (windowsOf l) limit a (take (l .frame .h) new)
   -- where one of them was, no unbroken day exists either
-  pub refused-none : planChecks l (length old) ≡ answered tt → (a .narrowed .verdict ≡ Accepted → ⊥) → NoneUnbroken (wholeIn l) (windowsOf l)
+  pub refused-none : planChecks l (length old) ≡ answered tt → (a .narrowed .verdict ≡ Accepted → ⊥)
+      → NoneUnbroken (wholeIn l) (windowsOf l)
   -- "A larger limit never changes found or none": ending, trials, starts and plan are of this outcome
-  pub larger : (a .ending ≡ TrialsSpent → ⊥) → (more : ℕ) → limit ≤ more → unbrokenOf l more (length old) ≡ unbrokenOf l limit (length old)
+  pub larger : (a .ending ≡ TrialsSpent → ⊥) → (more : ℕ) → limit ≤ more
+      → unbrokenOf l more (length old) ≡ unbrokenOf l limit (length old)
   -- without a whole entry the day's plan is found, in 0 trials, under every limit
   pub no-whole : a .narrowed .verdict ≡ Accepted → ((i : ℕ) → i < l .n → wholeIn l i ≡ false)
       → (a .ending ≡ DayFound) × (a .trials ≡ 0) × (new ≡ planned schedule old (planOf l (length old)))

@@ -1,8 +1,7 @@
 -- The start is fixed and tested: the next place is reached, or the next start is left to try.
 -- Assumes nothing.
 use borrow.Author.Needs.{needs}
-use mathlib.Core.Path.{_≡_, sym, _∙_}
-use mathlib.Core.Bool.{true, false}
+use mathlib.Core.Path.{sym, _∙_}
 use mir.Val.{Fits}
 use mir.Syntax.{w16}
 use lib.ListN.{getD}

@@ -16,8 +16,8 @@ same-length c = search needs
 
 returns : tie.Need-returns
 returns c =
-    let found = c .before .before .before .before .before .before .is-found in
-    rw (sym (found .ensures) ∙ c .before .before .before .before .before .if1 .taken) (c .before .before .unchecked-schedule .ensures .buffer)
+    let at-if = c .before .before .before .before .before in
+    rw (sym (at-if .before .is-found .ensures) ∙ at-if .if1 .taken) (c .before .before .unchecked-schedule .ensures .buffer)
 
 returns-2 : tie.Need-returns-2
 returns-2 c = search needs
