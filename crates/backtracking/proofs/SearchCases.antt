@@ -13,8 +13,8 @@ use Rattle.windows.specs.declared.types.WindowSet.{WindowSet}
 use Rattle.base.proofs.Sums.{le-or-lt}
 use Rattle.windows.proofs.Puts.{put-same, put-other}
 use Rattle.backtracking.specs.Searches.{Search, found, none, spent, searchWithin}
-use Rattle.backtracking.specs.Calls.{Says}
-use Rattle.backtracking.specs.Internal.{NextWhole, LastWhole, FixedBelow, goingBack, fromStart, Stands, Enters, Reopens}
+use Rattle.backtracking.specs.Calls.{AnswersSearch}
+use Rattle.backtracking.specs.Internal.{NextWhole, LastWhole, FixedBelow, goingBack, fromStart, Stands, Entered, Reopens}
 use Rattle.backtracking.specs.Internal.{StartLeft, Tries, OnTheWay}
 use Rattle.backtracking.specs.declared.search.Position.{Position}
 use Rattle.backtracking.specs.declared.types.Ending.the-variants.{DayFound, NoneExists, TrialsSpent}
@@ -132,7 +132,7 @@ module _ (whole : ℕ → Bool) (w : Windows) where
 module _ (whole : ℕ → Bool) (w : Windows) (v : WindowSet) (k t j : ℕ) (so : FixedBelow whole w (windowsIn v) k)
     (next : NextWhole whole (w .n) k j) where
   pub enters-whole : j < w .n → w .r j ≤ 65536
-      → Enters whole w (windowsIn v) k t (record { windows = v; place = j; start = w .r j; trials = t })
+      → Entered whole w (windowsIn v) k t (record { windows = v; place = j; start = w .r j; trials = t })
   enters-whole place small =
       let here = fixed-later whole w (windowsIn v) k so j (next .from) in
       record {
@@ -145,7 +145,7 @@ module _ (whole : ℕ → Bool) (w : Windows) (v : WindowSet) (k t j : ℕ) (so 
             ∙ from-whole limit whole w j (windowsIn v) t here place (next .is-whole place)));
       }
 
-  pub enters-all : w .n ≤ j → Enters whole w (windowsIn v) k t (record { windows = v; place = j; start = 0; trials = t })
+  pub enters-all : w .n ≤ j → Entered whole w (windowsIn v) k t (record { windows = v; place = j; start = 0; trials = t })
   enters-all end =
       let last : j ≡ w .n = omega (arith, next .within) in
       record {
@@ -194,7 +194,7 @@ module _ (whole : ℕ → Bool) (w : Windows) (at : Position) (stands : Stands w
             (sym (start-fails limit whole w (at .place) (at .start) v (at .trials) (left .room) l (rw is-fixed at e)));
       }
 
-  pub tries-holds : accepts (overloadOf u) ≡ true → (next : Position) → Enters whole w u (at .place + 1) (at .trials + 1) next
+  pub tries-holds : accepts (overloadOf u) ≡ true → (next : Position) → Entered whole w u (at .place + 1) (at .trials + 1) next
       → Tries whole w at next
   tries-holds e next enters =
       record {
@@ -217,7 +217,7 @@ module _ (whole : ℕ → Bool) (s : WindowSet) (limit : ℕ) where
   abbrev x : Search
   x = searchWithin overloadOf limit whole given
 
-  pub way-begins : (at : Position) → Enters whole given given 0 0 at → OnTheWay whole given limit at
+  pub way-begins : (at : Position) → Entered whole given given 0 0 at → OnTheWay whole given limit at
   unfolding searchWithin
   way-begins at enters =
       record {
@@ -230,7 +230,7 @@ module _ (whole : ℕ → Bool) (s : WindowSet) (limit : ℕ) where
     abbrev now : Windows
     now = windowsIn (at .windows)
 
-    pub way-found : given .n ≤ at .place → Says given x (record { ending = DayFound; windows = at .windows; trials = at .trials })
+    pub way-found : given .n ≤ at .place → AnswersSearch given x (record { ending = DayFound; windows = at .windows; trials = at .trials })
     way-found end =
         let z : x ≡ found now (at .trials) = sym (way .means) ∙ rw (le-ltb (at .place) (given .n) end) refl in
         record { ending = rw z refl; windows = rw z refl; trials = rw z refl }
@@ -243,7 +243,7 @@ module _ (whole : ℕ → Bool) (s : WindowSet) (limit : ℕ) where
       way-left e = record { place = place; room = leb-true _ _ e }
 
       pub way-spent : StartLeft given at → limit ≤ at .trials
-          → Says given x (record { ending = TrialsSpent; windows = s; trials = at .trials })
+          → AnswersSearch given x (record { ending = TrialsSpent; windows = s; trials = at .trials })
       way-spent left l =
           let z : x ≡ spent (at .trials) =
           way-start ∙ start-spent limit whole given (at .place) (at .start) now (at .trials) (left .room) l in
@@ -259,7 +259,8 @@ module _ (whole : ℕ → Bool) (s : WindowSet) (limit : ℕ) where
         way-back =
             way-start ∙ start-none limit whole given (at .place) (at .start) now (at .trials) (leb-false _ _ e)
 
-        pub way-none : LastWhole whole (at .place) 0 → Says given x (record { ending = NoneExists; windows = s; trials = at .trials })
+        pub way-none : LastWhole whole (at .place) 0
+            → AnswersSearch given x (record { ending = NoneExists; windows = s; trials = at .trials })
         way-none last =
             let z : x ≡ none (at .trials) = way-back ∙ back-none limit whole given (at .place) now (at .trials) last in
             record { ending = rw z refl; windows = rw z refl; trials = rw z refl }

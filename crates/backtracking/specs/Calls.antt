@@ -30,11 +30,11 @@ windowsAfter w (none t) = w
 windowsAfter w (spent t) = w
 
 -- the answer says that the search in the windows w ended with x
-pub record Says (w : Windows) (x : Search) (a : SearchAnswer) : Type 0 where
+pub record AnswersSearch (w : Windows) (x : Search) (a : SearchAnswer) : Type 0 where
   pub ending : a .ending ≡ endingOf x
   pub windows : windowsIn (a .windows) ≡ windowsAfter w x
   pub trials : a .trials ≡ trialsOf x
 
 -- what `search_windows` answers of the windows s, whatever they are: the overload test is what a trial asks
 abbrev pub SearchesWindows : (ℕ → Bool) → WindowSet → ℕ → SearchAnswer → Type 0
-SearchesWindows whole s limit = Says (windowsIn s) (searchWithin overloadOf limit whole (windowsIn s))
+SearchesWindows whole s limit = AnswersSearch (windowsIn s) (searchWithin overloadOf limit whole (windowsIn s))

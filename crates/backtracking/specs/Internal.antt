@@ -69,7 +69,7 @@ pub record Stands (whole : ℕ → Bool) (w : Windows) (at : Position) : Type 0 
   pub start : at .start ≤ 65536
 
 -- where place k is reached with the windows v, after t trials
-pub record Enters (whole : ℕ → Bool) (w v : Windows) (k t : ℕ) (at : Position) : Type 0 where
+pub record Entered (whole : ℕ → Bool) (w v : Windows) (k t : ℕ) (at : Position) : Type 0 where
   pub stands : Stands whole w at
   pub trials : at .trials ≡ t
   pub means : (limit : ℕ) → standsFor limit whole w at ≡ fromPlace limit whole w k v t

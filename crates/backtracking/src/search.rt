@@ -15,7 +15,7 @@ ghost use Rattle.list.specs.DayLists.{marked};
 ghost use Rattle.windows.specs.Windows.{windowsIn, withWindow};
 ghost use Rattle.windows.specs.Intervals.{overloadOf};
 ghost use Rattle.backtracking.specs.Calls.{isFound, SearchesWindows};
-ghost use Rattle.backtracking.specs.Internal.{NextWhole, LastWhole, FixedBelow, Stands, Enters, Reopens, StartLeft, Tries};
+ghost use Rattle.backtracking.specs.Internal.{NextWhole, LastWhole, FixedBelow, Stands, Entered, Reopens, StartLeft, Tries};
 
 // Where the search stands: the windows with the starts fixed so far, the entry that is tried, its next start, and the trials made.
 pub struct Position {
@@ -96,7 +96,7 @@ fn entered(
 ) -> Position
     requires { ⌜ FixedBelow (marked whole) (windowsIn windows) (windowsIn fixed) k ⌝ }
     requires { ⌜ k ≤ windowsIn windows .n ⌝ }
-    ensures { λ at. ⌜ Enters (marked whole) (windowsIn windows) (windowsIn fixed) k trials at ⌝ }
+    ensures { λ at. ⌜ Entered (marked whole) (windowsIn windows) (windowsIn fixed) k trials at ⌝ }
 {
     let count = places_held(windows.n);
     let place = next_whole(whole, count, k);

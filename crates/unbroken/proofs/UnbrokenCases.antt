@@ -36,7 +36,7 @@ use Rattle.planner.proofs.CallLaws.{call-rows-law}
 use Rattle.planner.proofs.CallCases.{plan-formed, plan-room, after-checks, settledIn, IsSettled, is-settled, settled-few, settled-day}
 use Rattle.backtracking.specs.Searches.{Search, found, none, spent, trialsOf, searchWithin}
 use Rattle.backtracking.specs.Laws.{withStarts, LeastDay, FoundLaw, UnbrokenLaw}
-use Rattle.backtracking.specs.Calls.{endingOf, windowsAfter, Says}
+use Rattle.backtracking.specs.Calls.{endingOf, windowsAfter, AnswersSearch}
 use Rattle.backtracking.specs.declared.types.Ending.the-variants.{DayFound, TrialsSpent}
 use Rattle.backtracking.specs.declared.types.SearchAnswer.{SearchAnswer}
 use Rattle.backtracking.proofs.UnbrokenLaws.{settled-law, refused-none}
@@ -107,7 +107,7 @@ module _ (l : DayList) (limit : ℕ) (old : List ℕ) (v : Verdict) (x : Refusal
 -- Not refused: what the search's answer s says in the settled windows is answered, and a day that is found is stored.
 module _ (l : DayList) (limit : ℕ) (old : List ℕ) (n : NarrowAnswer) (after : NarrowsAfter (planChecks l (length old)) l n)
     (accepted : n .verdict ≡ Accepted) (s : SearchAnswer)
-    (says : Says (windowsOf (n .list)) (searchWithin overloadOf limit (wholeIn l) (windowsOf (n .list))) s) (new : List ℕ)
+    (says : AnswersSearch (windowsOf (n .list)) (searchWithin overloadOf limit (wholeIn l) (windowsOf (n .list))) s) (new : List ℕ)
     (stores : StoresFound s old new) where
   abbrev whole : ℕ → Bool
   whole = wholeIn l

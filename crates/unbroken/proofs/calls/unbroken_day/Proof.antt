@@ -7,7 +7,7 @@ use Rattle.list.specs.DayLists.{wholeIn}
 use Rattle.windows.specs.Windows.{windowsOf}
 use Rattle.windows.specs.Intervals.{overloadOf}
 use Rattle.backtracking.specs.Searches.{searchWithin}
-use Rattle.backtracking.specs.Calls.{Says}
+use Rattle.backtracking.specs.Calls.{AnswersSearch}
 use Rattle.unbroken.specs.Internal.{startsSaid}
 use Rattle.unbroken.proofs.UnbrokenCases.{checks-refuse, narrowing-refuses, narrows-so, finds-refused, finds-searched}
 use Rattle.unbroken.proofs.calls.unbroken_day.Statement.{statement}
@@ -93,7 +93,7 @@ returns-3 c =
     let kinds = at-whole .whole-places .ensures in
     let l = args .list in
     let found = at-search .search-windows .result in
-    let says : Says (windowsOf (settle .result .list))
+    let says : AnswersSearch (windowsOf (settle .result .list))
     (searchWithin overloadOf (args .limit) (wholeIn l) (windowsOf (settle .result .list))) found =
     rw (← kinds, ← (at-windows .unchecked-windows .ensures .windows)) (at-search .search-windows .ensures) in
     finds-searched l (args .limit) (args .plan .now) (settle .result)
