@@ -1,15 +1,16 @@
 -- What the numbers of an answer say, and what a refusal leaves.
 -- Assumes nothing.
 use mathlib.Core.Path.{_≡_, refl, ap, _∙_}
-use mathlib.Core.Bool.{cond}
 use mathlib.Core.List.{List, _++_}
 use Prim.Native.Nat.{ℕ, _+_}
-use borrow.Author.Tests.{lt-ltb}
 use lib.ListN.{getD}
+use Rattle.base.specs.Outcomes.{answered}
 use Rattle.list.specs.DayLists.{wholeIn}
 use Rattle.bounds.specs.Ends.{leastEnds, greatestStarts}
-use Rattle.list.proofs.ByPlace.{by-place-at, by-place-first, by-place-second}
+use Rattle.list.proofs.ByPlace.{by-place-first, by-place-second}
+use Rattle.backtracking.specs.Searches.{found}
 use Rattle.unbroken.specs.Calls.{wholeStarts}
+use Rattle.unbroken.proofs.UnbrokenRows.{starts-law}
 use Rattle.report.proofs.TextLaws.{text-law}
 use Rattle.abi.specs.Laws.{AnswerLaws}
 
@@ -45,9 +46,7 @@ answer-laws =
       day-found = λ l o x p f s a plan fields starts c v e u t q. c .narrowed .answer ∙ rw (e, q) refl;
       whole-start = λ l o x p f s a plan fields starts c u t q i h n is.
           let are : starts ≡ wholeStarts (wholeIn l) u = c .starts ∙ rw q refl in
-          ap (λ (z : List ℕ). getD z i 0) are
-          ∙ by-place-at (λ j. cond (wholeIn l j) (u .r j) 0) (u .n) i h
-          ∙ rw (lt-ltb i (u .n) n, is) refl;
+          ap (λ (z : List ℕ). getD z i 0) are ∙ starts-law (wholeIn l) (answered (found u t)) .whole-start u t refl i h n is;
       none-exists =
           λ l o x p f s a plan fields starts c v e t q.
           (c .narrowed .answer ∙ rw (e, q) refl, c .plan ∙ rw q refl, c .starts ∙ rw q refl);

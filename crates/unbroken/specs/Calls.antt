@@ -2,7 +2,7 @@
 use Prim.Native.Nat.{ℕ, _<_, _≤_}
 use mathlib.Core.Path.{_≡_}
 use mathlib.Core.Logic.{_↔_}
-use mathlib.Core.Bool.{Bool, false, cond}
+use mathlib.Core.Bool.{Bool, true, false, cond}
 use mathlib.Core.List.{List, [], _∷_, _++_}
 use lib.ListN.{length, getD, take, drop, replicate}
 use Rattle.base.specs.Outcomes.{Code, code, Outcome, answered, refused, andThen}
@@ -59,6 +59,18 @@ startsFound whole (spent t) = replicate mostEntries 0
 abbrev pub startsAfter : (ℕ → Bool) → Outcome Search → List ℕ
 startsAfter whole (answered x) = startsFound whole x
 startsAfter whole (refused k) = replicate mostEntries 0
+
+-- the same in facts. `starts-law` of proofs/UnbrokenRows.antt
+pub record StartsLaw (whole : ℕ → Bool) (o : Outcome Search) : Type 0 where
+  pub long : length (startsAfter whole o) ≡ 64
+  pub whole-start : (u : Windows) (t : ℕ) → o ≡ answered (found u t) → (i : ℕ) → i < 64 → i < u .n → whole i ≡ true
+      → getD (startsAfter whole o) i 0 ≡ u .r i
+  pub pause-start : (u : Windows) (t : ℕ) → o ≡ answered (found u t) → (i : ℕ) → i < 64 → whole i ≡ false
+      → getD (startsAfter whole o) i 0 ≡ 0
+  pub past-start : (u : Windows) (t : ℕ) → o ≡ answered (found u t) → (i : ℕ) → i < 64 → u .n ≤ i → getD (startsAfter whole o) i 0 ≡ 0
+  pub none-start : (t : ℕ) → o ≡ answered (none t) → (i : ℕ) → i < 64 → getD (startsAfter whole o) i 0 ≡ 0
+  pub spent-start : (t : ℕ) → o ≡ answered (spent t) → (i : ℕ) → i < 64 → getD (startsAfter whole o) i 0 ≡ 0
+  pub refused-start : (c : Code) → o ≡ refused c → (i : ℕ) → i < 64 → getD (startsAfter whole o) i 0 ≡ 0
 
 -- "Found: the plan is Jackson's with the starts fixed": what a buffer that held old holds then, its bytes after H kept. "None and spent
 -- leave the plan buffer as it was."
