@@ -99,40 +99,45 @@ impl Job {
         self.linked(fields).map(|program| Box::new(program) as Box<dyn Program>).into()
     }
 
-    /// The times that each program takes for this job. They do it in turn, after each did it once.
+    /// The times that each program takes for this job.
     pub fn compare(&self, programs: &mut [Box<dyn Program + '_>], often: &Times) -> Vec<Vec<Duration>> {
-        self.call_each(programs, false);
-        let mut times = vec![vec![]; programs.len()];
-        let start = Instant::now();
-        loop {
-            let turns = times[0].len();
-            if turns >= often.least && (turns >= often.most || start.elapsed() >= often.enough) {
-                return times;
-            }
-            for (times, time) in times.iter_mut().zip(self.call_each(programs, turns % 2 == 1)) {
-                times.push(time);
-            }
-        }
+        compare(self.name, programs, often)
     }
+}
 
-    /// Does the job with each program. They must answer the same, and leave the same in what is lent. Every other turn
-    /// begins with the last program, so that the two fast ones follow the slow one alike.
-    fn call_each(&self, programs: &mut [Box<dyn Program + '_>], last_first: bool) -> Vec<Duration> {
-        if last_first {
-            programs.reverse();
+/// The times that each program takes for a job of this name. They do it in turn, after each did it once.
+pub fn compare(name: &str, programs: &mut [Box<dyn Program + '_>], often: &Times) -> Vec<Vec<Duration>> {
+    call_each(name, programs, false);
+    let mut times = vec![vec![]; programs.len()];
+    let start = Instant::now();
+    loop {
+        let turns = times[0].len();
+        if turns >= often.least && (turns >= often.most || start.elapsed() >= often.enough) {
+            return times;
         }
-        let mut done = Vec::from_iter(programs.iter_mut().map(|program| program.call()));
-        if last_first {
-            programs.reverse();
-            done.reverse();
+        for (times, time) in times.iter_mut().zip(call_each(name, programs, turns % 2 == 1)) {
+            times.push(time);
         }
-        for (place, one) in done.iter().enumerate() {
-            let which = || format!("{}: program {} beside the first", self.name, place + 1);
-            assert_eq!(one.answer, done[0].answer, "{}", which());
-            assert!(one.left == done[0].left, "{} leaves other values", which());
-        }
-        done.iter().map(|one| one.time).collect()
     }
+}
+
+/// Does a job with each program. They must answer the same, and leave the same in what is lent. Every other turn begins
+/// with the last program, so that the two fast ones follow the slow one alike.
+fn call_each(name: &str, programs: &mut [Box<dyn Program + '_>], last_first: bool) -> Vec<Duration> {
+    if last_first {
+        programs.reverse();
+    }
+    let mut done = Vec::from_iter(programs.iter_mut().map(|program| program.call()));
+    if last_first {
+        programs.reverse();
+        done.reverse();
+    }
+    for (place, one) in done.iter().enumerate() {
+        let which = || format!("{name}: program {} beside the first", place + 1);
+        assert_eq!(one.answer, done[0].answer, "{}", which());
+        assert!(one.left == done[0].left, "{} leaves other values", which());
+    }
+    done.iter().map(|one| one.time).collect()
 }
 
 /// A program that is part of this one, and what is lent to it.

@@ -1,5 +1,6 @@
 //! Times the proved library beside two Rust programs, a plain one and one with the library's own algorithm: on
-//! single full days of 1,440 minutes and 64 entries, on classes of such days, and on days of several lengths and sizes.
+//! single full days of 1,440 minutes and 64 entries, on classes of such days, on days of several lengths and sizes, and in
+//! the search for an unbroken day.
 //! Or looks for days on which the library is slow. It is no test, and the gate builds it and does not run it. From the
 //! repository's root:
 //!
@@ -17,6 +18,7 @@ mod growth;
 mod jobs;
 mod plain;
 mod table;
+mod unbroken;
 
 use before::Before;
 use days::FullDay;
@@ -48,6 +50,7 @@ fn compare(mut before: Option<Before>) {
     rows.extend(classes::compare());
     println!("\n{}", table::worst(&rows));
     growth::compare();
+    unbroken::compare();
 }
 
 /// Prints a line for each job with each of the single days.

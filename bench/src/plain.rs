@@ -1,5 +1,5 @@
-//! The plain Rust program: document 01 with document 02's tie rule and opening minute, line by line, without the
-//! proved code and without a faster way.
+//! The plain Rust program: document 01 with document 02's tie rule, opening minute and unbroken days, line by line, without
+//! the proved code and without a faster way.
 //! Jackson's schedule goes minute by minute, and every start, end and bound is found by trying one minute
 //! after the other. Like the library it takes a list as 451 numbers and writes what it answers into what it
 //! is lent. The value check, row 11 and the count of broken entries are those of the tests. Their second
@@ -9,13 +9,15 @@
 mod bounds;
 mod jackson;
 mod narrow;
+mod unbroken;
 mod windows;
 
-use dock_tests::abi::{Answer, Bounds, Lent};
+use dock_tests::abi::{Answer, Bounds, Lent, SearchLent};
 use dock_tests::check;
 use dock_tests::day::{Day, Refusal, MOST_ENTRIES};
 use dock_tests::flat::{self, Fields};
 use dock_tests::{planner, writer};
+use unbroken::{Ending, Search};
 use windows::Windows;
 
 /// Fills `plan` with Jackson's schedule of the windows as given: the value check, then 11 and 9.
@@ -47,6 +49,30 @@ pub fn plan(fields: &Fields, lent: &mut Lent) -> Answer {
         lent.bounds = list.bounds();
         let broken = dock_tests::bounds::broken(&list.day, &lent.plan[..list.day.h.into()]);
         Ok([moves, broken, 0])
+    }))
+}
+
+/// Searches for an unbroken day in a list's settled windows: the value check, then 11, 9 and 10.
+pub fn unbroken(fields: &Fields, limit: u32, lent: &mut SearchLent) -> Answer {
+    answer(checked(fields).and_then(|mut list| {
+        planner::long_enough(&list.day, lent.plan.len())?;
+        let moves = list.settle()?;
+        lent.narrowed = list.fields();
+        let mut search = Search { whole: &list.whole, limit, trials: 0, windows: list.windows };
+        let ending = match search.from(0) {
+            Ending::Found => {
+                let fixed = &search.windows;
+                jackson::schedule(fixed, &mut lent.plan);
+                lent.starts = [0; MOST_ENTRIES];
+                for place in (0..fixed.n).filter(|&place| list.whole[place]) {
+                    lent.starts[place] = fixed.r[place].into();
+                }
+                1
+            }
+            Ending::None => 2,
+            Ending::Spent => 3,
+        };
+        Ok([moves, ending, search.trials.into()])
     }))
 }
 

@@ -203,6 +203,37 @@ pub fn growth_line(h: u16, n: usize, rows: &[Row]) -> String {
     line
 }
 
+/// What is said of searches for an unbroken day, and the heads of their columns.
+pub fn of_unbroken() -> String {
+    let mut names = format!("{:35}", "");
+    let mut columns = format!("{:>7}{:>9}{:>10}{:>9}", "entries", "minutes", "trials", "ending");
+    for name in &PROGRAMS[..2] {
+        names += &format!("{name:>RATIO$}");
+        columns += &format!("{:>RATIO$}", "median");
+    }
+    names += &format!("{:>RATIO$}{:>2$}", "now : plain", "microseconds a trial", 2 * RATIO);
+    columns += &format!("{:>RATIO$}{:>RATIO$}{:>RATIO$}", "medians", "now", "plain");
+    format!(
+        "\
+Searches for an unbroken day by the library and by plain Rust, with the greatest limit where none is named,
+timed as classes are. They narrow first, which is part of the time. A trial is one start of one entry, and
+plain Rust tests it by Jackson's schedule, made minute by minute.
+
+{names}\n{columns}"
+    )
+}
+
+/// A search of a day of this size, with its ending and trials.
+pub fn unbroken_line(n: usize, h: u16, [ending, trials]: [u64; 2], row: &Row) -> String {
+    let ending = ["", "found", "none", "spent"][ending as usize];
+    let [now, plain] = [NOW, PLAIN].map(|program| row.median(program));
+    let [a_trial, plain_trial] = [now, plain].map(|time| time * 1e3 / trials as f64);
+    let ratio = row.ratio(NOW, PLAIN);
+    format!(
+        "{n:7}{h:9}{trials:10}{ending:>9}{now:RATIO$.4}{plain:RATIO$.4}{ratio:RATIO$.4}{a_trial:RATIO$.3}{plain_trial:RATIO$.3}"
+    )
+}
+
 /// The greatest of some value of rows, or the least.
 struct Extreme {
     name: &'static str,

@@ -40,6 +40,16 @@ extern "C" {
         narrowed: *mut u32,
         narrowed_numbers: usize,
     ) -> Answer;
+    fn dock_unbroken(
+        fields: *const u32,
+        numbers: usize,
+        limit: u32,
+        plan: *mut u8,
+        len: usize,
+        narrowed: *mut u32,
+        narrowed_numbers: usize,
+        starts: *mut Starts,
+    ) -> Answer;
     fn dock_fresh(fields: *const u32, numbers: usize, day: *mut u32, day_numbers: usize) -> Answer;
     fn dock_ask(
         day: *const u32,
@@ -241,6 +251,71 @@ pub fn ask_lending(
             Call::Late(place) => dock_late(fields, numbers, place, plan, len, narrowed, more),
         }
     }
+}
+
+/// The starts of 64 places, 0 where there is no whole entry.
+pub type Starts = [u32; MOST_ENTRIES];
+
+/// What is lent to the search for an unbroken day.
+#[derive(Clone, PartialEq, Eq)]
+pub struct SearchLent {
+    pub plan: Vec<u8>,
+    pub narrowed: Fields,
+    pub starts: Starts,
+}
+
+impl SearchLent {
+    /// What is lent before a call, with `room` bytes for the plan.
+    pub fn untouched(room: usize) -> SearchLent {
+        let starts = std::array::from_fn(|i| 0x57A2_0000 + i as u32);
+        SearchLent { plan: untouched_bytes(room), narrowed: untouched_fields(), starts }
+    }
+}
+
+/// Searches for an unbroken day through the library with `room` bytes for the plan, and gives back all that was lent.
+pub fn unbroken(fields: &[u32], limit: u32, room: usize) -> (Answer, SearchLent) {
+    let mut lent = SearchLent::untouched(room);
+    let answer = unbroken_into(fields, limit, &mut lent);
+    (answer, lent)
+}
+
+/// The same with this lent to it, whatever it holds.
+pub fn unbroken_into(fields: &[u32], limit: u32, lent: &mut SearchLent) -> Answer {
+    let SearchLent { plan, narrowed, starts } = lent;
+    unbroken_lending(fields, limit, plan, narrowed, starts)
+}
+
+/// The same with a row of any length for the narrowed list.
+pub fn unbroken_lending(
+    fields: &[u32],
+    limit: u32,
+    plan: &mut [u8],
+    narrowed: &mut [u32],
+    starts: &mut Starts,
+) -> Answer {
+    lending(plan, BYTE_BESIDE, |plan| {
+        lending(narrowed, NUMBER_BESIDE, |narrowed| {
+            lending(starts, NUMBER_BESIDE, |starts| {
+                let starts = starts.try_into().expect("as many starts as were lent");
+                unbroken_unguarded(fields, limit, plan, narrowed, starts)
+            })
+        })
+    })
+}
+
+/// The same without margins beside what is lent, for the benchmark.
+pub fn unbroken_unguarded(
+    fields: &[u32],
+    limit: u32,
+    plan: &mut [u8],
+    narrowed: &mut [u32],
+    starts: &mut Starts,
+) -> Answer {
+    let (fields, numbers) = (fields.as_ptr(), fields.len());
+    let (plan, len) = (plan.as_mut_ptr(), plan.len());
+    let (narrowed, more) = (narrowed.as_mut_ptr(), narrowed.len());
+    // SAFETY: the library reads one row and writes bytes, another row and the starts, all of them lent here.
+    unsafe { dock_unbroken(fields, numbers, limit, plan, len, narrowed, more, starts) }
 }
 
 /// Makes a fresh day of a list through the library in this row, whatever it holds.

@@ -146,7 +146,7 @@ fn is_right(call: Call, day: &Day, expected: &Result<Narrowed, Refusal>, answer:
 }
 
 /// The settled windows and the moves, or the refusal, of narrowing by trying everything.
-fn settled_by_trying(day: &Day) -> Result<Narrowed, Refusal> {
+pub fn settled_by_trying(day: &Day) -> Result<Narrowed, Refusal> {
     let plans = Plans::of(day);
     if !plans.any() {
         return Err(Refusal::Overloaded(overload::shown(day).expect("an overloaded interval")));

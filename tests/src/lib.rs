@@ -1,8 +1,8 @@
 //! What the tests of the dock planner stand on. The tests are a program for each layer: `list` (reading and
 //! writing), `jackson` (overload test and schedule of the windows as given), `narrow`, `bounds` (the calls that
-//! plan), `commits` (a stamped day, asks and commits), `rooms` (turns of the rooms at one control desk), `report` (the
-//! report's text), `program` (the built program); and `documents` for the pages, the imports under crates/, and wrong
-//! readings of the documents.
+//! plan), `unbroken` (the search for a day with no whole entry broken), `commits` (a stamped day, asks and commits),
+//! `rooms` (turns of the rooms at one control desk), `report` (the report's text), `program` (the built program); and
+//! `documents` for the pages, the imports under crates/, and wrong readings of the documents.
 
 // What is tested.
 pub mod abi; // the calls of the static library
@@ -22,6 +22,7 @@ pub mod planner; // the schedule of the windows as given, and its refusals
 pub mod reader; // from bytes to a list
 pub mod report; // from bytes to the report's text
 pub mod rule; // Jackson's rule as facts about a plan
+pub mod unbroken; // the search for an unbroken day, and such days by trying everything
 pub mod writer; // from a list to bytes, and the refusals of a value
 
 // Small days by trying everything.
@@ -36,6 +37,7 @@ pub mod check_commits; // fresh days, asks and commits
 pub mod check_desk; // turns
 pub mod check_narrow; // narrowing
 pub mod check_report; // reports and refusals' lines
+pub mod check_unbroken; // the search for an unbroken day
 
 // Inputs, lists and values to try.
 pub mod cases; // inputs with their reports, from files
@@ -49,6 +51,7 @@ pub mod random; // lists, damaged inputs and values, fixed by their seeds
 pub mod rows; // rows of numbers of another length than a list's
 pub mod samples; // lists that several tests share, and short forms to write others down
 pub mod told; // how often each number was answered
+pub mod torn; // days without an unbroken day
 pub mod values; // values that every call refuses or accepts
 
 // Pages.

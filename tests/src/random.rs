@@ -320,6 +320,31 @@ pub fn crossed_day(random: &mut Random) -> Day {
     told_apart(day)
 }
 
+/// A day of 7 to `most` minutes with three wide whole entries that fill most of it, and a pause entry of a fixed minute
+/// in its middle, now and then another elsewhere: often its windows are settled, and it has no unbroken plan. Windows
+/// drawn around a plan hardly ever are so.
+pub fn gapped_day(random: &mut Random, most: u16) -> Day {
+    let h = random.within(7, most);
+    let mut day = Day { h, opening: 0, entries: vec![] };
+    let mut fixed = vec![h / 2 - random.within(0, 1)];
+    if random.once_in(4) {
+        fixed.push(random.within(0, h - 1));
+    }
+    for r in fixed {
+        day.entries.push(Entry { r, d: r + 1, p: 1, whole: false, ..entry(random, 1) });
+    }
+    let mut left = h - day.entries.len() as u16;
+    for others in [3, 2, 1] {
+        let share = left / others;
+        let p = random.within((share * 2 / 3).max(2).min(share), share);
+        let (r, d) = (random.pick(&[0, 0, 0, 1]), h - random.pick(&[0, 0, 0, 1]));
+        day.entries.push(Entry { r, d, p, whole: true, ..entry(random, 1) });
+        left -= p;
+    }
+    shuffle(random, &mut day.entries);
+    told_apart(day)
+}
+
 /// A day of 3 minutes at least with wide entries, and short ones that interrupt them: many plans of it break
 /// whole entries, and pause entries cannot end at once.
 pub fn nested_day(random: &mut Random, h: u16, n: usize) -> Day {

@@ -1,6 +1,6 @@
 //! What the documents say: the pages of this repository, what its files import, the traps of document 01, wrong
-//! readings of document 02's tie rule, of its running sum, of its opening minute, of its control desk and of its
-//! edge-finding, and the smallest days that the tie rule changes.
+//! readings of document 02's tie rule, of its running sum, of its opening minute, of its control desk, of its edge-finding
+//! and of its unbroken days, and the smallest days that the tie rule changes.
 
 mod control_desk;
 mod desk_traps;
@@ -16,6 +16,7 @@ mod start_traps;
 mod sum_traps;
 mod tie_traps;
 mod traps;
+mod unbroken_traps;
 
 use dock_tests::cases::root;
 use std::fs;
