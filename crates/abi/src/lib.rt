@@ -5,7 +5,7 @@
 // room_rows). `bytes`, `out`, `plan` and `lists`, and the rows `fields`, `narrowed`, `day`, `entry` and `rooms`, come with their lengths; a
 // row of another length is refused as 100 before all else, those given before the one lent. What a call cannot check are the pointers and
 // that they have the lengths told: `bounds` has 128 numbers, `starts` 64, `values` and `carried` 3, and no two of what is lent overlap.
-// Uses all crates but order, shares and dock.
+// Uses all crates but order, edges, shares and dock.
 mod days;
 mod desk;
 mod search;
