@@ -27,6 +27,10 @@ twoMinutes = columns 2 2 (0 ∷ 0 ∷ []) (2 ∷ 2 ∷ []) (1 ∷ 1 ∷ [])
 abbrev pub goesBack : Windows
 goesBack = columns 4 2 (1 ∷ 0 ∷ []) (4 ∷ 3 ∷ []) (1 ∷ 2 ∷ [])
 
+-- eight: the same with [5, 8) p 2 between
+abbrev pub oneApart : Windows
+oneApart = columns 8 3 (1 ∷ 5 ∷ 0 ∷ []) (4 ∷ 8 ∷ 3 ∷ []) (1 ∷ 2 ∷ 2 ∷ [])
+
 -- three: [0, 3) p 2 and [1, 2) p 1
 abbrev pub inTheWay : Windows
 inTheWay = columns 3 2 (0 ∷ 1 ∷ []) (3 ∷ 2 ∷ []) (2 ∷ 1 ∷ [])
@@ -59,6 +63,9 @@ pub record SearchExamples : Type 0 where
   -- both starts fail: a limit that is used to the last trial is no spent one
   pub none-exact : searching 2 (kinds (true ∷ false ∷ [])) inTheWay ≡ none 2
   pub none-spent : searching 1 (kinds (true ∷ false ∷ [])) inTheWay ≡ spent 1
+  -- every start is tried, also of an entry that is like an earlier one, and of one that has no part in why a later one finds no start
+  pub alike : searching 3 (kinds (true ∷ true ∷ [])) twoMinutes ≡ found (fixedAt (fixedAt twoMinutes 0 0) 1 1) 3
+  pub apart : searching 10 (kinds (true ∷ true ∷ true ∷ [])) oneApart ≡ found (fixedAt (fixedAt (fixedAt oneApart 0 2) 1 5) 2 0) 10
   -- a day that narrowing answers without a move, and that has no unbroken plan
   pub two-settled : andThen (narrowing overloadOf (kinds (true ∷ true ∷ true ∷ [])) roomForTwo) (λ v. answered (v .moves)) ≡ answered 0
   pub two-none : searching 38 (kinds (true ∷ true ∷ true ∷ [])) roomForTwo ≡ none 38

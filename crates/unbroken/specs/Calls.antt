@@ -126,7 +126,9 @@ pub record FindsUnbroken (l : DayList) (limit : ℕ) (old : List ℕ) (a : Unbro
   pub buffer : new ≡ unbrokenAfter old (unbrokenOf l limit (length old))
   -- where 9 and 10 were not given
   pub tells : a .narrowed .verdict ≡ Accepted → TellsUnbroken (wholeIn l) (windowsOf l) limit a (take (l .frame .h) new)
-  -- where one of them was, no unbroken day exists either
+  -- beside a refusal nothing was searched
+  pub unsearched : (c : Code) → planOf l (length old) ≡ refused c → (a .ending ≡ Unsearched) × (a .trials ≡ 0)
+  -- where 9 or 10 was given, no unbroken day exists either
   pub refused-none : planChecks l (length old) ≡ answered tt → (a .narrowed .verdict ≡ Accepted → ⊥)
       → NoneUnbroken (wholeIn l) (windowsOf l)
   -- "A larger limit never changes found or none": ending, trials, starts and plan are of this outcome
