@@ -3,14 +3,14 @@
 use mathlib.Core.Path.{_≡_, refl, ap, _∙_}
 use mathlib.Core.List.{List, _++_}
 use Prim.Native.Nat.{ℕ, _+_}
-use lib.ListN.{getD}
+use lib.ListN.{getD, take}
 use Rattle.base.specs.Outcomes.{answered}
 use Rattle.list.specs.DayLists.{wholeIn}
 use Rattle.bounds.specs.Ends.{leastEnds, greatestStarts}
 use Rattle.list.proofs.ByPlace.{by-place-first, by-place-second}
 use Rattle.backtracking.specs.Searches.{found}
 use Rattle.unbroken.specs.Calls.{wholeStarts}
-use Rattle.unbroken.proofs.UnbrokenRows.{starts-law}
+use Rattle.unbroken.proofs.UnbrokenRows.{found-buffer, starts-law}
 use Rattle.report.proofs.TextLaws.{text-law}
 use Rattle.abi.specs.Laws.{AnswerLaws}
 
@@ -43,10 +43,14 @@ answer-laws =
       unshown =
           λ x l i o p f a plan fields c k e.
           (c .narrowed .answer ∙ rw e refl, c .plan ∙ rw e refl, c .narrowed .buffer ∙ rw e refl);
-      day-found = λ l o x p f s a plan fields starts c v e u t q. c .narrowed .answer ∙ rw (e, q) refl;
+      day-found = λ l o x p f s a plan fields starts c v e u t q.
+          (c .narrowed .answer ∙ rw (e, q) refl, ap (take (u .h)) (c .plan) ∙ found-buffer p x .plan u t q);
       whole-start = λ l o x p f s a plan fields starts c u t q i h n is.
           let are : starts ≡ wholeStarts (wholeIn l) u = c .starts ∙ rw q refl in
           ap (λ (z : List ℕ). getD z i 0) are ∙ starts-law (wholeIn l) (answered (found u t)) .whole-start u t refl i h n is;
+      pause-start = λ l o x p f s a plan fields starts c u t q i h is.
+          let are : starts ≡ wholeStarts (wholeIn l) u = c .starts ∙ rw q refl in
+          ap (λ (z : List ℕ). getD z i 0) are ∙ starts-law (wholeIn l) (answered (found u t)) .pause-start u t refl i h is;
       none-exists =
           λ l o x p f s a plan fields starts c v e t q.
           (c .narrowed .answer ∙ rw (e, q) refl, c .plan ∙ rw q refl, c .starts ∙ rw q refl);

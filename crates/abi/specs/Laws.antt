@@ -2,9 +2,9 @@
 -- contracts of the calls allow.
 use Prim.Native.Nat.{ℕ, _+_, _<_}
 use mathlib.Core.Path.{_≡_}
-use mathlib.Core.Bool.{true}
+use mathlib.Core.Bool.{true, false}
 use mathlib.Core.List.{List, [], _∷_}
-use lib.ListN.{length, getD}
+use lib.ListN.{length, getD, take}
 use Rattle.base.specs.Outcomes.{Code, Outcome, answered, refused}
 use Rattle.list.specs.DayLists.{wholeIn}
 use Rattle.list.specs.declared.types.Entry.{Entry}
@@ -91,13 +91,17 @@ pub record AnswerLaws : Type 0 where
       → a ≡ answerNumbers 0 (v .moves) (boundOf x (wholeIn l) i (v .windows)) 0
   pub unshown : (x : Shown) (l : DayList) (i : ℕ) (o : Outcome Narrowed) (p f : List ℕ) (a : Answer) (plan fields : List ℕ)
       → ShownCall x l i o p f a plan fields → (k : Code) → o ≡ refused k → (a ≡ refusalTold k) × (plan ≡ p) × (fields ≡ f)
-  -- looking for an unbroken day: the moves, how it ended and the trials; 1 found, 2 none exists, 3 all trials spent
+  -- looking for an unbroken day: the moves, how it ended and the trials; 1 found, 2 none exists, 3 all trials spent. Its starts are those
+  -- that are fixed
   pub day-found : (l : DayList) (o : Outcome Narrowed) (x : Outcome Search) (p f s : List ℕ) (a : Answer) (plan fields starts : List ℕ)
       → SearchedCall l o x p f s a plan fields starts → (v : Narrowed) → o ≡ answered v → (u : Windows) (t : ℕ) → x ≡ answered (found u t)
-      → a ≡ answerNumbers 0 (v .moves) 1 t
+      → (a ≡ answerNumbers 0 (v .moves) 1 t) × (take (u .h) plan ≡ schedule u)
   pub whole-start : (l : DayList) (o : Outcome Narrowed) (x : Outcome Search) (p f s : List ℕ) (a : Answer) (plan fields starts : List ℕ)
       → SearchedCall l o x p f s a plan fields starts → (u : Windows) (t : ℕ) → x ≡ answered (found u t)
       → (i : ℕ) → i < 64 → i < u .n → wholeIn l i ≡ true → getD starts i 0 ≡ u .r i
+  pub pause-start : (l : DayList) (o : Outcome Narrowed) (x : Outcome Search) (p f s : List ℕ) (a : Answer) (plan fields starts : List ℕ)
+      → SearchedCall l o x p f s a plan fields starts → (u : Windows) (t : ℕ) → x ≡ answered (found u t)
+      → (i : ℕ) → i < 64 → wholeIn l i ≡ false → getD starts i 0 ≡ 0
   pub none-exists : (l : DayList) (o : Outcome Narrowed) (x : Outcome Search) (p f s : List ℕ) (a : Answer) (plan fields starts : List ℕ)
       → SearchedCall l o x p f s a plan fields starts → (v : Narrowed) → o ≡ answered v → (t : ℕ) → x ≡ answered (none t)
       → (a ≡ answerNumbers 0 (v .moves) 2 t) × (plan ≡ p) × (starts ≡ s)

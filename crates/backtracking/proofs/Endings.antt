@@ -7,7 +7,7 @@ use native.Mathlib.Omega.{arith}
 use Rattle.base.specs.Outcomes.{accepts}
 use Rattle.base.proofs.Sums.{cond-cases}
 use Rattle.windows.specs.Windows.{Windows, fixedAt}
-use Rattle.narrow.specs.Searching.{Test, trials}
+use Rattle.narrow.specs.Searching.{Test, startCount}
 use Rattle.backtracking.specs.Searches.{Search, found, none, spent, orElse, trialsOf, trial, startsFrom, searchFrom}
 
 -- P of what was found, Q of the trials if none was, R of them if all are spent
@@ -78,5 +78,5 @@ module _ (test : Test) (may : ℕ → Bool) where
   search-counts whole zero k v t = omega arith
   search-counts whole (suc j) k v t =
       cond-cases (Counts may t) (whole k) _ _
-      (λ _. starts-count (searchFrom test may whole j (k + 1)) (search-counts whole j (k + 1)) k (trials v k) (v .r k) v t)
+      (λ _. starts-count (searchFrom test may whole j (k + 1)) (search-counts whole j (k + 1)) k (startCount v k) (v .r k) v t)
       (λ _. search-counts whole j (k + 1) v t)

@@ -10,7 +10,7 @@ use Rattle.windows.specs.Windows.{Windows, fixedAt, Formed}
 use Rattle.windows.specs.Plans.{Plan, Plannable, IsStart, Consecutive}
 use Rattle.windows.proofs.PlanFacts.{run-due}
 use Rattle.windows.proofs.Puts.{fixed-formed, consecutive-fixed}
-use Rattle.narrow.specs.Searching.{Test, trials}
+use Rattle.narrow.specs.Searching.{Test, startCount}
 use Rattle.narrow.proofs.Planners.{Planner}
 use Rattle.narrow.proofs.StepsKeep.{StartTried}
 use Rattle.narrow.proofs.Exact.{accepted-plan, plan-accepted}
@@ -136,7 +136,7 @@ module _ (whole : ℕ → Bool) (m s : ℕ → ℕ) where
         (piece-fixed v day k place e))
         (λ x u tried has.
         search-reaches planner may whole j (k + 1) (fixedAt v k x) u (fixed-formed v formed k x place (tried .1)) has (omega arith))
-        (trials v k) (v .r k) t (omega arith) (own .0) (omega (arith, own .1)) (omega (arith, formed .room k place)))
+        (startCount v k) (v .r k) t (omega arith) (own .0) (omega (arith, own .1)) (omega (arith, formed .room k place)))
         (λ e.
         ends-map (searchFrom test may whole j (k + 1) v t) (λ u _. leads-pause (v .n) k (u .r) e) (λ _ z. z) (λ _ z. z)
         (search-finds j (k + 1) v t formed (omega arith) day))

@@ -9,7 +9,7 @@ use lib.Dec.{ltb}
 use Rattle.base.specs.Outcomes.{accepts}
 use Rattle.base.proofs.Sums.{le-or-lt}
 use Rattle.windows.specs.Windows.{Windows, fixedAt}
-use Rattle.narrow.specs.Searching.{Test, trials}
+use Rattle.narrow.specs.Searching.{Test, startCount}
 use Rattle.backtracking.specs.Searches.{Search, found, none, spent, trialsOf, orElse, trial, startsFrom, searchFrom}
 use Rattle.backtracking.specs.Searches.{searchWithin, searchAll}
 use Rattle.backtracking.proofs.Endings.{by-else, Counts, counted, counts-later, trial-counts, starts-count, search-counts}
@@ -91,7 +91,7 @@ module _ (test : Test) (limit : ℕ) where
   search-limited whole (suc j) k v t h =
       cond-same (upTo limit) (whole k)
       (starts-limited (searchFrom test always whole j (k + 1)) (searchFrom test below whole j (k + 1))
-      (search-counts test always whole j (k + 1)) (search-limited whole j (k + 1)) k (trials v k) (v .r k) v t h)
+      (search-counts test always whole j (k + 1)) (search-limited whole j (k + 1)) k (startCount v k) (v .r k) v t h)
       (search-limited whole j (k + 1) v t h)
 
   -- the search with a limit is the one without, or spent where that makes more trials

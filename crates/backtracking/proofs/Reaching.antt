@@ -9,7 +9,7 @@ use Rattle.base.proofs.Sums.{le-or-lt, cond-cases}
 use Rattle.windows.specs.Windows.{Windows, fixedAt, Formed}
 use Rattle.windows.specs.Plans.{Plannable}
 use Rattle.windows.proofs.Puts.{put-same, put-other, fixed-formed, fixed-inside}
-use Rattle.narrow.specs.Searching.{Test, trials}
+use Rattle.narrow.specs.Searching.{Test, startCount}
 use Rattle.narrow.proofs.Planners.{Planner}
 use Rattle.narrow.proofs.StepsKeep.{Keeps, keeps-same, keeps-trans, StartTried}
 use Rattle.narrow.proofs.Exact.{accepted-plan}
@@ -123,7 +123,7 @@ module _ {test : Test} (planner : Planner test) (may : ℕ → Bool) where
       starts-reach whole k e (searchFrom test may whole j (k + 1)) v formed (omega arith)
       (λ x u tried has.
       search-reaches whole j (k + 1) (fixedAt v k x) u (fixed-formed v formed k x (omega arith) (tried .1)) has (omega arith))
-      (trials v k) (v .r k) t (omega arith) (omega (arith, formed .room k (omega arith))))
+      (startCount v k) (v .r k) t (omega arith) (omega (arith, formed .room k (omega arith))))
       (λ e.
       ends-map (searchFrom test may whole j (k + 1) v t) (λ u _. reached-pause whole k v u e) (λ _ z. z) (λ _ z. z)
       (search-reaches whole j (k + 1) v t formed plan (omega arith)))

@@ -9,7 +9,7 @@ use borrow.Author.Tests.{lt-ltb, ltb-true}
 use lib.Dec.{ltb}
 use Rattle.base.specs.Outcomes.{Code, Outcome, answered, refused}
 use Rattle.base.proofs.Sums.{le-or-lt, cond-cases, and-true, below-suc}
-use Rattle.windows.specs.Windows.{Windows, Inside, withWindows, Formed}
+use Rattle.windows.specs.Windows.{Windows, Inside, withWindows, Formed, windowsIn}
 use Rattle.windows.specs.Plans.{Plan, Plannable, PlanBytes, placesIn, startOf, Consecutive}
 use Rattle.windows.proofs.Room.{formed-roomy}
 use Rattle.windows.proofs.PlanFacts.{widen, filled, run-start, plan-start}
@@ -20,9 +20,14 @@ use Rattle.narrow.specs.Rounds.{Narrowed}
 use Rattle.narrow.specs.Laws.{NarrowLaw}
 use Rattle.narrow.proofs.Planners.{Planner}
 use Rattle.narrow.proofs.Fixpoints.{widest-formed}
+use Rattle.narrow.proofs.OverloadPlanner.{overload-planner}
 use Rattle.backtracking.specs.Searches.{Search, found, none, spent, trialsOf, searchFrom, searchWithin, searchAll}
 use Rattle.backtracking.specs.Laws.{UnbrokenDay, NoneUnbroken, HasStarts, NotAfter, atWhole, withStarts, LeastDay, FoundLaw}
 use Rattle.backtracking.specs.Laws.{LimitLaw, UnbrokenLaw}
+use Rattle.backtracking.specs.Calls.{AnswersSearch, SearchesWindows}
+use Rattle.backtracking.specs.declared.types.SearchAnswer.{SearchAnswer}
+use Rattle.windows.specs.Intervals.{overloadOf}
+use Rattle.windows.specs.declared.types.WindowSet.{WindowSet}
 use Rattle.backtracking.proofs.Endings.{search-counts}
 use Rattle.backtracking.proofs.Limits.{up-to-more, up-to-less, within-all}
 use Rattle.backtracking.proofs.Reaching.{Reached, Reaches, search-reaches}
@@ -299,3 +304,17 @@ settled-law planner whole w formed o law n e =
 pub refused-none : {test : Test} (whole : ℕ → Bool) (w : Windows) (o : Outcome Narrowed) → NarrowLaw test whole w o
     → (k : Code) → o ≡ refused k → NoneUnbroken whole w
 refused-none whole w o law k e m day = law .unbroken-none k e m (day .plan) (day .unbroken)
+
+-- the contract of the search, from what its answer says
+pub searches-so : (whole : ℕ → Bool) (s : WindowSet) (limit : ℕ) (a : SearchAnswer)
+    → AnswersSearch (windowsIn s) (searchWithin overloadOf limit whole (windowsIn s)) a → SearchesWindows whole s limit a
+searches-so whole s limit a says =
+    let w = windowsIn s in
+    record {
+      says = says;
+      limits = limit-law overloadOf whole w limit;
+      law =
+          λ formed planned.
+          unbroken-law overload-planner whole w w formed refl (record { r = λ i _. omega arith; d = λ i _. omega arith }) formed planned
+          (λ m day. day .plan) limit;
+    }

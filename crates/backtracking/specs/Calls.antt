@@ -2,10 +2,12 @@
 use Prim.Native.Nat.{ℕ}
 use mathlib.Core.Path.{_≡_}
 use mathlib.Core.Bool.{Bool, true, false}
-use Rattle.windows.specs.Windows.{Windows, windowsIn}
+use Rattle.windows.specs.Windows.{Windows, windowsIn, Formed}
+use Rattle.windows.specs.Plans.{Plannable}
 use Rattle.windows.specs.Intervals.{overloadOf}
 use Rattle.windows.specs.declared.types.WindowSet.{WindowSet}
 use Rattle.backtracking.specs.Searches.{Search, found, none, spent, trialsOf, searchWithin}
+use Rattle.backtracking.specs.Laws.{LimitLaw, UnbrokenLaw}
 use Rattle.backtracking.specs.declared.types.Ending.{Ending}
 use Rattle.backtracking.specs.declared.types.Ending.the-variants.{Unsearched, DayFound, NoneExists, TrialsSpent}
 use Rattle.backtracking.specs.declared.types.SearchAnswer.{SearchAnswer}
@@ -35,6 +37,10 @@ pub record AnswersSearch (w : Windows) (x : Search) (a : SearchAnswer) : Type 0 
   pub windows : windowsIn (a .windows) ≡ windowsAfter w x
   pub trials : a .trials ≡ trialsOf x
 
--- what `search_windows` answers of the windows s, whatever they are: the overload test is what a trial asks
-abbrev pub SearchesWindows : (ℕ → Bool) → WindowSet → ℕ → SearchAnswer → Type 0
-SearchesWindows whole s limit = AnswersSearch (windowsIn s) (searchWithin overloadOf limit whole (windowsIn s))
+-- what `search_windows` answers of the windows s, whatever they are: a trial asks the overload test. Without a whole entry nothing is tried,
+-- so that windows without a plan are found too
+pub record SearchesWindows (whole : ℕ → Bool) (s : WindowSet) (limit : ℕ) (a : SearchAnswer) : Type 0 where
+  pub says : AnswersSearch (windowsIn s) (searchWithin overloadOf limit whole (windowsIn s)) a
+  pub limits : LimitLaw overloadOf whole (windowsIn s) limit
+  -- the law, for windows with room that have a plan
+  pub law : Formed (windowsIn s) → Plannable (windowsIn s) → UnbrokenLaw overloadOf whole (windowsIn s) (windowsIn s) limit

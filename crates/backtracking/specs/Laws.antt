@@ -54,7 +54,7 @@ pub record FoundLaw (whole : ℕ → Bool) (w v u : Windows) : Type 0 where
   pub inside : Inside u v
   pub day : LeastDay whole w (schedule u) (u .r)
 
--- What a limit does, in whatever windows v.
+-- What a limit does, in whatever windows v: `limit-law` of proofs/UnbrokenLaws.antt.
 pub record LimitLaw (test : Test) (whole : ℕ → Bool) (v : Windows) (limit : ℕ) : Type 0 where
   -- "Spent: only when one more trial is needed and all were used.", and exactly then
   pub spent-exactly : ((t : ℕ) × (searchWithin test limit whole v ≡ spent t)) ↔ (limit < trialsOf (searchAll test whole v))
@@ -72,7 +72,8 @@ pub record LimitLaw (test : Test) (whole : ℕ → Bool) (v : Windows) (limit : 
   -- without a whole entry nothing is tried
   pub no-whole : ((i : ℕ) → i < v .n → whole i ≡ false) → searchWithin test limit whole v ≡ found v 0
 
--- What a search in windows v of the entries of w ends with, where the unbroken days of w are those of v.
+-- What a search in windows v of the entries of w ends with, where the unbroken days of w are those of v: `unbroken-law` of
+-- proofs/UnbrokenLaws.antt; `settled-law` there says it of the settled windows v of w.
 pub record UnbrokenLaw (test : Test) (whole : ℕ → Bool) (w v : Windows) (limit : ℕ) : Type 0 where
   pub found-is : (u : Windows) (t : ℕ) → searchWithin test limit whole v ≡ found u t → FoundLaw whole w v u
   -- "None: said .. exactly when no unbroken day exists and the trials sufficed."

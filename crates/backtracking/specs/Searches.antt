@@ -5,7 +5,7 @@ use mathlib.Core.Bool.{Bool, true, cond}
 use lib.Dec.{ltb}
 use Rattle.base.specs.Outcomes.{accepts}
 use Rattle.windows.specs.Windows.{Windows, fixedAt}
-use Rattle.narrow.specs.Searching.{Test, trials}
+use Rattle.narrow.specs.Searching.{Test, startCount}
 
 -- what a search ends with, each with the trials made: windows in which every whole entry's start is fixed; none, where no start is left;
 -- or spent, where another trial is needed and none may be made
@@ -27,7 +27,8 @@ orElse (none t) f = f t
 orElse (spent t) f = spent t
 
 -- "one trial is one start of one entry, tested by whether a plan still exists with the starts fixed so far": v are the windows with the
--- start fixed, t the trials before, rest searches the entries behind
+-- start fixed, t the trials before, rest searches the entries behind. The planner's test accepts windows with room exactly when a plan
+-- exists (`PlanLaw.accepted` of the crate jackson)
 unfoldable pub trial : Test → (Windows → ℕ → Search) → Windows → ℕ → Search
 trial test rest v t = cond (accepts (test v)) (rest v (t + 1)) (none (t + 1))
 
@@ -43,7 +44,7 @@ module _ (test : Test) (may : ℕ → Bool) where
   unfoldable pub searchFrom : (ℕ → Bool) → ℕ → ℕ → Windows → ℕ → Search
   searchFrom whole zero k v t = found v t
   searchFrom whole (suc j) k v t =
-      cond (whole k) (startsFrom (searchFrom whole j (k + 1)) k (trials v k) (v .r k) v t) (searchFrom whole j (k + 1) v t)
+      cond (whole k) (startsFrom (searchFrom whole j (k + 1)) k (startCount v k) (v .r k) v t) (searchFrom whole j (k + 1) v t)
 
 -- "The caller gives a limit of trials."
 unfoldable pub searchWithin : Test → ℕ → (ℕ → Bool) → Windows → Search

@@ -1,5 +1,5 @@
-// The search, entry by entry and start by start. It keeps its place in the windows, in which the starts of the whole entries before it are
-// fixed.
+// The search, entry by entry and start by start. Where it stands is a `Position`: in its windows the starts of the whole entries before its
+// place are fixed.
 use crate::types::Ending;
 use crate::types::SearchAnswer;
 use list::is_accepted;

@@ -16,7 +16,7 @@ use Rattle.windows.specs.Mirrors.{mirror}
 use Rattle.base.proofs.Sums.{le-or-lt}
 use Rattle.base.proofs.Searches.{First, first-below}
 use Rattle.windows.specs.FixedEntries.{IsLeastStart, NoStart, IsGreatestEnd, NoEnd}
-use Rattle.narrow.specs.Searching.{Test, trials, failedStarts, leastStart, greatestEnd}
+use Rattle.narrow.specs.Searching.{Test, startCount, failedStarts, leastStart, greatestEnd}
 use Rattle.narrow.specs.Searching.{SearchLaw}
 use Rattle.narrow.proofs.Planners.{Planner}
 use Rattle.windows.proofs.Puts.{fixed-formed, up-to-formed}
@@ -81,11 +81,11 @@ module _ {test : Test} (planner : Planner test) (w : Windows) (formed : Formed w
   pub start-searched : SearchSays (IsLeastStart w k) (NoStart w k) k (leastStart test w k)
   unfolding failedStarts leastStart
   start-searched =
-      by-row (IsLeastStart w k) _ (eqb j (trials w k)) _ (answered (w .r k + j))
-      (λ e. let full = eqb-true j (trials w k) e in (refl, λ s from room. skipped s from (omega arith) room))
+      by-row (IsLeastStart w k) _ (eqb j (startCount w k)) _ (answered (w .r k + j))
+      (λ e. let full = eqb-true j (startCount w k) e in (refl, λ s from room. skipped s from (omega arith) room))
       (λ e.
-      let ne = eqb-false j (trials w k) e in
-      let below : j < trials w k = omega (arith, first .within) in
+      let ne = eqb-false j (startCount w k) e in
+      let below : j < startCount w k = omega (arith, first .within) in
       record {
         from-r = omega arith;
         room = omega arith;
@@ -96,8 +96,8 @@ module _ {test : Test} (planner : Planner test) (w : Windows) (formed : Formed w
       j : ℕ
       j = failedStarts test w k
 
-      first : First (trials w k) (λ i. accepts (test (fixedAt w k (w .r k + i)))) j
-      first = first-below (trials w k) _
+      first : First (startCount w k) (λ i. accepts (test (fixedAt w k (w .r k + i)))) j
+      first = first-below (startCount w k) _
 
       -- the starts before have no plan
       skipped : (s : ℕ) → w .r k ≤ s → s - w .r k < j → s + w .p k ≤ w .d k → Plannable (fixedAt w k s) → ⊥

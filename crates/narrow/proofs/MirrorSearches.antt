@@ -10,7 +10,7 @@ use Rattle.base.specs.Outcomes.{Outcome, answered, refused, andThen, row, first
 use Rattle.windows.specs.Windows.{Windows, withR, withD, fixedAt, fixedUpTo, Formed}
 use Rattle.windows.specs.Mirrors.{mirror}
 use Rattle.base.proofs.Searches.{first-cong}
-use Rattle.narrow.specs.Searching.{Test, trials, failedStarts, failedEnds, leastStart, greatestEnd}
+use Rattle.narrow.specs.Searching.{Test, startCount, failedStarts, failedEnds, leastStart, greatestEnd}
 use Rattle.narrow.specs.Rounds.{earliest, latest, step}
 use Rattle.windows.proofs.MirrorWindows.{plannable-mirror, formed-mirror, mirror-back, mirror-plannable, mirror-r, mirror-d}
 use Rattle.windows.proofs.MirrorWindows.{fixed-at-mirror, with-r-mirror}
@@ -26,11 +26,11 @@ alike (refused k) (refused x) f g = refl
 
 module _ (w : Windows) (formed : Formed w) (k : ℕ) (place : k < w .n) where
   -- as many starts are tried in the mirror
-  pub trials-mirror : trials (mirror w) k ≡ trials w k
-  trials-mirror = omega (arith, mirror-r w k place, mirror-d w k place, formed .in-day k place, formed .room k place)
+  pub count-mirror : startCount (mirror w) k ≡ startCount w k
+  count-mirror = omega (arith, mirror-r w k place, mirror-d w k place, formed .in-day k place, formed .room k place)
 
   -- the start j minutes after the mirrored r is the mirror of the end j minutes before d
-  fixed-mirror : (j : ℕ) → j < trials w k → fixedAt (mirror w) k (mirror w .r k + j) ≡ mirror (fixedUpTo w k (w .d k - j))
+  fixed-mirror : (j : ℕ) → j < startCount w k → fixedAt (mirror w) k (mirror w .r k + j) ≡ mirror (fixedUpTo w k (w .d k - j))
   fixed-mirror j below =
       let due = formed .in-day k place in
       let a : mirror w .r k + j ≡ w .h - (w .d k - j) = omega (arith, mirror-r w k place) in
@@ -64,9 +64,9 @@ module _ {f g : Test} (same : InMirror f g) (w : Windows) (formed : Formed w) (k
   -- as many ends fail as starts in the mirror
   ends-mirror : failedEnds g w k ≡ failedStarts f (mirror w) k
   unfolding failedStarts failedEnds
-  ends-mirror = rw (trials-mirror w formed k place) (first-cong (trials w k) _ _ each)
+  ends-mirror = rw (count-mirror w formed k place) (first-cong (startCount w k) _ _ each)
     where
-      each : (j : ℕ) → j < trials w k
+      each : (j : ℕ) → j < startCount w k
           → accepts (g (fixedUpTo w k (w .d k - j))) ≡ accepts (f (fixedAt (mirror w) k (mirror w .r k + j)))
       each j below =
           let e = w .d k - j in
@@ -76,7 +76,7 @@ module _ {f g : Test} (same : InMirror f g) (w : Windows) (formed : Formed w) (k
   -- the greatest end is the least start of the mirror, mirrored
   end-mirror : greatestEnd g w k ≡ andThen (leastStart f (mirror w) k) (λ s. answered (w .h - s))
   unfolding leastStart greatestEnd
-  end-mirror = rw (trials-mirror w formed k place, ends-mirror) (go (eqb j (trials w k)))
+  end-mirror = rw (count-mirror w formed k place, ends-mirror) (go (eqb j (startCount w k)))
     where
       j : ℕ
       j = failedStarts f (mirror w) k

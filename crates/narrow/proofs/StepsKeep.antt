@@ -13,7 +13,7 @@ use Rattle.windows.specs.Windows.{Windows, Inside, withWindows, withR, Formed}
 use Rattle.windows.specs.Mirrors.{mirror}
 use Rattle.windows.proofs.Room.{formed-inside}
 use Rattle.base.proofs.Searches.{first-below}
-use Rattle.narrow.specs.Searching.{Test, trials, failedStarts, leastStart}
+use Rattle.narrow.specs.Searching.{Test, startCount, failedStarts, leastStart}
 use Rattle.narrow.specs.Rounds.{Side, earliest, latest, step}
 use Rattle.windows.proofs.Puts.{place-cases, put-other}
 use Rattle.windows.proofs.MirrorWindows.{formed-mirror, mirror-back, mirror-r, mirror-d}
@@ -103,9 +103,9 @@ pub start-says : (test : Test) (w : Windows) (k : ℕ) → Says (StartTried w k)
 unfolding failedStarts leastStart
 start-says test w k =
     let j = failedStarts test w k in
-    let within : j ≤ trials w k = first-below (trials w k) _ .within in
-    by-row (StartTried w k) (RefusedAt k) (eqb j (trials w k)) _ (answered (w .r k + j)) (λ _. refl)
-    (λ e. let z = eqb-false j (trials w k) e in (omega arith, omega arith))
+    let within : j ≤ startCount w k = first-below (startCount w k) _ .within in
+    by-row (StartTried w k) (RefusedAt k) (eqb j (startCount w k)) _ (answered (w .r k + j)) (λ _. refl)
+    (λ e. let z = eqb-false j (startCount w k) e in (omega arith, omega arith))
 
 module _ (w : Windows) (formed : Formed w) (k : ℕ) (place : k < w .n) where
   -- another r of k, of those tried

@@ -91,7 +91,8 @@ module _ (l : DayList) (limit : ℕ) (old : List ℕ) (v : Verdict) (x : Refusal
         starts = rw (is, made) refl;
         buffer = rw is refl;
         tells = λ q. accepted-refused _ x turned q;
-        unsearched = λ _ _. (rw made refl, rw made refl);
+        unsearched = λ _. (rw made refl, rw made refl, rw made refl, refl);
+        law = λ passed. rw (after .holds .narrowed) (plan-law l (length old) passed);
         refused-none = λ passed _. refused-none (wholeIn l) (windowsOf l) (planOf l (length old)) (plan-law l (length old) passed) _ is;
         larger = λ _ more _. rw is refl;
         no-whole = λ q _. accepted-refused _ x turned q;
@@ -225,7 +226,8 @@ module _ (l : DayList) (limit : ℕ) (old : List ℕ) (n : NarrowAnswer) (after 
         starts = rw outcome starts-are;
         buffer = rw outcome stored;
         tells = λ _. tells;
-        unsearched = λ c e. absurd (answered-refused outcome e);
+        unsearched = λ not. absurd (not accepted);
+        law = λ passed. rw (after .holds .narrowed) (plan-law l (length old) passed);
         refused-none = λ _ not. absurd (not accepted);
         larger = larger;
         no-whole = no-whole;

@@ -15,7 +15,8 @@ use Rattle.windows.specs.Windows.{Windows, windowsOf}
 use Rattle.windows.specs.Intervals.{overloadOf}
 use Rattle.jackson.specs.Minutes.{schedule}
 use Rattle.narrow.specs.Rounds.{Narrowed}
-use Rattle.narrow.specs.Calls.{settleOf, AnswersAs, HoldsAnswer}
+use Rattle.narrow.specs.Laws.{NarrowLaw}
+use Rattle.narrow.specs.Calls.{settleOf, narrowedIn, AnswersAs, HoldsAnswer}
 use Rattle.planner.specs.Calls.{planChecks, planOf, planned}
 use Rattle.backtracking.specs.Searches.{Search, found, none, spent, trialsOf, searchAll, searchWithin}
 use Rattle.backtracking.specs.Laws.{UnbrokenDay, NoneUnbroken, withStarts, LeastDay, LimitLaw}
@@ -94,26 +95,27 @@ unsearched v =
       starts = replicate mostEntries 0;
     }
 
--- What the answer a with the bytes of the plan says of all unbroken days of the given windows w, where 9 and 10 were not given. The trials
--- needed are those of the search without a limit in the settled windows, which are those of the list answered.
-abbrev pub needed : (ℕ → Bool) → UnbrokenAnswer → ℕ
-needed whole a = trialsOf (searchAll overloadOf whole (windowsOf (a .narrowed .list)))
+-- the trials of the search without a limit in the settled windows, which are those of the list answered
+abbrev pub trialsNeeded : (ℕ → Bool) → UnbrokenAnswer → ℕ
+trialsNeeded whole a = trialsOf (searchAll overloadOf whole (windowsOf (a .narrowed .list)))
 
+-- the start answered for place i
 abbrev pub startIn : UnbrokenAnswer → ℕ → ℕ
 startIn a i = getD (a .starts) i 0
 
+-- What the answer a with the bytes of the plan says of all unbroken days of the given windows w, where 9 and 10 were not given.
 pub record TellsUnbroken (whole : ℕ → Bool) (w : Windows) (limit : ℕ) (a : UnbrokenAnswer) (bytes : List ℕ) : Type 0 where
   -- found: "the plan is Jackson's with the starts fixed, and among all unbroken days its list of whole entries' starts is the least"
   pub jackson : a .ending ≡ DayFound → bytes ≡ schedule (withStarts whole (windowsOf (a .narrowed .list)) (startIn a))
   pub least : a .ending ≡ DayFound → LeastDay whole w bytes (startIn a)
-  pub found-exactly : (a .ending ≡ DayFound) ↔ (((m : ℕ → ℕ) × UnbrokenDay whole w m) × (needed whole a ≤ limit))
+  pub found-exactly : (a .ending ≡ DayFound) ↔ (((m : ℕ → ℕ) × UnbrokenDay whole w m) × (trialsNeeded whole a ≤ limit))
   -- none: "exactly when no unbroken day exists and the trials sufficed"
-  pub none-exactly : (a .ending ≡ NoneExists) ↔ (NoneUnbroken whole w × (needed whole a ≤ limit))
+  pub none-exactly : (a .ending ≡ NoneExists) ↔ (NoneUnbroken whole w × (trialsNeeded whole a ≤ limit))
   -- spent: "only when one more trial is needed and all were used"
-  pub spent-exactly : (a .ending ≡ TrialsSpent) ↔ (limit < needed whole a)
+  pub spent-exactly : (a .ending ≡ TrialsSpent) ↔ (limit < trialsNeeded whole a)
   pub spent-all : a .ending ≡ TrialsSpent → a .trials ≡ limit
   -- trials are as many as are needed, or the limit
-  pub trials-needed : needed whole a ≤ limit → a .trials ≡ needed whole a
+  pub trials-needed : trialsNeeded whole a ≤ limit → a .trials ≡ trialsNeeded whole a
   pub limits : LimitLaw overloadOf whole (windowsOf (a .narrowed .list)) limit
 
 -- what looking for an unbroken day of the list l answers, and leaves in a plan buffer that held old
@@ -127,7 +129,10 @@ pub record FindsUnbroken (l : DayList) (limit : ℕ) (old : List ℕ) (a : Unbro
   -- where 9 and 10 were not given
   pub tells : a .narrowed .verdict ≡ Accepted → TellsUnbroken (wholeIn l) (windowsOf l) limit a (take (l .frame .h) new)
   -- beside a refusal nothing was searched
-  pub unsearched : (c : Code) → planOf l (length old) ≡ refused c → (a .ending ≡ Unsearched) × (a .trials ≡ 0)
+  pub unsearched : (a .narrowed .verdict ≡ Accepted → ⊥)
+      → (a .ending ≡ Unsearched) × (a .trials ≡ 0) × (a .starts ≡ replicate mostEntries 0) × (new ≡ old)
+  -- the law of narrowing, of the windows and moves answered, for a list and a buffer that pass the checks before 9
+  pub law : planChecks l (length old) ≡ answered tt → NarrowLaw overloadOf (wholeIn l) (windowsOf l) (narrowedIn (a .narrowed))
   -- where 9 or 10 was given, no unbroken day exists either
   pub refused-none : planChecks l (length old) ≡ answered tt → (a .narrowed .verdict ≡ Accepted → ⊥)
       → NoneUnbroken (wholeIn l) (windowsOf l)

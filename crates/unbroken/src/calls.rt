@@ -45,24 +45,24 @@ fn whole_starts(whole: [bool; ENTRIES], windows: WindowSet) -> [u16; ENTRIES]
 }
 
 // The starts of a search's answer: 0 for each place where no day was found.
-fn starts_said(whole: [bool; ENTRIES], found: SearchAnswer) -> [u16; ENTRIES]
-    ensures { λ xs. ⌜ xs ≡ startsSaid (marked whole) found ⌝ }
+fn starts_said(whole: [bool; ENTRIES], searched: SearchAnswer) -> [u16; ENTRIES]
+    ensures { λ xs. ⌜ xs ≡ startsSaid (marked whole) searched ⌝ }
 {
-    let ending = found.ending;
+    let ending = searched.ending;
     if is_found(ending) {
-        let fixed = found.windows;
+        let fixed = searched.windows;
         return whole_starts(whole, fixed);
     }
     zeros()
 }
 
 // Stores Jackson's schedule with the starts fixed, where a day was found.
-fn store_found(found: SearchAnswer, plan: &mut [u8])
-    ensures { λ _. ⌜ StoresFound found (now (plan .entry)) (now (plan .exit)) ⌝ }
+fn store_found(searched: SearchAnswer, plan: &mut [u8])
+    ensures { λ _. ⌜ StoresFound searched (now (plan .entry)) (now (plan .exit)) ⌝ }
 {
-    let ending = found.ending;
+    let ending = searched.ending;
     if is_found(ending) {
-        let fixed = found.windows;
+        let fixed = searched.windows;
         let _filled = unchecked_schedule(fixed, plan);
     }
 }
@@ -95,13 +95,13 @@ pub fn unbroken_day(list: DayList, limit: u32, plan: &mut [u8]) -> UnbrokenAnswe
     };
     let whole = whole_places(list);
     let settled = narrowed.list;
-    let found = search_windows(whole, unchecked_windows(settled), limit);
-    store_found(found, plan);
-    let ending = found.ending;
+    let searched = search_windows(whole, unchecked_windows(settled), limit);
+    store_found(searched, plan);
+    let ending = searched.ending;
     UnbrokenAnswer {
         narrowed: narrowed,
         ending: ending,
-        trials: found.trials,
-        starts: starts_said(whole, found),
+        trials: searched.trials,
+        starts: starts_said(whole, searched),
     }
 }

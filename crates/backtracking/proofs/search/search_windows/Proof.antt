@@ -10,6 +10,7 @@ use Rattle.list.specs.DayLists.{marked}
 use Rattle.windows.specs.Windows.{windowsIn}
 use Rattle.backtracking.specs.Internal.{LastWhole, StartLeft, OnTheWay}
 use Rattle.backtracking.proofs.SearchCases.{fixed-none, way-begins, way-found, way-left, way-spent, way-tried, way-none, way-again}
+use Rattle.backtracking.proofs.UnbrokenLaws.{searches-so}
 use Rattle.backtracking.proofs.search.search_windows.Statement.{statement}
 use Rattle.backtracking.proofs.search.search_windows.Tie as tie
 
@@ -106,23 +107,26 @@ returns : tie.Need-returns Inv-loop μ-loop
 returns c =
     let at-loop = c .before .before .before in
     let args = at-loop .before .before .before .args in
-    way-found (marked (args .whole)) (args .windows) (args .limit) (at-loop .loop .at) (at-loop .loop .inv)
-    (omega (arith, c .before .if1 .taken, at-loop .before .before .places-held .ensures))
+    searches-so (marked (args .whole)) (args .windows) (args .limit) _
+    (way-found (marked (args .whole)) (args .windows) (args .limit) (at-loop .loop .at) (at-loop .loop .inv)
+    (omega (arith, c .before .if1 .taken, at-loop .before .before .places-held .ensures)))
 
 returns-2 : tie.Need-returns-2 Inv-loop μ-loop
 returns-2 c =
     let at-loop = c .before .before .before .before .before .before in
     let args = at-loop .before .before .before .args in
-    way-spent (marked (args .whole)) (args .windows) (args .limit) (at-loop .loop .at) (at-loop .loop .inv)
-    (place (c .before .before .before .before)) (left (c .before .before)) (c .if3 .taken)
+    searches-so (marked (args .whole)) (args .windows) (args .limit) _
+    (way-spent (marked (args .whole)) (args .windows) (args .limit) (at-loop .loop .at) (at-loop .loop .inv)
+    (place (c .before .before .before .before)) (left (c .before .before)) (c .if3 .taken))
 
 returns-3 : tie.Need-returns-3 Inv-loop μ-loop
 returns-3 c =
     let at-loop = c .before .before .before .before .before .before in
     let args = at-loop .before .before .before .args in
     let z : c .before .last-whole .result ≡ 0 = c .if4 .taken in
-    way-none (marked (args .whole)) (args .windows) (args .limit) (at-loop .loop .at) (at-loop .loop .inv)
-    (place (c .before .before .before .before)) (none-left (c .before .before)) (rw z at (c .before .last-whole .ensures))
+    searches-so (marked (args .whole)) (args .windows) (args .limit) _
+    (way-none (marked (args .whole)) (args .windows) (args .limit) (at-loop .loop .at) (at-loop .loop .inv)
+    (place (c .before .before .before .before)) (none-left (c .before .before)) (rw z at (c .before .last-whole .ensures)))
 
 pub search-windows-spec : {M : Type 1} → statement M
 search-windows-spec =

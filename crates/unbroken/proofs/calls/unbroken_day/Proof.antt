@@ -95,7 +95,7 @@ returns-3 c =
     let found = at-search .search-windows .result in
     let says : AnswersSearch (windowsOf (settle .result .list))
     (searchWithin overloadOf (args .limit) (wholeIn l) (windowsOf (settle .result .list))) found =
-    rw (← kinds, ← (at-windows .unchecked-windows .ensures .windows)) (at-search .search-windows .ensures) in
+    rw (← kinds, ← (at-windows .unchecked-windows .ensures .windows)) (at-search .search-windows .ensures .says) in
     finds-searched l (args .limit) (args .plan .now) (settle .result)
     (narrows-so l (length (args .plan .now)) (checks .result) (checks .ensures) (at-settle .before .enum-told .given .1) (settle .result)
     (settle .ensures))
