@@ -37,8 +37,8 @@ pub record AnswersSearch (w : Windows) (x : Search) (a : SearchAnswer) : Type 0 
   pub windows : windowsIn (a .windows) ≡ windowsAfter w x
   pub trials : a .trials ≡ trialsOf x
 
--- what `search_windows` answers of the windows s, whatever they are: a trial asks the overload test. Without a whole entry nothing is tried,
--- so that windows without a plan are found too
+-- what `search_windows` answers of the windows s, whatever they are: a trial asks the overload test. Without a whole entry nothing is
+-- tried, so that windows without a plan are found too
 pub record SearchesWindows (whole : ℕ → Bool) (s : WindowSet) (limit : ℕ) (a : SearchAnswer) : Type 0 where
   pub says : AnswersSearch (windowsIn s) (searchWithin overloadOf limit whole (windowsIn s)) a
   pub limits : LimitLaw overloadOf whole (windowsIn s) limit
