@@ -7,9 +7,8 @@ use borrow.Author.Tests.{eq-eqb}
 use lib.ListN.{length}
 use Rattle.base.specs.Outcomes.{Outcome, answered, refused, andThen}
 use Rattle.base.proofs.Inversion.{answered-same, answered-refused, Says, Anything, by-step}
-use Rattle.list.specs.DayLists.{emptyList}
 use Rattle.list.specs.Refusals.{codeOf, verdictOf, readAnswerOf, writeAnswerOf}
-use Rattle.list.proofs.Verdicts.{by-verdict, by-accepted, by-refused}
+use Rattle.list.proofs.Verdicts.{by-accepted, by-refused}
 use Rattle.format.specs.Calls.{Reads, Writes}
 use Rattle.list.specs.declared.types.DayList.{DayList}
 use Rattle.list.specs.declared.types.Refusal.{Refusal}
@@ -26,9 +25,9 @@ use Rattle.planner.specs.declared.types.PlanAnswer.{PlanAnswer}
 use Rattle.planner.specs.declared.types.ShownAnswer.{ShownAnswer}
 use Rattle.report.specs.Calls.{StoresText}
 use Rattle.codes.specs.Codes.{three}
-use Rattle.flat.specs.Flat.{flatNumbers, flatOf, valueOf, flatFault, listIn, ReadsFlat, StoresFlat}
-use Rattle.flat.proofs.LengthCases.{length-says, length-right, list-says}
-use Rattle.abi.specs.Calls.{answerWith, flatBeside, ReadCall, WriteCall, OverloadCall, ScheduleCall, NarrowCall, SettleCall, PlanCall}
+use Rattle.flat.specs.Flat.{flatNumbers, flatOf, valueOf, flatFault, listIn, flatBeside, ReadsFlat, StoresFlat}
+use Rattle.flat.proofs.LengthCases.{length-says, length-right, list-says, taken, turned-back}
+use Rattle.abi.specs.Calls.{answerWith, ReadCall, WriteCall, OverloadCall, ScheduleCall, NarrowCall, SettleCall, PlanCall}
 use Rattle.abi.specs.Calls.{TakenCall, PlannedCall, ShowCall, TextCall}
 use Rattle.abi.specs.Internal.{GivesPlanned}
 use Rattle.abi.specs.declared.Answer.{Answer}
@@ -40,14 +39,6 @@ RefusedAs x b = b ≡ record { number = codeOf x .number; values = three (codeOf
 -- an answer made of a verdict
 abbrev pub VerdictAs : Verdict → Answer → Type 0
 VerdictAs v b = b ≡ answerWith (λ _. []) (verdictOf v)
-
--- what an answer's verdict tells of the outcome that it says
-module _ {o : Outcome DayList} (a : ReadAnswer) (w : readAnswerOf a ≡ o) where
-  taken : a .verdict ≡ Accepted → o ≡ answered (a .list)
-  taken = by-verdict (a .list) w
-
-  pub turned-back : (x : Refusal) → a .verdict ≡ Refused x → o ≡ refused (codeOf x)
-  turned-back x = by-verdict (a .list) w
 
 -- a refusal leaves the row as it was
 nothing-read : (x : Refusal) (old : List ℕ) (b : Answer) → RefusedAs x b → TakenCall (refused (codeOf x)) old b old
@@ -78,19 +69,6 @@ module _ (bs old : List ℕ) (u : Verdict) (row : verdictOf u ≡ flatFault (len
         let long = length-right _ (length old) z in
         let stored : fields ≡ flatOf (a .list) = rw (eq-eqb _ _ long) at (put .numbers) in
         rw (z, o) (record { answer = rw v at q; buffer = stored; back = λ l e. put .back long ∙ e })
-
--- a row's list, where a row is lent beside it
-module _ (xs : List ℕ) (lent : ℕ) (a : ReadAnswer) (w : ReadsFlat xs a) where
-  pub beside-bad-length : (x : Refusal) → a .verdict ≡ Refused x → readAnswerOf a ≡ flatBeside xs lent
-  beside-bad-length x v = let o = turned-back a (w .outcome) x v in w .outcome ∙ rw o
-
-  module _ (v : a .verdict ≡ Accepted) (u : Verdict) (row : verdictOf u ≡ flatFault lent) where
-    pub beside-refused : (x : Refusal) → u ≡ Refused x → (b : ReadAnswer) → b ≡ record { verdict = Refused x; list = emptyList }
-        → readAnswerOf b ≡ flatBeside xs lent
-    beside-refused x e b q = rw (taken a (w .outcome) v, by-refused row e, q)
-
-    pub beside-read : u ≡ Accepted → readAnswerOf a ≡ flatBeside xs lent
-    beside-read e = rw (taken a (w .outcome) v, by-accepted row e, v)
 
 -- rows that passed: the list value that was given
 pub record Given (xs : List ℕ) (o : Outcome DayList) (l : DayList) : Type 0 where

@@ -14,14 +14,15 @@ use Rattle.list.specs.declared.types.Verdict.the-variants.{Refused}
 use Rattle.list.specs.declared.types.ReadAnswer.{ReadAnswer}
 use Rattle.narrow.specs.Calls.{narrowAnswerOf}
 use Rattle.backtracking.specs.Searches.{Search, found, none, spent}
-use Rattle.backtracking.specs.Calls.{isFound}
+use Rattle.backtracking.specs.Calls.{isFound, endingNumber}
 use Rattle.unbroken.specs.Calls.{unbrokenOf, endingAfter, startsAfter, FindsUnbroken}
 use Rattle.unbroken.specs.declared.types.UnbrokenAnswer.{UnbrokenAnswer}
-use Rattle.flat.specs.Flat.{valueOf}
-use Rattle.abi.specs.Calls.{flatBeside, NarrowCall}
-use Rattle.abi.specs.SearchCalls.{endingNumber, startsGiven, UnbrokenCall}
+use Rattle.flat.specs.Flat.{valueOf, flatBeside}
+use Rattle.flat.proofs.LengthCases.{turned-back}
+use Rattle.abi.specs.Calls.{NarrowCall}
+use Rattle.abi.specs.SearchCalls.{startsGiven, UnbrokenCall}
 use Rattle.abi.specs.declared.Answer.{Answer}
-use Rattle.abi.proofs.CallCases.{VerdictAs, Given, turned-back, told, nothing-narrowed}
+use Rattle.abi.proofs.CallCases.{VerdictAs, Given, told, nothing-narrowed}
 
 -- rows that were turned back
 pub unbroken-bad-length : (xs : List ℕ) (a : ReadAnswer) (x : Refusal) → a .verdict ≡ Refused x → (b : Answer) → VerdictAs (a .verdict) b

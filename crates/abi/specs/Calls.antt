@@ -20,17 +20,13 @@ use Rattle.bounds.specs.declared.types.Shown.the-variants.{Early, Late}
 use Rattle.report.specs.Reports.{refusalLine, reportOf}
 use Rattle.report.specs.Calls.{storeOf, textAfter}
 use Rattle.codes.specs.Codes.{three}
-use Rattle.flat.specs.Flat.{flatOf, valueOf, flatFault, listIn}
+use Rattle.flat.specs.Flat.{flatOf, valueOf, flatFault, listIn, flatBeside}
 use Rattle.abi.specs.declared.Answer.{Answer}
 
 -- 0 with the values given, or a refusal's number with the values that it carries
 abbrev pub answerWith : {A : Type 0} → (A → List ℕ) → Outcome A → Answer
 answerWith f (answered a) = record { number = 0; values = three (f a) }
 answerWith f (refused k) = record { number = k .number; values = three (k .carries) }
-
--- the list value that the row xs says, where a row of the length given is lent beside it: row 100 for xs, then for the lent one
-abbrev pub flatBeside : List ℕ → ℕ → Outcome DayList
-flatBeside xs lent = andThen (listIn xs) (λ l. andThen (flatFault lent) (λ _. answered l))
 
 -- a lent row after reading: the list read, or what was there
 abbrev pub fieldsAfter : Outcome DayList → List ℕ → List ℕ

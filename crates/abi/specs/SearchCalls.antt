@@ -11,19 +11,11 @@ use Rattle.narrow.specs.Rounds.{Narrowed}
 use Rattle.narrow.specs.Calls.{listed}
 use Rattle.planner.specs.Calls.{planOf}
 use Rattle.backtracking.specs.Searches.{Search, found, none, spent}
-use Rattle.backtracking.specs.declared.types.Ending.{Ending}
-use Rattle.backtracking.specs.declared.types.Ending.the-variants.{Unsearched, DayFound, NoneExists, TrialsSpent}
+use Rattle.backtracking.specs.Calls.{endingNumber}
 use Rattle.unbroken.specs.Calls.{unbrokenOf, endingAfter, trialsAfter, wholeStarts, unbrokenAfter}
-use Rattle.flat.specs.Flat.{valueOf}
-use Rattle.abi.specs.Calls.{flatBeside, NarrowCall}
+use Rattle.flat.specs.Flat.{valueOf, flatBeside}
+use Rattle.abi.specs.Calls.{NarrowCall}
 use Rattle.abi.specs.declared.Answer.{Answer}
-
--- how a search ended, as a number; 0 is never told, since a refusal tells its own values
-abbrev pub endingNumber : Ending → ℕ
-endingNumber Unsearched = 0
-endingNumber DayFound = 1
-endingNumber NoneExists = 2
-endingNumber TrialsSpent = 3
 
 -- the lent starts: those of a day that was found, or what was there
 abbrev pub startsGiven : (ℕ → Bool) → List ℕ → Outcome Search → List ℕ

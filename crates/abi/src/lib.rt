@@ -14,10 +14,9 @@ use codes::RefusalCode;
 use flat::BOUNDS;
 use flat::flat_fault;
 use flat::joined;
+use flat::list_beside;
 use flat::list_in;
 use flat::put_flat;
-use list::read_refused;
-use list::types::ReadAnswer;
 use list::types::Refusal;
 use list::types::Verdict;
 use list::types::WriteAnswer;
@@ -29,13 +28,13 @@ use planner::types::PlanAnswer;
 ghost use mathlib.Core.Path.{_≡_};
 ghost use mathlib.Core.List.{[], _∷_, _++_};
 ghost use lib.ListN.{length};
-ghost use Rattle.list.specs.Refusals.{codeOf, verdictOf, readAnswerOf, writeAnswerOf};
+ghost use Rattle.list.specs.Refusals.{codeOf, verdictOf, writeAnswerOf};
 ghost use Rattle.narrow.specs.Calls.{narrowAnswerOf, narrowedIn};
 ghost use Rattle.planner.specs.Calls.{settledOr};
 ghost use Rattle.codes.specs.Codes.{three};
 ghost use Rattle.flat.specs.Flat.{flatNumbers};
 ghost use Rattle.abi.specs.Calls.{answerWith, ReadCall, WriteCall, OverloadCall, ScheduleCall, NarrowCall, SettleCall, PlanCall};
-ghost use Rattle.abi.specs.Calls.{EarlyCall, LateCall, ReportCall, LineCall, flatBeside};
+ghost use Rattle.abi.specs.Calls.{EarlyCall, LateCall, ReportCall, LineCall};
 ghost use Rattle.abi.specs.Internal.{GivesPlanned};
 
 // What a call answers: 0 or a refusal's number, and three values, 0 where there are fewer.
@@ -78,22 +77,6 @@ fn count_as(answer: WriteAnswer) -> Answer
             values: [count as u64, 0, 0],
         },
         WriteAnswer::NotWritten(x) => refused_as(x),
-    }
-}
-
-// The list value that `fields` says, where a row of the length `lent` is lent beside it; row 100 for either.
-pub(crate) fn list_beside(fields: &[u32], lent: usize) -> ReadAnswer
-    ensures { λ a. ⌜ readAnswerOf a ≡ flatBeside (now (fields .entry)) lent ⌝ }
-{
-    let given = list_in(fields);
-    let verdict = given.verdict;
-    let Verdict::Accepted = verdict else {
-        return given;
-    };
-    let fault = flat_fault(lent);
-    match fault {
-        Verdict::Accepted => given,
-        Verdict::Refused(x) => read_refused(x),
     }
 }
 

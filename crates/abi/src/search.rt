@@ -1,10 +1,10 @@
 // Looking for an unbroken day of a list.
 use crate::Answer;
 use crate::give_narrowed;
-use crate::list_beside;
 use crate::verdict_as;
+use backtracking::ending_number;
 use backtracking::is_found;
-use backtracking::types::Ending;
+use flat::list_beside;
 use flat::place_numbers;
 use list::types::ENTRIES;
 use list::types::Verdict;
@@ -13,19 +13,7 @@ use unbroken::unbroken_day;
 ghost use mathlib.Core.Path.{_≡_};
 ghost use mathlib.Core.Bool.{cond};
 ghost use Rattle.backtracking.specs.Calls.{isFound};
-ghost use Rattle.abi.specs.SearchCalls.{endingNumber, UnbrokenCall};
-
-// How the search ended, as a number.
-fn ending_number(ending: Ending) -> u64
-    ensures { λ x. ⌜ x ≡ endingNumber ending ⌝ }
-{
-    match ending {
-        Ending::Unsearched => 0,
-        Ending::DayFound => 1,
-        Ending::NoneExists => 2,
-        Ending::TrialsSpent => 3,
-    }
-}
+ghost use Rattle.abi.specs.SearchCalls.{UnbrokenCall};
 
 // The starts of the day that was found; else `starts` keeps its values.
 fn give_starts(answer: UnbrokenAnswer, starts: &mut [u32; ENTRIES])

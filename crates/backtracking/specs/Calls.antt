@@ -25,6 +25,13 @@ isFound DayFound = true
 isFound NoneExists = false
 isFound TrialsSpent = false
 
+-- how it ended as a number, for other languages; 0 is never told there, since a refusal tells its own values
+abbrev pub endingNumber : Ending → ℕ
+endingNumber Unsearched = 0
+endingNumber DayFound = 1
+endingNumber NoneExists = 2
+endingNumber TrialsSpent = 3
+
 -- the windows with the starts fixed where a day was found, else those given
 abbrev pub windowsAfter : Windows → Search → Windows
 windowsAfter w (found v t) = v

@@ -5,5 +5,6 @@
 mod search;
 pub mod types;
 
+pub use search::ending_number;
 pub use search::is_found;
 pub use search::search_windows;

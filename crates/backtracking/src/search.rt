@@ -14,7 +14,7 @@ ghost use Rattle.base.specs.Outcomes.{accepts};
 ghost use Rattle.list.specs.DayLists.{marked};
 ghost use Rattle.windows.specs.Windows.{windowsIn, withWindow};
 ghost use Rattle.windows.specs.Intervals.{overloadOf};
-ghost use Rattle.backtracking.specs.Calls.{isFound, SearchesWindows};
+ghost use Rattle.backtracking.specs.Calls.{isFound, endingNumber, SearchesWindows};
 ghost use Rattle.backtracking.specs.Internal.{NextWhole, LastWhole, FixedBelow, Stands, Entered, Reopens, StartLeft, Tries};
 
 // Where the search stands: the windows with the starts fixed so far, the entry that is tried, its next start, and the trials made.
@@ -34,6 +34,18 @@ pub fn is_found(ending: Ending) -> bool
         Ending::DayFound => true,
         Ending::NoneExists => false,
         Ending::TrialsSpent => false,
+    }
+}
+
+// How the search ended, as a number.
+pub fn ending_number(ending: Ending) -> u64
+    ensures { λ x. ⌜ x ≡ endingNumber ending ⌝ }
+{
+    match ending {
+        Ending::Unsearched => 0,
+        Ending::DayFound => 1,
+        Ending::NoneExists => 2,
+        Ending::TrialsSpent => 3,
     }
 }
 

@@ -96,6 +96,10 @@ flatFault numbers = firstOf (lengthRow flatNumbers numbers ∷ []) (answered tt)
 abbrev pub listIn : List ℕ → Outcome DayList
 listIn xs = andThen (flatFault (length xs)) (λ _. answered (valueOf xs))
 
+-- likewise where a row of the length given is lent beside it: row 100 for xs, then for the lent one
+abbrev pub flatBeside : List ℕ → ℕ → Outcome DayList
+flatBeside xs lent = andThen (listIn xs) (λ l. andThen (flatFault lent) (λ _. answered l))
+
 -- what `list_in` answers of a row
 pub record ReadsFlat (xs : List ℕ) (a : ReadAnswer) : Type 0 where
   pub outcome : readAnswerOf a ≡ listIn xs

@@ -16,6 +16,7 @@ pub use day::put_day;
 pub use places::joined;
 pub use places::place_numbers;
 pub use value::flat_fault;
+pub use value::list_beside;
 pub use value::list_in;
 pub use value::put_flat;
 

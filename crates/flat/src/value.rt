@@ -19,9 +19,9 @@ ghost use lib.Seq.{sets};
 ghost use lib.Dec.{eqb};
 ghost use Rattle.format.specs.Maps.{kindOf};
 ghost use Rattle.format.specs.EntryFields.{sealOf};
-ghost use Rattle.list.specs.Refusals.{verdictOf};
+ghost use Rattle.list.specs.Refusals.{verdictOf, readAnswerOf};
 ghost use Rattle.flat.specs.Flat.{present, numberOf, wholeOf, flatEntry, flatOf, entryIn, valueOf, flatNumbers};
-ghost use Rattle.flat.specs.Flat.{flatFault, ReadsFlat, StoresFlat};
+ghost use Rattle.flat.specs.Flat.{flatFault, flatBeside, ReadsFlat, StoresFlat};
 
 // The largest u16 for a number that is too large, and likewise below.
 pub(crate) fn u16_of(x: u32) -> u16
@@ -181,5 +181,21 @@ pub fn put_flat(list: DayList, fields: &mut [u32])
 {
     if fields.len() == NUMBERS {
         put_numbers(list, fields);
+    }
+}
+
+// The list value that `fields` says, where a row of the length `lent` is lent beside it; row 100 for either.
+pub fn list_beside(fields: &[u32], lent: usize) -> ReadAnswer
+    ensures { λ a. ⌜ readAnswerOf a ≡ flatBeside (now (fields .entry)) lent ⌝ }
+{
+    let given = list_in(fields);
+    let verdict = given.verdict;
+    let Verdict::Accepted = verdict else {
+        return given;
+    };
+    let fault = flat_fault(lent);
+    match fault {
+        Verdict::Accepted => given,
+        Verdict::Refused(x) => read_refused(x),
     }
 }

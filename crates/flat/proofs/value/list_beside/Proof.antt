@@ -1,9 +1,9 @@
 -- The row given, then the length of the one lent.
 -- Assumes nothing.
 use borrow.Author.Needs.{needs}
-use Rattle.abi.proofs.CallCases.{beside-bad-length, beside-refused, beside-read}
-use Rattle.abi.proofs.list_beside.Statement.{statement}
-use Rattle.abi.proofs.list_beside.Tie as tie
+use Rattle.flat.proofs.LengthCases.{beside-bad-length, beside-refused, beside-read}
+use Rattle.flat.proofs.value.list_beside.Statement.{statement}
+use Rattle.flat.proofs.value.list_beside.Tie as tie
 
 list-in-requires : tie.Need-list-in-requires
 list-in-requires c κs = search needs
