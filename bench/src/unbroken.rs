@@ -40,7 +40,7 @@ impl Program for Searching<'_> {
 const PROGRAMS: [Call; 2] = [
     |fields, limit, lent| {
         let SearchLent { plan, narrowed, starts } = lent;
-        abi::unbroken_unguarded(fields, limit, plan, narrowed, starts)
+        abi::unbroken_unguarded(fields, limit, (plan, narrowed, starts))
     },
     plain::unbroken,
 ];

@@ -282,40 +282,30 @@ pub fn unbroken(fields: &[u32], limit: u32, room: usize) -> (Answer, SearchLent)
 /// The same with this lent to it, whatever it holds.
 pub fn unbroken_into(fields: &[u32], limit: u32, lent: &mut SearchLent) -> Answer {
     let SearchLent { plan, narrowed, starts } = lent;
-    unbroken_lending(fields, limit, plan, narrowed, starts)
+    unbroken_lending(fields, limit, (plan, narrowed, starts))
 }
 
-/// The same with a row of any length for the narrowed list.
-pub fn unbroken_lending(
-    fields: &[u32],
-    limit: u32,
-    plan: &mut [u8],
-    narrowed: &mut [u32],
-    starts: &mut Starts,
-) -> Answer {
+/// What is lent to the search, with a row of any length for the narrowed list.
+pub type SearchSlices<'a> = (&'a mut [u8], &'a mut [u32], &'a mut Starts);
+
+/// The same with these slices.
+pub fn unbroken_lending(fields: &[u32], limit: u32, (plan, narrowed, starts): SearchSlices) -> Answer {
     lending(plan, BYTE_BESIDE, |plan| {
         lending(narrowed, NUMBER_BESIDE, |narrowed| {
             lending(starts, NUMBER_BESIDE, |starts| {
                 let starts = starts.try_into().expect("as many starts as were lent");
-                unbroken_unguarded(fields, limit, plan, narrowed, starts)
+                unbroken_unguarded(fields, limit, (plan, narrowed, starts))
             })
         })
     })
 }
 
 /// The same without margins beside what is lent, for the benchmark.
-pub fn unbroken_unguarded(
-    fields: &[u32],
-    limit: u32,
-    plan: &mut [u8],
-    narrowed: &mut [u32],
-    starts: &mut Starts,
-) -> Answer {
-    let (fields, numbers) = (fields.as_ptr(), fields.len());
-    let (plan, len) = (plan.as_mut_ptr(), plan.len());
-    let (narrowed, more) = (narrowed.as_mut_ptr(), narrowed.len());
+pub fn unbroken_unguarded(fields: &[u32], limit: u32, (plan, narrowed, starts): SearchSlices) -> Answer {
+    let (len, more) = (plan.len(), narrowed.len());
+    let (plan, narrowed) = (plan.as_mut_ptr(), narrowed.as_mut_ptr());
     // SAFETY: the library reads one row and writes bytes, another row and the starts, all of them lent here.
-    unsafe { dock_unbroken(fields, numbers, limit, plan, len, narrowed, more, starts) }
+    unsafe { dock_unbroken(fields.as_ptr(), fields.len(), limit, plan, len, narrowed, more, starts) }
 }
 
 /// Makes a fresh day of a list through the library in this row, whatever it holds.

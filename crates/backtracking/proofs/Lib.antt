@@ -7,6 +7,8 @@ mod Leasts
 -- The laws of the search, and examples.
 pub mod UnbrokenLaws
 pub mod Examples
+-- Which search an answer tells of, and that starts count at whole places alone.
+pub mod SaidEndings
 -- What the code's proofs cite: what is left of the search where it stands, and how it goes on.
 mod Remainders
 mod SearchCases

@@ -11,7 +11,8 @@ pub mod CallLaws
 pub mod OneAnswer
 -- The fast way and the defined way.
 pub mod FasterDays
--- What the code's proofs cite, case by case. The crates above are to cite the last two, for calls of their own.
+-- What the code's proofs cite, case by case. The crates above are to cite the last three, for calls of their own.
 mod BrokenCases
 pub mod CallCases
 pub mod AnswerCases
+pub mod SettledPlans

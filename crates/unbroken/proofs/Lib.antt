@@ -2,6 +2,5 @@
 pub mod UnbrokenRows
 -- Examples in numbers.
 pub mod Examples
--- What a search's answer says, and the contract from what the code has.
-mod SaidEndings
+-- The contract from what the code has.
 mod UnbrokenCases

@@ -17,22 +17,17 @@ use Rattle.list.specs.declared.types.Refusal.{Refusal}
 use Rattle.list.specs.declared.types.Verdict.{Verdict}
 use Rattle.list.specs.declared.types.Verdict.the-variants.{Accepted, Refused}
 use Rattle.list.proofs.ByPlace.{by-place}
-use Rattle.list.proofs.Verdicts.{by-verdict, by-accepted, by-refused}
 use Rattle.windows.specs.Windows.{Windows, windowsOf, windowsIn}
 use Rattle.windows.specs.Intervals.{overloadOf}
 use Rattle.windows.proofs.FormedLists.{list-formed}
 use Rattle.jackson.specs.Minutes.{schedule}
 use Rattle.jackson.proofs.Schedules.{schedule-long}
-use Rattle.narrow.specs.Rounds.{narrowing}
-use Rattle.narrow.specs.Calls.{settleOf, Settles}
-use Rattle.narrow.specs.Laws.{NarrowLaw}
 use Rattle.narrow.specs.declared.types.NarrowAnswer.{NarrowAnswer}
 use Rattle.narrow.proofs.OverloadPlanner.{overload-planner}
-use Rattle.narrow.proofs.NarrowLaws.{narrow-law}
 use Rattle.narrow.proofs.ListAnswers.{answers-refused}
 use Rattle.planner.specs.Calls.{planChecks, planOf, planned}
 use Rattle.planner.specs.Internal.{NarrowsAfter}
-use Rattle.planner.proofs.CallLaws.{call-rows-law}
+use Rattle.planner.proofs.SettledPlans.{plan-law}
 use Rattle.planner.proofs.CallCases.{plan-formed, plan-room, after-checks, settledIn, IsSettled, is-settled, settled-few, settled-day}
 use Rattle.backtracking.specs.Searches.{Search, found, none, spent, trialsOf, searchWithin}
 use Rattle.backtracking.specs.Laws.{withStarts, LeastDay, FoundLaw, UnbrokenLaw}
@@ -44,38 +39,11 @@ use Rattle.unbroken.specs.Calls.{unbrokenOf, wholeStarts, startsFound, f
 use Rattle.unbroken.specs.Calls.{FindsUnbroken}
 use Rattle.unbroken.specs.Internal.{startsSaid, StoresFound}
 use Rattle.unbroken.specs.declared.types.UnbrokenAnswer.{UnbrokenAnswer}
-use Rattle.unbroken.proofs.SaidEndings.{said-found, said-none, said-spent, same-starts, same-least}
+use Rattle.backtracking.proofs.SaidEndings.{said-found, said-none, said-spent, same-starts, same-least}
 
 -- A refusal is none.
 accepted-refused : (G : Type 0) {v : Verdict} (x : Refusal) → v ≡ Refused x → v ≡ Accepted → G
 accepted-refused G x e q = let z : answered tt ≡ refused (codeOf x) = ap verdictOf (sym q ∙ e) in absurd (answered-refused refl z)
-
--- Where the checks are passed, planning is narrowing, and the law of narrowing holds of its outcome.
-module _ (l : DayList) (room : ℕ) (passed : planChecks l room ≡ answered tt) where
-  pub plan-settles : planOf l room ≡ settleOf l
-  plan-settles = call-rows-law l 0 room .plan-then (plan-formed l room passed) (plan-room l room passed)
-
-  plan-narrows : planOf l room ≡ narrowing overloadOf (wholeIn l) (windowsOf l)
-  plan-narrows = rw passed refl
-
-  plan-law : NarrowLaw overloadOf (wholeIn l) (windowsOf l) (planOf l room)
-  plan-law = rw plan-narrows (narrow-law overload-planner (wholeIn l) (windowsOf l) (list-formed l (plan-formed l room passed)))
-
--- the checks refuse, or narrowing does
-pub checks-refuse : (l : DayList) (room : ℕ) (v : Verdict) (x : Refusal) → verdictOf v ≡ planChecks l room → v ≡ Refused x
-    → planOf l room ≡ refused (codeOf x)
-checks-refuse l room v x says e = rw (by-refused says e) refl
-
-module _ (l : DayList) (room : ℕ) (v : Verdict) (says : verdictOf v ≡ planChecks l room) (accepted : v ≡ Accepted) (n : NarrowAnswer)
-    (settles : Settles l n) where
-  pub narrowing-refuses : (x : Refusal) → n .verdict ≡ Refused x → planOf l room ≡ refused (codeOf x)
-  narrowing-refuses x e =
-      plan-settles l room (by-accepted says accepted) ∙ by-verdict (settledIn n) (settles .holds .narrowed) e
-
-  pub narrows-so : NarrowsAfter (planChecks l room) l n
-  narrows-so =
-      let same = plan-settles l room (by-accepted says accepted) in
-      record { answers = rw same (settles .answers); holds = rw same (settles .holds) }
 
 -- Refused: nothing is searched.
 module _ (l : DayList) (limit : ℕ) (old : List ℕ) (v : Verdict) (x : Refusal) (e : v ≡ Refused x)

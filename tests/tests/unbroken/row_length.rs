@@ -11,7 +11,7 @@ use dock_tests::samples::boxes;
 fn stays(given: &[u32], limit: u32, room: usize, numbers: usize) -> Answer {
     let SearchLent { mut plan, mut starts, .. } = SearchLent::untouched(room);
     let answer = rows::stays(numbers, |narrowed| {
-        abi::unbroken_lending(given, limit, &mut plan, narrowed, &mut starts)
+        abi::unbroken_lending(given, limit, (&mut plan, narrowed, &mut starts))
     });
     let before = SearchLent::untouched(room);
     assert!(plan == before.plan && starts == before.starts, "written beside a refusal");

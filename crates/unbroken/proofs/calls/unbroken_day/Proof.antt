@@ -9,7 +9,8 @@ use Rattle.windows.specs.Intervals.{overloadOf}
 use Rattle.backtracking.specs.Searches.{searchWithin}
 use Rattle.backtracking.specs.Calls.{AnswersSearch}
 use Rattle.unbroken.specs.Internal.{startsSaid}
-use Rattle.unbroken.proofs.UnbrokenCases.{checks-refuse, narrowing-refuses, narrows-so, finds-refused, finds-searched}
+use Rattle.planner.proofs.SettledPlans.{checks-refuse, narrowing-refuses, narrows-so}
+use Rattle.unbroken.proofs.UnbrokenCases.{finds-refused, finds-searched}
 use Rattle.unbroken.proofs.calls.unbroken_day.Statement.{statement}
 use Rattle.unbroken.proofs.calls.unbroken_day.Tie as tie
 
