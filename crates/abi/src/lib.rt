@@ -6,6 +6,8 @@
 // row of another length is refused as 100 before all else, those given before the one lent. What a call cannot check are the pointers and
 // that they have the lengths told: `bounds` has 128 numbers, `starts` 64, `values` and `carried` 3, and no two of what is lent overlap.
 // Uses all crates but order, edges, shares and dock.
+#![tactic(auto)]
+
 mod days;
 mod desk;
 mod search;
@@ -29,7 +31,7 @@ use planner::{plan_day, show_early, show_late};
 
 // What a call answers: 0 or a refusal's number, and three values, 0 where there are fewer.
 #[repr(C)]
-#[derive(Drop)]
+#[derive(Clone, Copy)]
 pub struct Answer {
     pub number: u64,
     pub values: [u64; 3],

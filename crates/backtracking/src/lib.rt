@@ -3,6 +3,8 @@
 // equality with the defined search of specs/Searches.antt. specs/Laws.antt says what that search ends with, over all unbroken days; for
 // windows with room that have a plan it is in the contract. `is_found` and `ending_number` read an ending. Uses the crates base and list,
 // of windows the windows and the overload test, of jackson the law of plans, of narrow what settled windows keep.
+#![tactic(auto)]
+
 mod search;
 pub mod types;
 

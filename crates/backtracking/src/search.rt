@@ -15,7 +15,7 @@ use windows::types::WindowSet;
 use windows::unchecked_overload;
 
 // Where the search stands: the windows with the starts fixed so far, the entry that is tried, its next start, and the trials made.
-#[derive(Drop)]
+#[derive(Clone, Copy)]
 pub struct Position {
     pub windows: WindowSet,
     pub place: usize,

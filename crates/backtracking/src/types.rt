@@ -3,7 +3,7 @@ use windows::types::WindowSet;
 
 // How it ended: nothing was searched; a day was found, in windows that have a plan; none exists; or all trials were made and another is
 // needed.
-#[derive(Drop)]
+#[derive(Clone, Copy)]
 pub enum Ending {
     Unsearched,
     DayFound,
@@ -12,7 +12,7 @@ pub enum Ending {
 }
 
 // The ending, the windows with the starts fixed where a day was found and else those given, and the trials made.
-#[derive(Drop)]
+#[derive(Clone, Copy)]
 pub struct SearchAnswer {
     pub ending: Ending,
     pub windows: WindowSet,

@@ -3,6 +3,8 @@
 // its contract states the answer, and what the lent plan buffer holds, by equality with definitions of specs/, for every value. That the
 // bounds are those over all plans is proved for settled windows (proofs/EndBounds.antt, proofs/StartBounds.antt). Uses the crates base,
 // list, windows, jackson, edges and narrow by their stated answers and laws.
+#![tactic(auto)]
+
 mod ends;
 mod shown;
 pub mod types;

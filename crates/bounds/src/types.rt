@@ -2,21 +2,21 @@
 use list::types::{ENTRIES, Verdict};
 
 // Which of a place's two plans is shown.
-#[derive(Drop)]
+#[derive(Clone, Copy)]
 pub enum Shown {
     Early,
     Late,
 }
 
 // Of each place its least end and greatest start. Places from n on, and all of windows without room, are 0.
-#[derive(Drop)]
+#[derive(Clone, Copy)]
 pub struct Bounds {
     pub ends: [u16; ENTRIES],
     pub starts: [u16; ENTRIES],
 }
 
 // What storing a place's shown plan answers: its least end or greatest start beside Accepted, 0 beside a refusal.
-#[derive(Drop)]
+#[derive(Clone, Copy)]
 pub struct BoundAnswer {
     pub verdict: Verdict,
     pub bound: u16,

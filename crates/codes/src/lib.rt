@@ -1,6 +1,8 @@
 // Refusals as numbers, for printing and for callers in other languages.
 // Promises: `numbers_of` gives every refusal its number, that of the documents where they have one, and the values that it carries, by
 // equality with the definition of specs/. Uses the crates base and list.
+#![tactic(auto)]
+
 ghost use Rattle.std.specs.Prelude.{◌≡◌, [], ◌∷◌};
 ghost use Rattle.base.specs.Outcomes.{code};
 ghost use Rattle.list.specs.Refusals.{code_of};
@@ -9,7 +11,7 @@ ghost use Rattle.codes.specs.Codes.{numbers_of};
 use list::types::Refusal;
 
 // A refusal as numbers: its number, and three values: those that it carries, 0 where there are fewer.
-#[derive(Drop)]
+#[derive(Clone, Copy)]
 pub struct RefusalCode {
     pub number: u64,
     pub values: [u64; 3],

@@ -4,6 +4,8 @@
 // the answer, the day and what the lent plan buffer holds by equality with definitions of specs/, for every value, and beside that demands
 // 2 and 3 of the longer list. The statement over every list of asks and commits is `RunLaw` of specs/Runs.antt. Uses the crates list,
 // narrow and planner by their stated answers, and of base, windows and jackson definitions.
+#![tactic(auto)]
+
 mod calls;
 mod lists;
 pub mod types;

@@ -3,28 +3,28 @@ use list::types::{DayList, Verdict};
 use planner::types::PlanAnswer;
 
 // "A day value holds its list and a stamp, the number of successful commits so far (at 65,535, never reached from fresh, it stays)."
-#[derive(Drop)]
+#[derive(Clone, Copy)]
 pub struct StampedDay {
     pub list: DayList,
     pub stamp: u16,
 }
 
 // What making a fresh day, and reading one, answers: the day beside Accepted, and the empty list with stamp 0 beside a refusal.
-#[derive(Drop)]
+#[derive(Clone, Copy)]
 pub struct StampedAnswer {
     pub verdict: Verdict,
     pub day: StampedDay,
 }
 
 // What asking answers: what planning the longer list answers, and the day's stamp.
-#[derive(Drop)]
+#[derive(Clone, Copy)]
 pub struct AskAnswer {
     pub planned: PlanAnswer,
     pub stamp: u16,
 }
 
 // What committing answers: what planning the longer list answers, the day as it then is, and its stamp.
-#[derive(Drop)]
+#[derive(Clone, Copy)]
 pub struct CommitAnswer {
     pub planned: PlanAnswer,
     pub stamp: u16,

@@ -3,6 +3,8 @@
 // stand in it. That the input arrives and the text leaves as they are is the operating system's part.
 // Uses `report` and `refusal_line` of the crate report, `numbers_of` of codes, the types of list, of format how long a list's bytes are,
 // and io and libc to read and write.
+#![tactic(auto)]
+
 ghost use Rattle.std.specs.Prelude.{◌≤◌, length};
 ghost use Rattle.list.specs.Refusals.{code_of};
 ghost use Rattle.report.specs.Reports.{refusal_line};

@@ -4,6 +4,8 @@
 // total: its contract states the answer by equality with definitions of specs/, for every value; what these are over all plans is stated in
 // specs/Laws.antt, for windows with room that have a plan. Uses the crates base, list, order and windows, and of the crate jackson the law
 // that a plan exists exactly without overload.
+#![tactic(auto)]
+
 mod ends;
 mod starts;
 pub mod types;

@@ -15,7 +15,7 @@ use order::largest_first;
 use windows::types::WindowSet;
 
 // A walk over the left ends of a right end so far: the work that entered, and the start.
-#[derive(Drop)]
+#[derive(Clone, Copy)]
 pub(crate) struct StartSoFar {
     pub work: u32,
     pub start: u32,

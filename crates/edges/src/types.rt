@@ -1,7 +1,7 @@
 // What a search answers.
 
 // A minute, or that there is none.
-#[derive(Drop)]
+#[derive(Clone, Copy)]
 pub enum Found {
     Minute(u16),
     NoMinute,

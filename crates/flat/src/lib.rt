@@ -5,6 +5,8 @@
 // `place_numbers` are the minutes of the 64 places, `joined` is least ends and greatest starts one after the other. Each is total: its
 // contract states the answer by equality with definitions of specs/. Uses the types and the empty list of the crate list, the stamped day
 // of commits, three definitions of format, and laws of stores of base.
+#![tactic(auto)]
+
 mod day;
 mod places;
 mod value;

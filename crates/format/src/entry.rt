@@ -10,7 +10,7 @@ use list::entry_fault;
 use list::types::{Entry, Frame, Refusal, Seal, Verdict};
 
 // An entry with the bytes that it took, or why it was turned back.
-#[derive(Drop)]
+#[derive(Clone, Copy)]
 pub enum EntryAnswer {
     Taken(Entry, usize),
     NotTaken(Refusal),

@@ -5,7 +5,7 @@ ghost use Rattle.format.specs.Maps.{kind_of, bit, map_fields, map_answer_of, map
 use list::types::Kind;
 
 // What a map byte says: which of the fields that may be missing follow, and the kind.
-#[derive(Drop)]
+#[derive(Clone, Copy)]
 pub struct Fields {
     pub seal: bool,
     pub r: bool,
@@ -13,7 +13,7 @@ pub struct Fields {
     pub kind: Kind,
 }
 
-#[derive(Drop)]
+#[derive(Clone, Copy)]
 pub enum MapAnswer {
     Breaks,
     Follow(Fields),

@@ -4,6 +4,8 @@
 // day after them; `start_day` starts one from a list, `schedule` fills a plan buffer, `overload` tests a list; `unchecked_schedule` fills a
 // plan buffer for windows. Each is total: its contract states the answer, and what a lent buffer holds, by equality with definitions of
 // specs/, for every value. Uses the crates base, list and windows. proofs/Lib.antt says which laws the crates above may cite.
+#![tactic(auto)]
+
 mod fill;
 mod minute;
 mod overload_test;

@@ -3,7 +3,7 @@ use list::types::Verdict;
 use windows::types::WindowSet;
 
 // A day in planning: its minute t, the entry that had the minute before, 255 for none, and the windows, where p is the minutes left.
-#[derive(Drop)]
+#[derive(Clone, Copy)]
 pub struct Day {
     pub windows: WindowSet,
     pub t: u16,
@@ -11,14 +11,14 @@ pub struct Day {
 }
 
 // What a minute gives: the place that has it, 255 for none, and the advanced day.
-#[derive(Drop)]
+#[derive(Clone, Copy)]
 pub struct Minute {
     pub place: u8,
     pub day: Day,
 }
 
 // What a stretch of minutes gives: the place that has them, 255 for none, how many they are, and the day after them.
-#[derive(Drop)]
+#[derive(Clone, Copy)]
 pub struct Stretch {
     pub place: u8,
     pub minutes: u16,
@@ -26,7 +26,7 @@ pub struct Stretch {
 }
 
 // What starting a day answers: the day beside Accepted, and the empty list's day beside a refusal.
-#[derive(Drop)]
+#[derive(Clone, Copy)]
 pub struct DayAnswer {
     pub verdict: Verdict,
     pub day: Day,

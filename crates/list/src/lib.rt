@@ -4,6 +4,8 @@
 // is what stands beside a refusal, and `read_refused` a refusal with it; `is_accepted` says whether a verdict is no refusal, `is_whole`
 // whether a kind is whole, `whole_places` which entries are, and `places_held` how many of n places the arrays have. Each is total: its
 // contract states the answer by equality with definitions of specs/, for every value. Uses the crate base.
+#![tactic(auto)]
+
 mod blank;
 mod checks;
 mod clashes;

@@ -7,21 +7,21 @@ pub const ENTRIES: usize = 64;
 pub const LONGEST_DAY: u16 = 1440;
 
 // "A seal is either missing or a number, and it travels inside its entry."
-#[derive(Drop)]
+#[derive(Clone, Copy)]
 pub enum Seal {
     Missing,
     Number(u32),
 }
 
 // Document 01's kinds: a pause entry may be interrupted (preempted); a whole entry is unpausable, its work is wanted in one piece.
-#[derive(Drop)]
+#[derive(Clone, Copy)]
 pub enum Kind {
     Pause,
     Whole,
 }
 
 // One box: its serial and seal, its window [r, d) of minutes, and the p minutes of work that it needs.
-#[derive(Drop)]
+#[derive(Clone, Copy)]
 pub struct Entry {
     pub serial: u32,
     pub seal: Seal,
@@ -32,14 +32,14 @@ pub struct Entry {
 }
 
 // What the header says of every entry: the day's length H in minutes, and the minute at which the room opens; 0 is no opening minute.
-#[derive(Drop)]
+#[derive(Clone, Copy)]
 pub struct Frame {
     pub h: u16,
     pub opening: u16,
 }
 
 // A day's list: the first n entries count, known by their place from 0.
-#[derive(Drop)]
+#[derive(Clone, Copy)]
 pub struct DayList {
     pub frame: Frame,
     pub n: u8,
@@ -48,7 +48,7 @@ pub struct DayList {
 
 // The refusals of every call of the planner, a case for each number of "Where a list is turned back" and of document 02's requests, and
 // 100. specs/Refusals.antt has each case's number and the values that it carries.
-#[derive(Drop)]
+#[derive(Clone, Copy)]
 pub enum Refusal {
     // 1: bytes are missing; the input's length.
     BytesMissing(usize),
@@ -94,21 +94,21 @@ pub enum Refusal {
 }
 
 // What a test of a list answers.
-#[derive(Drop)]
+#[derive(Clone, Copy)]
 pub enum Verdict {
     Accepted,
     Refused(Refusal),
 }
 
 // What reading answers: the list beside Accepted, and the empty list of specs/DayLists.antt beside a refusal.
-#[derive(Drop)]
+#[derive(Clone, Copy)]
 pub struct ReadAnswer {
     pub verdict: Verdict,
     pub list: DayList,
 }
 
 // What writing to a lent buffer answers: how many bytes were stored, or why none was.
-#[derive(Drop)]
+#[derive(Clone, Copy)]
 pub enum WriteAnswer {
     Written(usize),
     NotWritten(Refusal),

@@ -5,6 +5,8 @@
 // crates base and list, of the crate windows the windows, their mirror and their test for room, the overload test's promise and the
 // interval that it shows, which lists have the same windows and facts about plans, of the crate jackson the law that a plan exists
 // exactly without overload, and of the crate edges the search for a start and the least ends in closed form, with their laws; no schedule.
+#![tactic(auto)]
+
 mod calls;
 mod rounds;
 pub mod types;

@@ -3,7 +3,7 @@ use list::types::{DayList, Verdict};
 use windows::types::WindowSet;
 
 // The narrowed windows and their moves beside Accepted. `narrow_windows` answers the windows given and 0 beside a refusal.
-#[derive(Drop)]
+#[derive(Clone, Copy)]
 pub struct WindowsAnswer {
     pub verdict: Verdict,
     pub windows: WindowSet,
@@ -11,7 +11,7 @@ pub struct WindowsAnswer {
 }
 
 // The narrowed list and its moves beside Accepted; the empty list and 0 beside a refusal.
-#[derive(Drop)]
+#[derive(Clone, Copy)]
 pub struct NarrowAnswer {
     pub verdict: Verdict,
     pub list: DayList,

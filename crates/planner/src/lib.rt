@@ -5,6 +5,8 @@
 // a refusal, and `plan_checks` the rows above 9, for the crates above. A list becomes windows once and gets its settled windows once, at
 // the end; the value check runs once. Uses the crates base, list, windows, jackson, narrow and bounds by their stated answers and laws, and
 // of format what bytes say, for an example.
+#![tactic(auto)]
+
 mod broken;
 mod calls;
 pub mod types;

@@ -4,7 +4,7 @@ use narrow::types::NarrowAnswer;
 
 // What planning answers: the narrowed list with its moves, the number of whole entries that the plan breaks, and of each place its
 // least end and greatest start. Places from n on, and all beside a refusal, are 0.
-#[derive(Drop)]
+#[derive(Clone, Copy)]
 pub struct PlanAnswer {
     pub narrowed: NarrowAnswer,
     pub broken: u8,
@@ -13,7 +13,7 @@ pub struct PlanAnswer {
 }
 
 // What showing a plan answers: the narrowed list with its moves, and the place's least end or greatest start, 0 beside a refusal.
-#[derive(Drop)]
+#[derive(Clone, Copy)]
 pub struct ShownAnswer {
     pub narrowed: NarrowAnswer,
     pub bound: u16,

@@ -6,6 +6,8 @@
 // The top theorem, demands 2 and 3 of the numbers printed, is `report_law` of proofs/ReportLaws.antt.
 // Uses `read` of the crate format, the types of list, `plan_day` of planner and the type `RefusalCode` of codes; definitions and laws of
 // base, windows, jackson, narrow and bounds.
+#![tactic(auto)]
+
 mod day;
 mod lines;
 mod runs;

@@ -12,7 +12,7 @@ use rooms::types::TurnAnswer;
 
 // What a turn answers: 0 with the room, the number of its refusal and the next number, or the number of the turn's own refusal with its
 // values.
-#[derive(Drop)]
+#[derive(Clone, Copy)]
 pub struct TurnNumbers {
     pub number: u64,
     pub values: [u64; 3],

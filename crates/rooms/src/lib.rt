@@ -4,6 +4,8 @@
 // definitions of specs/, for every value, and beside it the laws of this turn (specs/Laws.antt) and of turns one after the other
 // (specs/Runs.antt). Uses the crates list, format, shares, windows, jackson and narrow by their stated answers, of narrow also what is
 // shown of single rounds, and of base definitions and lemmas.
+#![tactic(auto)]
+
 mod desk;
 mod held;
 mod lent;

@@ -2,7 +2,7 @@
 use list::types::{Refusal, Verdict};
 
 // "its stage (fresh, begun, settled, refused)"
-#[derive(Drop)]
+#[derive(Clone, Copy)]
 pub enum Stage {
     // No round was made.
     Fresh,
@@ -15,7 +15,7 @@ pub enum Stage {
 }
 
 // "one short row for each room: its stage .., rounds and moves"
-#[derive(Drop)]
+#[derive(Clone, Copy)]
 pub struct Room {
     pub stage: Stage,
     pub rounds: u32,
@@ -23,14 +23,14 @@ pub struct Room {
 }
 
 // What one round of a room answers: its row after it, and any refusal.
-#[derive(Drop)]
+#[derive(Clone, Copy)]
 pub struct RoomAnswer {
     pub row: Room,
     pub verdict: Verdict,
 }
 
 // What a turn answers.
-#[derive(Drop)]
+#[derive(Clone, Copy)]
 pub enum TurnAnswer {
     // 19 or 12: nothing is touched.
     NotTurned(Refusal),
@@ -41,7 +41,7 @@ pub enum TurnAnswer {
 }
 
 // What `take_turn` answers: the place of the row to be stored, past the last where none is; that row; and the answer of the turn.
-#[derive(Drop)]
+#[derive(Clone, Copy)]
 pub struct TurnTaken {
     pub at: usize,
     pub row: Room,
@@ -49,7 +49,7 @@ pub struct TurnTaken {
 }
 
 // What a turn over rows held by value answers, for callers that cannot lend a slice of them: the rows after it, and the answer.
-#[derive(Drop)]
+#[derive(Clone, Copy)]
 pub struct HeldAnswer {
     pub rows: [Room; 8],
     pub answer: TurnAnswer,

@@ -3,6 +3,8 @@
 // contract states answer and lent plan buffer by equality with definitions of specs/, for every value, and beside that what they say of
 // all unbroken days of the list (`TellsUnbroken`). Uses the crates base, list, windows, jackson, narrow and planner by their stated
 // answers and laws, and the search of the crate backtracking with its law.
+#![tactic(auto)]
+
 mod calls;
 pub mod types;
 

@@ -5,7 +5,7 @@ use narrow::types::NarrowAnswer;
 
 // The narrowed list with its moves, how the search in its settled windows ended, the trials made, and where a day was found the start of
 // each whole entry. Starts of other places and of other endings are 0; beside a refusal nothing was searched, in 0 trials.
-#[derive(Drop)]
+#[derive(Clone, Copy)]
 pub struct UnbrokenAnswer {
     pub narrowed: NarrowAnswer,
     pub ending: Ending,

@@ -16,7 +16,7 @@ use list::types::{ENTRIES, Refusal, Verdict};
 use order::largest_first;
 
 // Whether an overloaded interval is shown, and then its a, b and work; and the sum as the last walk left it.
-#[derive(Drop)]
+#[derive(Clone, Copy)]
 pub(crate) struct ShownInterval {
     pub overloaded: bool,
     pub a: u16,

@@ -3,6 +3,8 @@
 // `room_fault` tests whether windows have room, `unchecked_overload` whether an interval of them is overloaded; `zeros` is a 0 for each
 // place. Each is total: its contract states the answer by equality with definitions of specs/, for every value. Uses the crates base, list
 // and order. proofs/Lib.antt says which laws the crates above may cite.
+#![tactic(auto)]
+
 mod interval;
 mod mirror;
 mod running_sum;

@@ -10,7 +10,7 @@ use list::types::ENTRIES;
 
 // The left end reached, how many places of the order are passed, the sum kept, the additions made for this b, and those made for the right
 // ends before it.
-#[derive(Drop)]
+#[derive(Clone, Copy)]
 pub(crate) struct RunningSum {
     pub a: u16,
     pub passed: usize,

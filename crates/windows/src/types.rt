@@ -2,7 +2,7 @@
 use list::types::ENTRIES;
 
 // A set of windows, by place: the window [r, d) of each of the first n entries of a day of h minutes, and its p minutes of work.
-#[derive(Drop)]
+#[derive(Clone, Copy)]
 pub struct WindowSet {
     pub h: u16,
     pub n: u8,
