@@ -1,0 +1,22 @@
+-- The right ends are met one after the other. The loop's invariant is what those so far show, the measure how many are left.
+-- Assumes nothing.
+use borrow.Author.Rules.{rules}
+use mathlib.Core.Path.{refl}
+use Prim.Native.Nat.{◌-◌}
+use Rattle.order.specs.Orders.{value_at}
+use Rattle.windows.specs.Windows.{held_in}
+use Rattle.windows.proofs.IntervalCases.{RightSoFar, right_start, right_next, right_done}
+use Rattle.windows.proofs.interval.right_end.Goals as goal
+
+pub loop-i-init : goal.loop-i-init
+loop-i-init c = right_start _ _ c.requires.count_le_most_entries c.requires.latest_release_first _ refl refl
+
+pub smaller_right-shown-requires : goal.smaller_right-shown-requires
+smaller_right-shown-requires c =
+    record { count_le_most_entries = c.loop-i.invariant.few; latest_release_first = c.loop-i.invariant.order; i_lt_count = c.loop-i-test.true; finds_right = c.loop-i.invariant.shown }
+
+pub loop-i-preserved : goal.loop-i-preserved
+loop-i-preserved c = right_next _ _ _ _ c.loop-i.invariant c.loop-i-test.true _ c.smaller_right-shown.ensures
+
+pub returns : goal.returns
+returns c = right_done _ _ _ _ c.loop-i.invariant c.loop-i-test.false

@@ -1,0 +1,18 @@
+-- The interval shown is the definition's.
+-- Assumes nothing.
+use borrow.Author.Rules.{rules}
+use native.Mathlib.Omega.{arith}
+use Rattle.windows.proofs.IntervalCases.{none_overloaded, overload_shown}
+use Rattle.windows.proofs.interval.unchecked_overload.Goals as goal
+
+pub right_end-shown-requires : goal.right_end-shown-requires
+right_end-shown-requires c =
+    record { count_le_most_entries = omega (arith, c.places_held-count.ensures); latest_release_first = rw c.places_held-count.ensures c.largest_first-order.ensures.order }
+
+pub returns-then-shown : goal.returns-then-shown
+returns-then-shown c =
+    overload_shown c.args.windows _ c.places_held-count.ensures _ c.right_end-shown.ensures c.if-shown.true
+
+pub returns : goal.returns
+returns c =
+    none_overloaded c.args.windows _ c.places_held-count.ensures _ c.right_end-shown.ensures c.if-shown.false
