@@ -1,0 +1,38 @@
+-- The places are stored stretch by stretch. The loop's invariant is `Stored`, the measure what is left of h.
+-- Assumes nothing.
+use borrow.Author.Rules.{rules}
+use mathlib.Core.Path.{refl}
+use Prim.Native.Nat.{◌-◌}
+use native.Mathlib.Omega.{arith}
+use Rattle.jackson.specs.Minutes.{state_in}
+use Rattle.jackson.proofs.FillCases.{Stored, store_start, store_next, store_done, store_long, turn_some, turn_fits}
+use Rattle.jackson.proofs.fill.store_places.Goals as goal
+
+pub loop-i-init : goal.loop-i-init
+loop-i-init c = store_start _ _ _ _ c.requires refl
+
+pub store_stretch-requires : goal.store_stretch-requires
+store_stretch-requires c =
+    let fits = turn_fits _ _ _ _ _ _ c.loop-i.invariant c.loop-i-test.true _ c.stretch-stretch.ensures in
+    omega (arith, fits, c.loop-i.invariant.room, store_long _ _ _ _ _ _ c.loop-i.invariant)
+
+pub overflow_add-i : goal.overflow_add-i
+overflow_add-i c =
+    let fits = turn_fits _ _ _ _ _ _ c.loop-i.invariant c.loop-i-test.true _ c.stretch-stretch.ensures in
+    search (rules, fits)
+
+pub loop-i-smaller : goal.loop-i-smaller
+loop-i-smaller c =
+    let some = turn_some _ _ _ _ _ _ c.loop-i.invariant c.loop-i-test.true _ c.stretch-stretch.ensures in
+    let fits = turn_fits _ _ _ _ _ _ c.loop-i.invariant c.loop-i-test.true _ c.stretch-stretch.ensures in
+    search (rules, some, fits)
+
+pub loop-i-preserved : goal.loop-i-preserved
+loop-i-preserved c =
+    store_next _ _ _ _ _ _ c.loop-i.invariant c.loop-i-test.true _ c.stretch-stretch.ensures _ c.store_stretch.ensures
+
+pub shape_of-plan : goal.shape_of-plan
+shape_of-plan c = store_long _ _ _ _ _ _ c.loop-i.invariant
+
+pub returns : goal.returns
+returns c = store_done _ _ _ _ _ _ c.loop-i.invariant c.loop-i-test.false
