@@ -1,0 +1,30 @@
+-- `entry::read_fields` meets its contract: each answer is the case of `fields_entry` that its tests say.
+-- Assumes nothing.
+use borrow.Author.Rules.{rules}
+use mathlib.Core.Path.{sym, ◌∙◌}
+use native.Mathlib.Omega.{arith}
+use Rattle.format.proofs.EntryCases.{fields_short, fields_default, fields_taken, fields_refused}
+use Rattle.format.proofs.entry.read_fields.Goals as goal
+
+pub returns-then-rest-size : goal.returns-then-rest-size
+returns-then-rest-size c =
+    fields_short c.args.frame c.args.at c.args.m c.args.rest.now (omega (arith, c.if-rest-size.true, c.type_size.ensures))
+
+pub returns-then-default_written : goal.returns-then-default_written
+returns-then-default_written c =
+    fields_default c.args.frame c.args.at c.args.m c.args.rest.now _ c.entry_at-e.ensures
+    (omega (arith, c.if-rest-size.false, c.type_size.ensures)) (sym c.default_written.ensures ∙ c.if-default_written.true)
+
+pub returns-in-Accepted : goal.returns-in-Accepted
+returns-in-Accepted c =
+    fields_taken c.args.frame c.args.at c.args.m c.args.rest.now _ c.entry_fault-fault.result c.entry_at-e.ensures
+    (omega (arith, c.if-rest-size.false, c.type_size.ensures))
+    (sym c.default_written.ensures ∙ c.if-default_written.false)
+    c.entry_fault-fault.ensures _ c.type_size.ensures c.in-Accepted.is
+
+pub returns-in-Refused : goal.returns-in-Refused
+returns-in-Refused c =
+    fields_refused c.args.frame c.args.at c.args.m c.args.rest.now _ c.entry_fault-fault.result c.entry_at-e.ensures
+    (omega (arith, c.if-rest-size.false, c.type_size.ensures))
+    (sym c.default_written.ensures ∙ c.if-default_written.false)
+    c.entry_fault-fault.ensures _ c.in-Refused.is

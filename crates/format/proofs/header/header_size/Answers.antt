@@ -1,0 +1,9 @@
+-- `header::header_size` meets its contract.
+-- Assumes nothing.
+use borrow.Author.Rules.{rules}
+use mathlib.Core.Path.{ap, ◌∙◌}
+use Rattle.format.specs.Headers.{header_size}
+use Rattle.format.proofs.header.header_size.Goals as goal
+
+pub returns : goal.returns
+returns c = c.plus_if.ensures ∙ ap header_size c.opens_later.ensures

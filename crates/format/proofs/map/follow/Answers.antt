@@ -1,0 +1,7 @@
+-- `map::follow` meets its contract.
+-- Assumes nothing.
+use borrow.Author.Rules.{rules}
+use Rattle.format.proofs.map.follow.Goals as goal
+
+pub returns : goal.returns
+returns c = rw c.kind_of-kind.ensures

@@ -1,0 +1,42 @@
+-- `reader::read_opening` meets its contract: the rows of the opening minute decide, or what follows them does.
+-- Assumes nothing.
+use borrow.Author.Rules.{rules}
+use mathlib.Core.Path.{◌≡◌, sym, ◌∙◌}
+use Prim.Native.Nat.{◌≤◌}
+use lib.ListN.{length}
+use Rattle.format.specs.Headers.{frame_of, entries_place}
+use Rattle.format.proofs.ReadCases.{reads_refused, opened_short, opened_zero, opened_refused, opened_body}
+use Rattle.format.proofs.ReadCases.{written_place, written_frame, written_zero, written_kept}
+use Rattle.format.proofs.reader.read_opening.Goals as goal
+
+pub returns-then-bytes-lt5 : goal.returns-then-bytes-lt5
+returns-then-bytes-lt5 c =
+    reads_refused _ _ _ c.read_refused.ensures (opened_short c.args.bytes.now (rw (← written_place c.args.bytes.now c.requires.3) c.if-bytes-lt5.true))
+
+pub returns-then-opening-eq0 : goal.returns-then-opening-eq0
+returns-then-opening-eq0 c =
+    let long : entries_place c.args.bytes.now ≤ length c.args.bytes.now = rw (← written_place c.args.bytes.now c.requires.3) c.if-bytes-lt5.false in
+    let zero = written_zero c.args.bytes.now c.requires.3 (sym c.u16_at-opening.ensures ∙ c.if-opening-eq0.true) in
+    reads_refused _ _ _ c.read_refused-then-opening-eq0.ensures (opened_zero c.args.bytes.now long zero)
+
+pub read_body-requires : goal.read_body-requires
+read_body-requires c =
+    let frame-read : record { h = c.args.h; opening = c.u16_at-opening.result } ≡ frame_of c.args.bytes.now = written_frame c.args.bytes.now c.requires.3 _ _ c.requires.1 c.u16_at-opening.ensures in
+    (c.if-bytes-lt5.false, c.requires.0, frame-read, c.requires.2, written_place c.args.bytes.now c.requires.3)
+
+pub returns-in-Accepted : goal.returns-in-Accepted
+returns-in-Accepted c =
+    let frame-read : record { h = c.args.h; opening = c.u16_at-opening.result } ≡ frame_of c.args.bytes.now = written_frame c.args.bytes.now c.requires.3 _ _ c.requires.1 c.u16_at-opening.ensures in
+    let long : entries_place c.args.bytes.now ≤ length c.args.bytes.now = rw (← written_place c.args.bytes.now c.requires.3) c.if-bytes-lt5.false in
+    let kept = written_kept c.args.bytes.now c.requires.3 (λ z. c.if-opening-eq0.false (c.u16_at-opening.ensures ∙ z)) in
+    rw (opened_body c.args.bytes.now long kept _ (frame-read) c.opening_fault-fault.result c.opening_fault-fault.ensures c.in-Accepted.is)
+    c.read_body.ensures
+
+pub returns-in-Refused : goal.returns-in-Refused
+returns-in-Refused c =
+    let frame-read : record { h = c.args.h; opening = c.u16_at-opening.result } ≡ frame_of c.args.bytes.now = written_frame c.args.bytes.now c.requires.3 _ _ c.requires.1 c.u16_at-opening.ensures in
+    let long : entries_place c.args.bytes.now ≤ length c.args.bytes.now = rw (← written_place c.args.bytes.now c.requires.3) c.if-bytes-lt5.false in
+    let kept = written_kept c.args.bytes.now c.requires.3 (λ z. c.if-opening-eq0.false (c.u16_at-opening.ensures ∙ z)) in
+    reads_refused _ _ _ c.read_refused-in-Refused.ensures
+    (opened_refused c.args.bytes.now long kept _ (frame-read) c.opening_fault-fault.result c.opening_fault-fault.ensures _
+    c.in-Refused.is)
