@@ -9,7 +9,7 @@ use native.Mathlib.Omega.{arith}
 use borrow.Author.Tests.{lt-ltb, le-ltb, le-leb, lt-leb, eq-eqb, ne_eqb}
 use lib.Dec.{eqb, leb, ltb}
 use Rattle.base.specs.Counting.{sum, list_of, concat_of}
-use Rattle.base.proofs.Sums.{le_or_lt, eq_or_ne, sum_cong, sum_after}
+use Rattle.base.proofs.Sums.{le_or_lt, eq_or_ne, sum_after}
 use Rattle.base.proofs.Listed.{list_same, list_append}
 
 module _ (c : ℕ) where

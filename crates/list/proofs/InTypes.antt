@@ -1,6 +1,6 @@
 -- What the machine's types say of a list value that is handed over, from what owning it tells.
 -- Assumes nothing.
-use mathlib.Core.List.{List, [], ◌∷◌, map}
+use mathlib.Core.List.{List, [], ◌∷◌}
 use Prim.Native.Nat.{ℕ, zero, suc, ◌^◌, ◌<◌}
 use native.Mathlib.Omega.{arith}
 use lib.ListN.{get_or}
@@ -12,12 +12,12 @@ use Rattle.list.specs.Machine.{SealFits, MinutesFit}
 use Rattle.list.specs.declared.types.Seal.{Seal}
 use Rattle.list.specs.declared.types.Seal.TheVariants.{Missing, Number}
 use Rattle.list.specs.declared.types.Entry.{Entry}
-use Rattle.list.specs.contracts.types.Entry.{the_field}
+use Rattle.list.specs.contracts.types.Entry.{the_row}
 use Rattle.list.specs.contracts.types.Seal.{the_field as seal_field}
 
 -- each entry's values are of their types
 abbrev pub Owned : List Entry → List Val → Type 0
-Owned es us = shadow (each the_field.row.Denot the_field.row.own_val (map the_field.into es) us)
+Owned es us = shadow (each the_row.Denot the_row.own_val es us)
 
 pub each_serial : (es : List Entry) (us : List Val) → Owned es us → (i : ℕ) → (get_or es i blank).serial < 2 ^ 32
 each_serial [] us s i = omega arith

@@ -1,7 +1,7 @@
 -- What private functions promise each other. No public promise cites these.
 use Rattle.std.specs.Prelude.{ℕ, ◌+◌, ◌-◌, ◌≤◌, ◌≡◌, true, cond, List, leb, ltb, get_or}
 use Rattle.base.specs.Counting.{sum}
-use Rattle.windows.specs.Windows.{Windows, columns}
+use Rattle.windows.specs.Windows.{Windows}
 use Rattle.windows.specs.Intervals.{work, left_end}
 use Rattle.windows.specs.RunningSums.{AtLeftEnd, anew, Reaches, additions_for, right_of_first, additions_at, FewAdditions}
 use Rattle.windows.specs.declared.running_sum.RunningSum.{RunningSum}

@@ -8,23 +8,23 @@ use Rattle.format.proofs.entry.read_fields.Goals as goal
 
 pub returns-then-rest-size : goal.returns-then-rest-size
 returns-then-rest-size c =
-    fields_short c.args.frame c.args.at c.args.m c.args.rest.now (omega (arith, c.if-rest-size.true, c.type_size.ensures))
+    fields_short c.args.frame c.args.at c.args.m c.args.rest.now (omega (arith, c.if-rest-size.true, c.size_of-size.ensures))
 
 pub returns-then-default_written : goal.returns-then-default_written
 returns-then-default_written c =
     fields_default c.args.frame c.args.at c.args.m c.args.rest.now _ c.entry_at-e.ensures
-    (omega (arith, c.if-rest-size.false, c.type_size.ensures)) (sym c.default_written.ensures ∙ c.if-default_written.true)
+    (omega (arith, c.if-rest-size.false, c.size_of-size.ensures)) (sym c.default_written.ensures ∙ c.if-default_written.true)
 
 pub returns-in-Accepted : goal.returns-in-Accepted
 returns-in-Accepted c =
     fields_taken c.args.frame c.args.at c.args.m c.args.rest.now _ c.entry_fault-fault.result c.entry_at-e.ensures
-    (omega (arith, c.if-rest-size.false, c.type_size.ensures))
+    (omega (arith, c.if-rest-size.false, c.size_of-size.ensures))
     (sym c.default_written.ensures ∙ c.if-default_written.false)
-    c.entry_fault-fault.ensures _ c.type_size.ensures c.in-Accepted.is
+    c.entry_fault-fault.ensures _ c.size_of-size.ensures c.in-Accepted.is
 
 pub returns-in-Refused : goal.returns-in-Refused
 returns-in-Refused c =
     fields_refused c.args.frame c.args.at c.args.m c.args.rest.now _ c.entry_fault-fault.result c.entry_at-e.ensures
-    (omega (arith, c.if-rest-size.false, c.type_size.ensures))
+    (omega (arith, c.if-rest-size.false, c.size_of-size.ensures))
     (sym c.default_written.ensures ∙ c.if-default_written.false)
     c.entry_fault-fault.ensures _ c.in-Refused.is

@@ -40,19 +40,18 @@ returns-in-31 c =
     λ at. ap (map_answer_of at) c.follow-in-31.ensures ∙ named _ 31 true true true (λ k. refl) (λ k. refl) c.in-31.is at
 
 pub returns-in-0-to-16 : goal.returns-in-0-to-16
-returns-in-0-to-16 c = breaks _ c.ranges.map.fits c.in_default-1.rest
+returns-in-0-to-16 c = breaks _ c.ranges.map.fits c.in-0-to-16.in_default-own.rest
 
 pub returns-in-32-to-48 : goal.returns-in-32-to-48
-returns-in-32-to-48 c = breaks _ c.ranges.map.fits c.in_default-1.rest
+returns-in-32-to-48 c = breaks _ c.ranges.map.fits c.in-32-to-48.in_default-own.rest
 
 pub returns-in-64-to-255 : goal.returns-in-64-to-255
-returns-in-64-to-255 c =
-    breaks _ c.ranges.map.fits c.in_default-1.rest
+returns-in-64-to-255 c = breaks _ c.ranges.map.fits c.in-64-to-255.in_default-own.rest
 
 pub returns-in_default : goal.returns-in_default
 returns-in_default c =
-    breaks _ c.ranges.map.fits c.in_default-1.rest
+    breaks _ c.ranges.map.fits c.in_default.in_default-own.rest
 
 pub returns-in_default-2 : goal.returns-in_default-2
 returns-in_default-2 c =
-    breaks _ c.ranges.map.fits c.in_default-1.rest
+    breaks _ c.ranges.map.fits c.in_default.in_default-own.rest

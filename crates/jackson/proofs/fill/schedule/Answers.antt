@@ -1,6 +1,5 @@
 -- Filling a plan buffer answers the value check, then rows 11 and 9, and stores the schedule only if none holds.
 -- Assumes nothing.
-use borrow.Author.Rules.{rules}
 use Rattle.jackson.proofs.CallCases.{not_filled, day_fillable, fill_too_short, not_planned, fill_planned}
 use Rattle.jackson.proofs.fill.schedule.Goals as goal
 

@@ -1,6 +1,5 @@
 -- Starting a day answers the value check and the day's first state.
 -- Assumes nothing.
-use borrow.Author.Rules.{rules}
 use Rattle.jackson.proofs.CallCases.{not_started, started}
 use Rattle.jackson.proofs.fill.start_day.Goals as goal
 

@@ -2,10 +2,8 @@
 -- Assumes nothing.
 use borrow.Author.Rules.{rules}
 use mathlib.Core.Path.{refl}
-use Prim.Native.Nat.{◌-◌}
 use native.Mathlib.Omega.{arith}
-use Rattle.jackson.specs.Minutes.{state_in}
-use Rattle.jackson.proofs.FillCases.{Stored, store_start, store_next, store_done, store_long, turn_some, turn_fits}
+use Rattle.jackson.proofs.FillCases.{store_start, store_next, store_done, store_long, turn_some, turn_fits}
 use Rattle.jackson.proofs.fill.store_places.Goals as goal
 
 pub loop-i-init : goal.loop-i-init

@@ -1,11 +1,8 @@
 -- The places are stored stretch by stretch. The loop's invariant is `Stored`, the measure what is left of h.
 -- Assumes nothing.
-use borrow.Author.Rules.{rules}
-use mathlib.Core.Path.{refl}
 use Prim.Native.Nat.{◌-◌}
-use native.Mathlib.Omega.{arith}
 use Rattle.jackson.specs.Minutes.{state_in}
-use Rattle.jackson.proofs.FillCases.{Stored, store_start, store_next, store_done, store_long, turn_some, turn_fits}
+use Rattle.jackson.proofs.FillCases.{Stored}
 use Rattle.jackson.proofs.fill.store_places.Given as goal
 
 abbrev pub invariant-loop-i : goal.invariant-loop-i

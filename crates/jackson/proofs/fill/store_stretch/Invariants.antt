@@ -1,8 +1,7 @@
 -- A place is stored minute by minute. The loop's invariant is `StoredFor`, the measure what is left of the minutes.
 -- Assumes nothing.
-use borrow.Author.Rules.{rules}
 use Prim.Native.Nat.{◌-◌}
-use Rattle.jackson.proofs.FillCases.{StoredFor, place_start, place_next, place_done, place_long}
+use Rattle.jackson.proofs.FillCases.{StoredFor}
 use Rattle.jackson.proofs.fill.store_stretch.Given as goal
 
 abbrev pub invariant-loop-i : goal.invariant-loop-i

@@ -1,6 +1,5 @@
 -- Row 11, then the schedule from the day's first state.
 -- Assumes nothing.
-use borrow.Author.Rules.{rules}
 use Rattle.windows.specs.Windows.{windows_in}
 use Rattle.jackson.proofs.CallCases.{start_fillable, fill_no_room, fill_room}
 use Rattle.jackson.proofs.fill.unchecked_schedule.Goals as goal

@@ -1,6 +1,5 @@
 -- One minute is the case of so many minutes.
 -- Assumes nothing.
-use borrow.Author.Rules.{rules}
 use Rattle.jackson.proofs.MinuteCases.{after_one}
 use Rattle.jackson.proofs.minute.advanced.Goals as goal
 

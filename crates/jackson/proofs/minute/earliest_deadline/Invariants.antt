@@ -1,13 +1,10 @@
 -- The scan finds the definition's place. The loop's invariant is the best so far, the measure what is left of the places.
 -- Assumes nothing.
-use borrow.Author.Rules.{rules}
 use Prim.Native.Nat.{◌-◌}
-use native.Mathlib.Omega.{arith}
 use Rattle.windows.specs.Plans.{idle}
-use Rattle.windows.proofs.ScanCases.{Searched, search_start, search_next, search_done, search_found}
+use Rattle.windows.proofs.ScanCases.{Searched}
 use Rattle.jackson.specs.Minutes.{is_ready, comes_before}
 use Rattle.jackson.specs.Internal.{state_at}
-use Rattle.jackson.proofs.Choices.{comes_before_ranks}
 use Rattle.jackson.proofs.minute.earliest_deadline.Given as goal
 
 abbrev pub invariant-loop-i : goal.invariant-loop-i

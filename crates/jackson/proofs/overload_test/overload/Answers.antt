@@ -1,6 +1,5 @@
 -- The overload test answers the value check, then row 9.
 -- Assumes nothing.
-use borrow.Author.Rules.{rules}
 use Rattle.jackson.proofs.CallCases.{not_tested, tested}
 use Rattle.jackson.proofs.overload_test.overload.Goals as goal
 

@@ -1,9 +1,6 @@
 -- The loop finds the definition's next r. Its invariant is the first so far, the measure what is left of the places.
 -- Assumes nothing.
-use borrow.Author.Rules.{rules}
-use Prim.Native.Nat.{ℕ, ◌-◌}
-use lib.ListN.{get_or}
-use Rattle.jackson.proofs.StretchCases.{Released, release_start, release_next, release_done}
+use Rattle.jackson.proofs.StretchCases.{release_start, release_next, release_done}
 use Rattle.jackson.proofs.stretch.next_release.Goals as goal
 
 pub loop-i-init : goal.loop-i-init

@@ -1,6 +1,5 @@
 -- The end of a stretch is the definition's, whether a place has the minutes or none.
 -- Assumes nothing.
-use borrow.Author.Rules.{rules}
 use Rattle.jackson.proofs.StretchCases.{idle_end, place_end}
 use Rattle.jackson.proofs.stretch.stretch_end.Goals as goal
 

@@ -1,6 +1,5 @@
 -- Whether one is shown, and its end.
 -- Assumes nothing.
-use borrow.Author.Rules.{rules}
 use mathlib.Core.Path.{refl}
 use Rattle.windows.proofs.interval.ends_by.Goals as goal
 

@@ -1,6 +1,5 @@
 -- The test of an interval by its work.
 -- Assumes nothing.
-use borrow.Author.Rules.{rules}
 use borrow.Author.Tests.{le-ltb, lt-ltb}
 use mathlib.Core.Path.{refl}
 use Rattle.windows.proofs.interval.is_overloaded.Goals as goal

@@ -1,11 +1,7 @@
 -- The walk finds the definition's left end. The loop's invariant is that none was overloaded so far, the measure what is left of the order.
 -- Assumes nothing.
-use borrow.Author.Rules.{rules}
-use Prim.Native.Nat.{◌-◌}
-use Rattle.order.specs.Orders.{value_at}
-use Rattle.windows.specs.Windows.{held_in}
 use Rattle.windows.proofs.RunningSums.{additions_few}
-use Rattle.windows.proofs.LeftEndCases.{NoneSoFar, left_start, left_next, left_shown, left_none}
+use Rattle.windows.proofs.LeftEndCases.{left_start, left_next, left_shown, left_none}
 use Rattle.windows.proofs.interval.left_end.Goals as goal
 
 pub loop-sum-init : goal.loop-sum-init

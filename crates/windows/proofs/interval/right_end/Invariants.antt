@@ -1,11 +1,9 @@
 -- The right ends are met one after the other. The loop's invariant is what those so far show, the measure how many are left.
 -- Assumes nothing.
-use borrow.Author.Rules.{rules}
-use mathlib.Core.Path.{refl}
 use Prim.Native.Nat.{◌-◌}
 use Rattle.order.specs.Orders.{value_at}
 use Rattle.windows.specs.Windows.{held_in}
-use Rattle.windows.proofs.IntervalCases.{RightSoFar, right_start, right_next, right_done}
+use Rattle.windows.proofs.IntervalCases.{RightSoFar}
 use Rattle.windows.proofs.interval.right_end.Given as goal
 
 abbrev pub invariant-loop-i : goal.invariant-loop-i

@@ -1,6 +1,5 @@
 -- What the right ends show with one more of them, in each case.
 -- Assumes nothing.
-use borrow.Author.Rules.{rules}
 use native.Mathlib.Omega.{arith}
 use Rattle.windows.proofs.IntervalCases.{additions_most, right_stays, right_shown, right_none}
 use Rattle.windows.proofs.interval.smaller_right.Goals as goal

@@ -1,6 +1,5 @@
 -- The interval shown is the definition's.
 -- Assumes nothing.
-use borrow.Author.Rules.{rules}
 use native.Mathlib.Omega.{arith}
 use Rattle.windows.proofs.IntervalCases.{none_overloaded, overload_shown}
 use Rattle.windows.proofs.interval.unchecked_overload.Goals as goal

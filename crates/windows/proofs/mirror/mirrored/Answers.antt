@@ -1,6 +1,5 @@
 -- Both sides are mirrored.
 -- Assumes nothing.
-use borrow.Author.Rules.{rules}
 use Rattle.windows.proofs.MirrorCases.{mirror_held}
 use Rattle.windows.proofs.mirror.mirrored.Goals as goal
 

@@ -1,8 +1,7 @@
 -- A side is mirrored entry by entry. The loop's invariant is `MirroredSoFar`, the measure what is left of the entries.
 -- Assumes nothing.
 use borrow.Author.Rules.{rules}
-use Prim.Native.Nat.{◌-◌}
-use Rattle.windows.proofs.MirrorCases.{MirroredSoFar, side_start, side_next, side_done}
+use Rattle.windows.proofs.MirrorCases.{side_start, side_next, side_done}
 use Rattle.windows.proofs.mirror.mirrored_side.Goals as goal
 
 pub loop-i-init : goal.loop-i-init

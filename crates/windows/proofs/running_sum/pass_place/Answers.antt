@@ -1,6 +1,5 @@
 -- A place is passed: its box enters, or ends after b.
 -- Assumes nothing.
-use borrow.Author.Rules.{rules}
 use native.Mathlib.Omega.{arith}
 use Rattle.windows.proofs.LeftEndCases.{passes_out, passes_in}
 use Rattle.windows.proofs.running_sum.pass_place.Goals as goal

@@ -1,6 +1,5 @@
 -- The sum started anew is the definition's.
 -- Assumes nothing.
-use borrow.Author.Rules.{rules}
 use mathlib.Core.Path.{refl}
 use Rattle.windows.proofs.running_sum.start_anew.Goals as goal
 

@@ -2,11 +2,8 @@
 -- measure is what is left of the order.
 -- Assumes nothing.
 use borrow.Author.Rules.{rules}
-use Prim.Native.Nat.{◌-◌}
 use Rattle.base.proofs.Permutations.{once_in}
-use Rattle.order.specs.Orders.{value_at}
-use Rattle.windows.specs.Windows.{held_in}
-use Rattle.windows.proofs.RunningSums.{Walking, walking_start, walking_next, walked_below, walked_all}
+use Rattle.windows.proofs.RunningSums.{walking_start, walking_next, walked_below, walked_all}
 use Rattle.windows.proofs.running_sum.walk_down.Goals as goal
 
 pub offset_bounds-r-place : goal.offset_bounds-r-place

@@ -1,12 +1,10 @@
 -- All places with the next r are passed. The loop's invariant is what was added since, over places whose r is at least this one; the
 -- measure is what is left of the order.
 -- Assumes nothing.
-use borrow.Author.Rules.{rules}
 use Prim.Native.Nat.{◌-◌}
-use Rattle.base.proofs.Permutations.{once_in}
 use Rattle.order.specs.Orders.{value_at}
 use Rattle.windows.specs.Windows.{held_in}
-use Rattle.windows.proofs.RunningSums.{Walking, walking_start, walking_next, walked_below, walked_all}
+use Rattle.windows.proofs.RunningSums.{Walking}
 use Rattle.windows.proofs.running_sum.walk_down.Given as goal
 
 abbrev pub invariant-loop-sum : goal.invariant-loop-sum

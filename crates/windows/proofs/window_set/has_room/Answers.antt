@@ -1,6 +1,5 @@
 -- Each way out has its case of `has_room`.
 -- Assumes nothing.
-use borrow.Author.Rules.{rules}
 use mathlib.Core.Path.{sym}
 use native.Mathlib.Omega.{arith}
 use Rattle.windows.proofs.Room.{room_no_minutes, room_past_day, room_sum}

@@ -1,6 +1,5 @@
 -- The windows of the empty list are all 0.
 -- Assumes nothing.
-use borrow.Author.Rules.{rules}
 use Rattle.windows.proofs.WindowSetCases.{copy_none}
 use Rattle.windows.proofs.window_set.no_windows.Goals as goal
 

@@ -1,11 +1,8 @@
 -- The loop's invariant is `Roomed`, the measure what is left of the places.
 -- Assumes nothing.
-use borrow.Author.Rules.{rules}
-use borrow.Author.Tests.{not-true, not-false}
-use Prim.Native.Nat.{◌-◌}
 use native.Mathlib.Omega.{arith}
 use Rattle.windows.specs.Windows.{windows_in}
-use Rattle.windows.proofs.RoomCases.{Roomed, room_start, room_minutes, room_next, room_stops, room_done}
+use Rattle.windows.proofs.RoomCases.{room_start, room_minutes, room_next, room_stops, room_done}
 use Rattle.windows.proofs.window_set.room_fault.Goals as goal
 
 pub loop-i-init : goal.loop-i-init

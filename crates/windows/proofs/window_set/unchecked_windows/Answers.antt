@@ -2,11 +2,10 @@
 -- Assumes nothing.
 use borrow.Author.Rules.{rules}
 use mathlib.Core.Path.{◌≡◌}
-use Prim.Native.Nat.{◌-◌}
 use native.Mathlib.Omega.{arith}
 use lib.ListN.{length}
 use Rattle.base.proofs.Walk.{length_mapped}
-use Rattle.windows.proofs.WindowSetCases.{Copied, copy_start, copy_next, copy_done}
+use Rattle.windows.proofs.WindowSetCases.{copy_start, copy_next, copy_done}
 use Rattle.windows.proofs.window_set.unchecked_windows.Goals as goal
 
 pub loop-i-init : goal.loop-i-init

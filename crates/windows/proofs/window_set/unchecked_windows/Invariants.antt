@@ -1,12 +1,7 @@
 -- The arrays hold the list's windows. The loop's invariant is `Copied`, the measure what is left of the places.
 -- Assumes nothing.
-use borrow.Author.Rules.{rules}
-use mathlib.Core.Path.{◌≡◌}
 use Prim.Native.Nat.{◌-◌}
-use native.Mathlib.Omega.{arith}
-use lib.ListN.{length}
-use Rattle.base.proofs.Walk.{length_mapped}
-use Rattle.windows.proofs.WindowSetCases.{Copied, copy_start, copy_next, copy_done}
+use Rattle.windows.proofs.WindowSetCases.{Copied}
 use Rattle.windows.proofs.window_set.unchecked_windows.Given as goal
 
 abbrev pub invariant-loop-i : goal.invariant-loop-i

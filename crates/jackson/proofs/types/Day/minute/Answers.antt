@@ -1,6 +1,5 @@
 -- A minute gives the definition's place and the definition's next state.
 -- Assumes nothing.
-use borrow.Author.Rules.{rules}
 use Rattle.jackson.proofs.CallCases.{advances_over, advances_on}
 use Rattle.jackson.proofs.types.Day.minute.Goals as goal
 
