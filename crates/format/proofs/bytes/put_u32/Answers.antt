@@ -1,6 +1,5 @@
 -- `bytes::put_u32` meets its contract: the two halves one after the other.
 -- Assumes nothing.
-use borrow.Author.Rules.{rules}
 use Rattle.base.proofs.Stores.{wrote_then}
 use Rattle.format.proofs.bytes.put_u32.Goals as goal
 

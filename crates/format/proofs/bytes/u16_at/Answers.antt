@@ -1,6 +1,5 @@
 -- `bytes::u16_at` meets its contract: each element of a byte slice is below 256.
 -- Assumes nothing.
-use borrow.Author.Rules.{rules}
 use Prim.Native.Nat.{◌+◌}
 use native.Mathlib.Omega.{arith}
 use Rattle.format.proofs.bytes.u16_at.Goals as goal

@@ -1,6 +1,5 @@
 -- `entry::at_default` meets its contract.
 -- Assumes nothing.
-use borrow.Author.Rules.{rules}
 use Rattle.format.proofs.entry.at_default.Goals as goal
 
 -- `entry::at_default` meets its contract.

@@ -1,6 +1,5 @@
 -- `entry::default_written` meets its contract.
 -- Assumes nothing.
-use borrow.Author.Rules.{rules}
 use Rattle.format.proofs.EntryCases.{default_r_written, default_d_decides}
 use Rattle.format.proofs.entry.default_written.Goals as goal
 

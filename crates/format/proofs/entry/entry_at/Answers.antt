@@ -1,6 +1,5 @@
 -- `entry::entry_at` meets its contract, field by field.
 -- Assumes nothing.
-use borrow.Author.Rules.{rules}
 use Rattle.format.proofs.EntryCases.{entry_is}
 use Rattle.format.proofs.entry.entry_at.Goals as goal
 

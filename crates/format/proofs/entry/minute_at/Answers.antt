@@ -1,6 +1,5 @@
 -- `entry::minute_at` meets its contract.
 -- Assumes nothing.
-use borrow.Author.Rules.{rules}
 use native.Mathlib.Omega.{arith}
 use Rattle.format.proofs.entry.minute_at.Goals as goal
 

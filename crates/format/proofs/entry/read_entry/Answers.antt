@@ -1,6 +1,5 @@
 -- `entry::read_entry` meets its contract: each answer is the case of `entry_of` that its tests say.
 -- Assumes nothing.
-use borrow.Author.Rules.{rules}
 use mathlib.Core.Path.{◌∙◌}
 use Rattle.format.proofs.EntryCases.{entry_none, entry_broken, entry_legal}
 use Rattle.format.proofs.entry.read_entry.Goals as goal

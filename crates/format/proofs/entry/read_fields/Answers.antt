@@ -1,6 +1,5 @@
 -- `entry::read_fields` meets its contract: each answer is the case of `fields_entry` that its tests say.
 -- Assumes nothing.
-use borrow.Author.Rules.{rules}
 use mathlib.Core.Path.{sym, ◌∙◌}
 use native.Mathlib.Omega.{arith}
 use Rattle.format.proofs.EntryCases.{fields_short, fields_default, fields_taken, fields_refused}

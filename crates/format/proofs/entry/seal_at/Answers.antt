@@ -1,6 +1,5 @@
 -- `entry::seal_at` meets its contract.
 -- Assumes nothing.
-use borrow.Author.Rules.{rules}
 use native.Mathlib.Omega.{arith}
 use Rattle.format.proofs.EntryCases.{seal_follows}
 use Rattle.format.proofs.entry.seal_at.Goals as goal

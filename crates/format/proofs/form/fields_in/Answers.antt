@@ -1,6 +1,5 @@
 -- `form::fields_in` meets its contract, field by field.
 -- Assumes nothing.
-use borrow.Author.Rules.{rules}
 use Rattle.format.proofs.form.fields_in.Goals as goal
 
 pub returns : goal.returns

@@ -1,6 +1,5 @@
 -- `form::put_entry` meets its contract: the map byte, the serial, the seal and the times one after the other.
 -- Assumes nothing.
-use borrow.Author.Rules.{rules}
 use native.Mathlib.Omega.{arith}
 use Prim.Native.Nat.{◌+◌, ◌≤◌}
 use lib.ListN.{length, set}

@@ -1,6 +1,5 @@
 -- `form::put_minute` meets its contract.
 -- Assumes nothing.
-use borrow.Author.Rules.{rules}
 use native.Mathlib.Omega.{arith}
 use Rattle.base.proofs.Stores.{wrote_nothing}
 use Rattle.format.proofs.form.put_minute.Goals as goal

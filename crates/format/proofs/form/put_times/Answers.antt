@@ -1,6 +1,5 @@
 -- `form::put_times` meets its contract: r, d and p one after the other.
 -- Assumes nothing.
-use borrow.Author.Rules.{rules}
 use mathlib.Core.List.{◌++◌}
 use Rattle.format.specs.LittleEndian.{u16_bytes}
 use Rattle.format.specs.Forms.{minute_bytes}

@@ -1,6 +1,5 @@
 -- `header::count_byte` meets its contract.
 -- Assumes nothing.
-use borrow.Author.Rules.{rules}
 use mathlib.Core.Path.{sym}
 use native.Mathlib.Nat.{add-zero}
 use Rattle.format.proofs.header.count_byte.Goals as goal

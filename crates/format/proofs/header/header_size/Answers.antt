@@ -1,6 +1,5 @@
 -- `header::header_size` meets its contract.
 -- Assumes nothing.
-use borrow.Author.Rules.{rules}
 use mathlib.Core.Path.{ap, ◌∙◌}
 use Rattle.format.specs.Headers.{header_size}
 use Rattle.format.proofs.header.header_size.Goals as goal

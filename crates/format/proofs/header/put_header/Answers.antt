@@ -1,6 +1,5 @@
 -- `header::put_header` meets its contract: H, the count byte and the opening minute one after the other.
 -- Assumes nothing.
-use borrow.Author.Rules.{rules}
 use native.Mathlib.Omega.{arith}
 use Rattle.base.specs.Storing.{Wrote}
 use Rattle.base.proofs.Stores.{wrote_length}

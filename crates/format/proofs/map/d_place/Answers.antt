@@ -1,6 +1,5 @@
 -- `map::d_place` meets its contract.
 -- Assumes nothing.
-use borrow.Author.Rules.{rules}
 use native.Mathlib.Omega.{arith}
 use Rattle.format.proofs.Places.{r_place_small}
 use Rattle.format.proofs.map.d_place.Goals as goal

@@ -1,6 +1,5 @@
 -- `map::follow` meets its contract.
 -- Assumes nothing.
-use borrow.Author.Rules.{rules}
 use Rattle.format.proofs.map.follow.Goals as goal
 
 pub returns : goal.returns

@@ -1,6 +1,5 @@
 -- `map::map_answer` meets its contract: a byte that an arm names by its number is computed, and no other is legal.
 -- Assumes nothing.
-use borrow.Author.Rules.{rules}
 use mathlib.Core.Path.{refl, ap, ◌∙◌}
 use mathlib.Core.Bool.{true, false}
 use Rattle.format.specs.Maps.{map_answer_of}

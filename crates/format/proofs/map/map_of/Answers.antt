@@ -1,6 +1,5 @@
 -- `map::map_of` meets its contract: the bits never add up past a byte.
 -- Assumes nothing.
-use borrow.Author.Rules.{rules}
 use native.Mathlib.Omega.{arith}
 use mathlib.Core.Path.{sym}
 use Prim.Native.Nat.{◌≤◌}

@@ -1,6 +1,5 @@
 -- `map::p_place` meets its contract.
 -- Assumes nothing.
-use borrow.Author.Rules.{rules}
 use native.Mathlib.Omega.{arith}
 use Rattle.format.proofs.Places.{d_place_small}
 use Rattle.format.proofs.map.p_place.Goals as goal

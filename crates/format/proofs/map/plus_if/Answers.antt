@@ -1,6 +1,5 @@
 -- `map::plus_if` meets its contract.
 -- Assumes nothing.
-use borrow.Author.Rules.{rules}
 use mathlib.Core.Path.{sym}
 use native.Mathlib.Nat.{add-zero}
 use Rattle.format.proofs.map.plus_if.Goals as goal

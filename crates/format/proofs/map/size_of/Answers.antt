@@ -1,6 +1,5 @@
 -- `map::size_of` meets its contract.
 -- Assumes nothing.
-use borrow.Author.Rules.{rules}
 use native.Mathlib.Omega.{arith}
 use Rattle.format.proofs.Places.{p_place_small}
 use Rattle.format.proofs.map.size_of.Goals as goal

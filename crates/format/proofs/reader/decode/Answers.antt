@@ -1,6 +1,5 @@
 -- `reader::decode` meets its contract: the header decides, or what follows it does.
 -- Assumes nothing.
-use borrow.Author.Rules.{rules}
 use mathlib.Core.Path.{◌≡◌, refl, ap, ◌∙◌}
 use Prim.Native.Nat.{ℕ}
 use Rattle.list.specs.Refusals.{verdict_of}

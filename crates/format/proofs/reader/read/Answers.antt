@@ -1,6 +1,5 @@
 -- `reader::read` meets its contract: rows 1 to 8, 15 and 16 decide, or the first entry that clashes with an earlier one.
 -- Assumes nothing.
-use borrow.Author.Rules.{rules}
 use native.Mathlib.Omega.{arith}
 use Rattle.list.specs.Machine.{Bytes}
 use Rattle.format.proofs.CallCases.{reads_decoded, reads_clash, reads_apart}

@@ -1,13 +1,8 @@
 -- `reader::read_body` meets its contract. The loop's invariant is `SoFar`: the entries read stand in front of those that are still
 -- to come, and the places after them are blank. The measure is what is left of n.
 -- Assumes nothing.
-use borrow.Author.Rules.{rules}
-use mathlib.Core.Path.{sym, ap, ◌∙◌}
-use native.Mathlib.Omega.{arith}
 use Prim.Native.Nat.{◌-◌}
-use Rattle.base.specs.Outcomes.{answered}
-use Rattle.format.proofs.ReadCases.{SoFar, start, entry_refused, next, done, list_read, size_here, body_refused, body_left}
-use Rattle.format.proofs.ReadCases.{body_done, reads_refused, reads_list}
+use Rattle.format.proofs.ReadCases.{SoFar}
 use Rattle.format.proofs.reader.read_body.Given as goal
 
 abbrev pub invariant-loop-i : goal.invariant-loop-i

@@ -1,6 +1,5 @@
 -- `reader::read_opened` meets its contract: with an opening minute its rows decide, without one the entries do.
 -- Assumes nothing.
-use borrow.Author.Rules.{rules}
 use mathlib.Core.Path.{sym, ◌∙◌}
 use Rattle.format.proofs.ReadCases.{unwritten_place, unwritten_frame, opened_unwritten}
 use Rattle.format.proofs.reader.read_opened.Goals as goal

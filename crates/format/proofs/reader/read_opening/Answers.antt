@@ -1,6 +1,5 @@
 -- `reader::read_opening` meets its contract: the rows of the opening minute decide, or what follows them does.
 -- Assumes nothing.
-use borrow.Author.Rules.{rules}
 use mathlib.Core.Path.{◌≡◌, sym, ◌∙◌}
 use Prim.Native.Nat.{◌≤◌}
 use lib.ListN.{length}

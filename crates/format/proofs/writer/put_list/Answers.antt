@@ -3,12 +3,12 @@
 -- Assumes nothing.
 use borrow.Author.Rules.{rules}
 use mathlib.Core.Path.{◌≡◌, ◌∙◌}
-use Prim.Native.Nat.{◌≤◌, ◌-◌}
+use Prim.Native.Nat.{◌≤◌}
 use native.Mathlib.Omega.{arith}
 use lib.ListN.{length}
 use Rattle.base.proofs.Walk.{length_mapped}
 use Rattle.base.proofs.Stores.{wrote_length}
-use Rattle.format.proofs.WriteCases.{StoredSoFar, header_room, list_stored, stored_start, stored_room, stored_next, stored_done}
+use Rattle.format.proofs.WriteCases.{header_room, list_stored, stored_start, stored_room, stored_next, stored_done}
 use Rattle.format.proofs.writer.put_list.Goals as goal
 
 pub put_header-at-requires : goal.put_header-at-requires
