@@ -1,0 +1,19 @@
+-- The bytes up to there, read again.
+-- Assumes nothing.
+use mathlib.Core.Path.{sym}
+use lib.Seq.{length-take-le}
+use borrow.Author.Rules.{rules}
+use Rattle.list.specs.Machine.{Bytes}
+use Rattle.shares.proofs.FrontCases.{reader_end, front_read}
+use Rattle.shares.proofs.front.read_front.Goals as goal
+
+pub slice_bounds-read-end : goal.slice_bounds-read-end
+slice_bounds-read-end c =
+    let bytes : Bytes c.args.share.now = λ i. (c.shared_slice_known-1.given i).fits in
+    sym (length-take-le c.read_end-end.result c.args.share.now (reader_end c.args.share.now c.read-whole.result c.read_end-end.result bytes c.read-whole.ensures c.read_end-end.ensures).inside)
+
+pub returns : goal.returns
+returns c =
+    let bytes : Bytes c.args.share.now = λ i. (c.shared_slice_known-1.given i).fits in
+    let ends = reader_end c.args.share.now c.read-whole.result c.read_end-end.result bytes c.read-whole.ensures c.read_end-end.ensures in
+    front_read c.args.share.now c.read_end-end.result c.read.result bytes ends c.read.ensures
