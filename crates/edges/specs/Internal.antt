@@ -3,7 +3,7 @@ use Rattle.std.specs.Prelude.{ℕ, suc, ◌+◌, ◌-◌, ◌*◌, ◌<◌, ◌�
 use Rattle.base.specs.Counting.{sum}
 use Rattle.list.specs.DayLists.{most_entries}
 use Rattle.order.specs.Orders.{value_at}
-use Rattle.windows.specs.Windows.{Windows, columns}
+use Rattle.windows.specs.Windows.{Windows}
 use Rattle.windows.specs.RunningSums.{entered}
 use Rattle.edges.specs.Starts.{jumped}
 use Rattle.edges.specs.Ends.{largest}

@@ -1,6 +1,5 @@
 -- The ends by position, in the one order of the places, each stored at its place.
 -- Assumes nothing.
-use borrow.Author.Rules.{rules}
 use native.Mathlib.Omega.{arith}
 use Rattle.edges.proofs.EndLaws.{end_law}
 use Rattle.edges.proofs.EndCases.{held_once, ends_held}

@@ -1,12 +1,7 @@
 -- The loop's invariant is the ends that the right ends of the first j places ask, the measure how many are left.
 -- Assumes nothing.
-use borrow.Author.Rules.{rules}
 use mathlib.Core.Path.{◌≡◌}
 use native.Mathlib.Omega.{arith}
-use Prim.Native.Nat.{◌-◌, ◌≤◌}
-use Rattle.order.specs.Orders.{value_at}
-use Rattle.windows.specs.Windows.{held_in}
-use Rattle.edges.specs.Internal.{EndsBy}
 use Rattle.edges.proofs.EndCases.{ends_first, ends_next}
 use Rattle.edges.proofs.ends.ends_by_position.Goals as goal
 

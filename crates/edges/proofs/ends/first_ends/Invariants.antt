@@ -1,13 +1,8 @@
 -- The loop's invariant is r + p of the first x positions, the measure how many are left.
 -- Assumes nothing.
-use borrow.Author.Rules.{rules}
-use native.Mathlib.Omega.{arith}
 use Prim.Native.Nat.{◌-◌, ◌≤◌}
-use mathlib.Core.Path.{◌≡◌}
-use Rattle.base.proofs.Permutations.{once_in}
 use Rattle.order.specs.Orders.{value_at}
 use Rattle.edges.specs.Internal.{FirstEnds}
-use Rattle.edges.proofs.EndCases.{first_none, first_next}
 use Rattle.edges.proofs.ends.first_ends.Given as goal
 
 abbrev pub invariant-loop-x : goal.invariant-loop-x

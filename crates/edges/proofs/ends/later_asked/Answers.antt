@@ -1,6 +1,5 @@
 -- Each case of what the right end asks.
 -- Assumes nothing.
-use borrow.Author.Rules.{rules}
 use Rattle.edges.proofs.EndCases.{raised_due, raised_early, raised_less, raised_more}
 use Rattle.edges.proofs.ends.later_asked.Goals as goal
 

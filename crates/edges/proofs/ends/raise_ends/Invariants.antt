@@ -1,9 +1,8 @@
 -- The loop's invariant is `Raising`, the measure how many positions are left.
 -- Assumes nothing.
-use borrow.Author.Rules.{rules}
 use Rattle.order.specs.Orders.{value_at}
 use Rattle.windows.specs.Windows.{held_in}
-use Rattle.edges.proofs.EndCases.{Raising, raising_start, raising_place, raising_less, raising_next, raising_done}
+use Rattle.edges.proofs.EndCases.{Raising}
 use Rattle.edges.proofs.ends.raise_ends.Given as goal
 
 abbrev pub invariant-loop-x : goal.invariant-loop-x

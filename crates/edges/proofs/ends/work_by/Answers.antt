@@ -2,9 +2,7 @@
 -- Assumes nothing.
 use borrow.Author.Rules.{rules}
 use native.Mathlib.Omega.{arith}
-use Prim.Native.Nat.{◌-◌, ◌≤◌}
 use mathlib.Core.Path.{◌≡◌}
-use Rattle.edges.specs.Internal.{DueBy}
 use Rattle.edges.proofs.EndCases.{due_start, due_next}
 use Rattle.edges.proofs.ends.work_by.Goals as goal
 

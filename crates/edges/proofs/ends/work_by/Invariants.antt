@@ -1,11 +1,7 @@
 -- The loop's invariant is the sum of the first i entries, the measure how many are left.
 -- Assumes nothing.
-use borrow.Author.Rules.{rules}
-use native.Mathlib.Omega.{arith}
 use Prim.Native.Nat.{◌-◌, ◌≤◌}
-use mathlib.Core.Path.{◌≡◌}
 use Rattle.edges.specs.Internal.{DueBy}
-use Rattle.edges.proofs.EndCases.{due_start, due_next}
 use Rattle.edges.proofs.ends.work_by.Given as goal
 
 abbrev pub invariant-loop-i : goal.invariant-loop-i

@@ -1,6 +1,5 @@
 -- The number in 32 bits is the number.
 -- Assumes nothing.
-use borrow.Author.Rules.{rules}
 use mathlib.Core.Path.{refl}
 use Rattle.edges.proofs.starts.is_at.Goals as goal
 

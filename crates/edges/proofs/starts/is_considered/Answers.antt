@@ -1,6 +1,5 @@
 -- The test is that of `considers`.
 -- Assumes nothing.
-use borrow.Author.Rules.{rules}
 use mathlib.Core.Path.{refl}
 use Rattle.edges.proofs.starts.is_considered.Goals as goal
 

@@ -1,6 +1,5 @@
 -- The two tests of `jumped`, one after the other.
 -- Assumes nothing.
-use borrow.Author.Rules.{rules}
 use native.Mathlib.Omega.{arith}
 use Rattle.edges.proofs.Jumps.{jump_behind, jump_fits, jump_goes}
 use Rattle.edges.proofs.starts.jump.Goals as goal

@@ -2,13 +2,9 @@
 -- Assumes nothing.
 use borrow.Author.Rules.{rules}
 use mathlib.Core.Path.{◌≡◌}
-use Prim.Native.Nat.{suc, ◌-◌}
 use native.Mathlib.Omega.{arith}
 use lib.ListN.{length}
-use Rattle.order.specs.Orders.{value_at}
-use Rattle.windows.specs.Windows.{held_in}
-use Rattle.edges.specs.Starts.{start_from}
-use Rattle.edges.proofs.StartCases.{passes, Searching, searching_first, search_none, search_room}
+use Rattle.edges.proofs.StartCases.{searching_first, search_none, search_room}
 use Rattle.edges.proofs.StartCases.{search_found, search_less, search_next, none_found, start_found, lists_places}
 use Rattle.edges.proofs.starts.least_start.Goals as goal
 

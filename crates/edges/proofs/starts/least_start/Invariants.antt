@@ -1,15 +1,10 @@
 -- The loop's invariant is that the search from s on finds what it finds from the entry's r on; the measure is what is left of the window.
 -- Assumes nothing.
-use borrow.Author.Rules.{rules}
-use mathlib.Core.Path.{◌≡◌}
 use Prim.Native.Nat.{suc, ◌-◌}
-use native.Mathlib.Omega.{arith}
-use lib.ListN.{length}
 use Rattle.order.specs.Orders.{value_at}
 use Rattle.windows.specs.Windows.{held_in}
 use Rattle.edges.specs.Starts.{start_from}
-use Rattle.edges.proofs.StartCases.{passes, Searching, searching_first, search_none, search_room}
-use Rattle.edges.proofs.StartCases.{search_found, search_less, search_next, none_found, start_found, lists_places}
+use Rattle.edges.proofs.StartCases.{passes, Searching}
 use Rattle.edges.proofs.starts.least_start.Given as goal
 
 abbrev pub invariant-loop-r : goal.invariant-loop-r

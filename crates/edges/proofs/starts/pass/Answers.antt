@@ -3,11 +3,9 @@
 use borrow.Author.Rules.{rules}
 use Prim.Native.Nat.{◌-◌, ◌<◌}
 use native.Mathlib.Omega.{arith}
-use borrow.Author.Tests.{not-true, not-false}
 use Rattle.list.specs.DayLists.{most_entries}
 use Rattle.order.specs.Orders.{value_at}
-use Rattle.windows.specs.Windows.{held_in}
-use Rattle.edges.proofs.StartCases.{Passing, passing_none, passing_low, passing_not, passing_row, passed_all}
+use Rattle.edges.proofs.StartCases.{passing_none, passing_low, passing_not, passing_row, passed_all}
 use Rattle.edges.proofs.starts.pass.Goals as goal
 
 pub loop-x-init : goal.loop-x-init

@@ -1,13 +1,8 @@
 -- The loop's invariant is the pass so far; the measure is what is left of the right ends.
 -- Assumes nothing.
-use borrow.Author.Rules.{rules}
-use Prim.Native.Nat.{◌-◌, ◌<◌}
-use native.Mathlib.Omega.{arith}
-use borrow.Author.Tests.{not-true, not-false}
-use Rattle.list.specs.DayLists.{most_entries}
 use Rattle.order.specs.Orders.{value_at}
 use Rattle.windows.specs.Windows.{held_in}
-use Rattle.edges.proofs.StartCases.{Passing, passing_none, passing_low, passing_not, passing_row, passed_all}
+use Rattle.edges.proofs.StartCases.{Passing}
 use Rattle.edges.proofs.starts.pass.Given as goal
 
 abbrev pub invariant-loop-x : goal.invariant-loop-x

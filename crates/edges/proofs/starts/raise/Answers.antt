@@ -1,11 +1,8 @@
 -- The loop's invariant is the walk so far; the measure is what is left of the order.
 -- Assumes nothing.
 use borrow.Author.Rules.{rules}
-use Prim.Native.Nat.{◌-◌}
 use native.Mathlib.Omega.{arith}
-use Rattle.order.specs.Orders.{value_at}
-use Rattle.windows.specs.Windows.{held_in}
-use Rattle.edges.proofs.StartCases.{Raising, raising_none, raising_out, raising_in, raised_all}
+use Rattle.edges.proofs.StartCases.{raising_none, raising_out, raising_in, raised_all}
 use Rattle.edges.proofs.starts.raise.Goals as goal
 
 pub loop-x-init : goal.loop-x-init

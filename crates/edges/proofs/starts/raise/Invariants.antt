@@ -1,11 +1,9 @@
 -- The loop's invariant is the walk so far; the measure is what is left of the order.
 -- Assumes nothing.
-use borrow.Author.Rules.{rules}
 use Prim.Native.Nat.{◌-◌}
-use native.Mathlib.Omega.{arith}
 use Rattle.order.specs.Orders.{value_at}
 use Rattle.windows.specs.Windows.{held_in}
-use Rattle.edges.proofs.StartCases.{Raising, raising_none, raising_out, raising_in, raised_all}
+use Rattle.edges.proofs.StartCases.{Raising}
 use Rattle.edges.proofs.starts.raise.Given as goal
 
 abbrev pub invariant-loop-x : goal.invariant-loop-x

@@ -1,7 +1,6 @@
 -- Where row 8 says that the list ends.
 -- Assumes nothing.
 use Rattle.shares.proofs.FrontCases.{end_eight, end_other}
-use borrow.Author.Rules.{rules}
 use Rattle.shares.proofs.front.read_end.Goals as goal
 
 pub returns-then-code-eq8 : goal.returns-then-code-eq8

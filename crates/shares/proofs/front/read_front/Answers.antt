@@ -2,7 +2,6 @@
 -- Assumes nothing.
 use mathlib.Core.Path.{sym}
 use lib.Seq.{length-take-le}
-use borrow.Author.Rules.{rules}
 use Rattle.list.specs.Machine.{Bytes}
 use Rattle.shares.proofs.FrontCases.{reader_end, front_read}
 use Rattle.shares.proofs.front.read_front.Goals as goal
