@@ -1,0 +1,31 @@
+-- The loop's invariant is that no place before k would move; the measure is what is left of the places.
+-- Assumes nothing.
+use borrow.Author.Rules.{rules}
+use Prim.Native.Nat.{◌-◌, ◌<◌, ◌≤◌}
+use native.Mathlib.Omega.{arith}
+use Rattle.base.proofs.Searches.{Passed, passed_none}
+use Rattle.list.specs.DayLists.{marked}
+use Rattle.windows.specs.Windows.{windows_in}
+use Rattle.narrow.specs.FastRounds.{moves_at}
+use Rattle.narrow.proofs.StayingPlaces.{move_found, move_passed, none_moved}
+use Rattle.narrow.proofs.rounds.first_moved.Goals as goal
+
+pub loop-k-init : goal.loop-k-init
+loop-k-init c = passed_none _ _
+
+pub returns-then-would_move : goal.returns-then-would_move
+returns-then-would_move c =
+    let place : c.loop-k.k < (windows_in c.args.windows).n = omega (arith, c.loop-k-test.true, c.places_held-count.ensures) in
+    move_found (marked c.args.whole) c.args.windows c.mirrored-mirror.result c.mirrored-mirror.ensures.windows c.closed_ends-ends.result c.closed_ends-late.result
+    c.closed_ends-ends.ensures.ends c.closed_ends-late.ensures.ends c.loop-k.k (place) c.would_move.result c.would_move.ensures c.loop-k.invariant c.if-would_move.true
+
+pub loop-k-preserved : goal.loop-k-preserved
+loop-k-preserved c =
+    let place : c.loop-k.k < (windows_in c.args.windows).n = omega (arith, c.loop-k-test.true, c.places_held-count.ensures) in
+    move_passed (marked c.args.whole) c.args.windows c.mirrored-mirror.result c.mirrored-mirror.ensures.windows c.closed_ends-ends.result c.closed_ends-late.result
+    c.closed_ends-ends.ensures.ends c.closed_ends-late.ensures.ends c.loop-k.k (place) c.would_move.result c.would_move.ensures c.loop-k.invariant c.if-would_move.false
+
+pub returns : goal.returns
+returns c =
+    let past : (windows_in c.args.windows).n ≤ c.loop-k.k = omega (arith, c.loop-k-test.false, c.places_held-count.ensures) in
+    none_moved (marked c.args.whole) c.args.windows c.loop-k.k c.loop-k.invariant past

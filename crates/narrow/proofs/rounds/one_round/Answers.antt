@@ -1,0 +1,36 @@
+-- The loop's invariant is `Visited`, the measure what is left of the places.
+-- Assumes nothing.
+use borrow.Author.Rules.{rules}
+use Prim.Native.Nat.{◌-◌, ◌<◌, ◌≤◌}
+use native.Mathlib.Omega.{arith}
+use Rattle.list.specs.DayLists.{marked}
+use Rattle.windows.specs.Windows.{windows_in}
+use Rattle.narrow.specs.Internal.{narrowed_by}
+use Rattle.narrow.proofs.VisitCases.{Visited, visited_first, next_ready, next_few, visited_next, visited_stopped, visited_all}
+use Rattle.narrow.proofs.rounds.one_round.Goals as goal
+
+pub loop-k-init : goal.loop-k-init
+loop-k-init c =
+    visited_first (marked c.args.whole) c.args.windows c.args.moves c.requires _ c.first_moved-k.ensures
+
+pub visit-now-requires : goal.visit-now-requires
+visit-now-requires c =
+    let place : c.loop-k.k < (windows_in c.args.windows).n = omega (arith, c.loop-k-test.true, c.places_held-count.ensures) in
+    record { visitable = next_ready (marked c.args.whole) c.args.windows c.args.moves c.requires c.loop-k.now c.loop-k.k c.loop-k.invariant (place); moves_bound = next_few (marked c.args.whole) c.args.windows c.args.moves c.requires c.loop-k.now c.loop-k.k c.loop-k.invariant (place) }
+
+pub returns-in_default : goal.returns-in_default
+returns-in_default c =
+    let place : c.loop-k.k < (windows_in c.args.windows).n = omega (arith, c.loop-k-test.true, c.places_held-count.ensures) in
+    visited_stopped (marked c.args.whole) c.args.windows c.args.moves c.requires c.loop-k.now c.loop-k.k c.loop-k.invariant
+    (place) c.visit-now.result c.visit-now.ensures _ c.in_default.is
+
+pub loop-k-preserved : goal.loop-k-preserved
+loop-k-preserved c =
+    let place : c.loop-k.k < (windows_in c.args.windows).n = omega (arith, c.loop-k-test.true, c.places_held-count.ensures) in
+    visited_next (marked c.args.whole) c.args.windows c.args.moves c.requires c.loop-k.now c.loop-k.k c.loop-k.invariant
+    (place) c.visit-now.result c.visit-now.ensures c.in-Accepted.is
+
+pub returns : goal.returns
+returns c =
+    let past : (windows_in c.args.windows).n ≤ c.loop-k.k = omega (arith, c.loop-k-test.false, c.places_held-count.ensures) in
+    visited_all (marked c.args.whole) c.args.windows c.args.moves c.requires c.loop-k.now c.loop-k.k c.loop-k.invariant past

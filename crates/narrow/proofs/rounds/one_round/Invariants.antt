@@ -1,0 +1,16 @@
+-- The loop's invariant is `Visited`, the measure what is left of the places.
+-- Assumes nothing.
+use borrow.Author.Rules.{rules}
+use Prim.Native.Nat.{◌-◌, ◌<◌, ◌≤◌}
+use native.Mathlib.Omega.{arith}
+use Rattle.list.specs.DayLists.{marked}
+use Rattle.windows.specs.Windows.{windows_in}
+use Rattle.narrow.specs.Internal.{narrowed_by}
+use Rattle.narrow.proofs.VisitCases.{Visited, visited_first, next_ready, next_few, visited_next, visited_stopped, visited_all}
+use Rattle.narrow.proofs.rounds.one_round.Given as goal
+
+abbrev pub invariant-loop-k : goal.invariant-loop-k
+invariant-loop-k l = Visited (marked l.whole) (narrowed_by l.initial.now.windows l.moves) l.now l.k
+
+abbrev pub decreases-loop-k : goal.decreases-loop-k
+decreases-loop-k l = l.count - l.k
