@@ -1,6 +1,5 @@
 -- A list with the windows found, or a refusal.
 -- Assumes nothing.
-use borrow.Author.Rules.{rules}
 use Rattle.narrow.proofs.CallCases.{answers_stopped, answers_found}
 use Rattle.narrow.proofs.calls.answer_with.Goals as goal
 

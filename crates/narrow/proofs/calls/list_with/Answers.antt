@@ -2,13 +2,12 @@
 -- Assumes nothing.
 use borrow.Author.Rules.{rules}
 use mathlib.Core.Path.{◌≡◌, ap}
-use Prim.Native.Nat.{◌-◌}
 use native.Mathlib.Omega.{arith}
 use lib.ListN.{length}
 use Rattle.list.specs.declared.types.DayList.{DayList}
 use Rattle.base.proofs.Walk.{length_mapped}
 use Rattle.windows.specs.Windows.{windows_in}
-use Rattle.narrow.proofs.ListCases.{Filled, filled_none, filled_next, filled_all}
+use Rattle.narrow.proofs.ListCases.{filled_none, filled_next, filled_all}
 use Rattle.narrow.proofs.calls.list_with.Goals as goal
 
 pub loop-i-init : goal.loop-i-init

@@ -1,6 +1,5 @@
 -- Each way out has its outcome.
 -- Assumes nothing.
-use borrow.Author.Rules.{rules}
 use Rattle.narrow.proofs.CallCases.{list_room, round_turned, round_found}
 use Rattle.narrow.proofs.calls.make_round.Goals as goal
 

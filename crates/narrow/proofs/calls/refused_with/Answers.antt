@@ -1,6 +1,5 @@
 -- The empty list and 0 stand beside a refusal.
 -- Assumes nothing.
-use borrow.Author.Rules.{rules}
 use Rattle.narrow.proofs.calls.refused_with.Goals as goal
 
 pub returns : goal.returns

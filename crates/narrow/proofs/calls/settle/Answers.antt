@@ -1,6 +1,5 @@
 -- Each way out has its outcome.
 -- Assumes nothing.
-use borrow.Author.Rules.{rules}
 use Rattle.narrow.proofs.CallCases.{settle_turned, settle_found}
 use Rattle.narrow.proofs.calls.settle.Goals as goal
 

@@ -1,10 +1,7 @@
 -- The loop's invariant is `Rounded`, the measure the minutes that can still be cut.
 -- Assumes nothing.
-use borrow.Author.Rules.{rules}
-use Rattle.windows.specs.Windows.{windows_in}
-use Rattle.narrow.specs.Rounds.{slack}
 use Rattle.list.specs.DayLists.{marked}
-use Rattle.narrow.proofs.VisitCases.{Rounded, rounded_none, rounded_stopped, rounded_last, rounded_less, rounded_next}
+use Rattle.narrow.proofs.VisitCases.{rounded_none, rounded_stopped, rounded_last, rounded_less, rounded_next}
 use Rattle.narrow.proofs.rounds.all_rounds.Goals as goal
 
 pub loop-next-init : goal.loop-next-init

@@ -1,10 +1,9 @@
 -- The loop's invariant is `Rounded`, the measure the minutes that can still be cut.
 -- Assumes nothing.
-use borrow.Author.Rules.{rules}
 use Rattle.windows.specs.Windows.{windows_in}
 use Rattle.narrow.specs.Rounds.{slack}
 use Rattle.list.specs.DayLists.{marked}
-use Rattle.narrow.proofs.VisitCases.{Rounded, rounded_none, rounded_stopped, rounded_last, rounded_less, rounded_next}
+use Rattle.narrow.proofs.VisitCases.{Rounded}
 use Rattle.narrow.proofs.rounds.all_rounds.Given as goal
 
 abbrev pub invariant-loop-next : goal.invariant-loop-next

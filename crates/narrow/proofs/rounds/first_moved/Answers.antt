@@ -1,12 +1,10 @@
 -- The loop's invariant is that no place before k would move; the measure is what is left of the places.
 -- Assumes nothing.
-use borrow.Author.Rules.{rules}
-use Prim.Native.Nat.{◌-◌, ◌<◌, ◌≤◌}
+use Prim.Native.Nat.{◌<◌, ◌≤◌}
 use native.Mathlib.Omega.{arith}
-use Rattle.base.proofs.Searches.{Passed, passed_none}
+use Rattle.base.proofs.Searches.{passed_none}
 use Rattle.list.specs.DayLists.{marked}
 use Rattle.windows.specs.Windows.{windows_in}
-use Rattle.narrow.specs.FastRounds.{moves_at}
 use Rattle.narrow.proofs.StayingPlaces.{move_found, move_passed, none_moved}
 use Rattle.narrow.proofs.rounds.first_moved.Goals as goal
 

@@ -1,6 +1,5 @@
 -- The search for d is that for r in the mirror.
 -- Assumes nothing.
-use borrow.Author.Rules.{rules}
 use Rattle.narrow.proofs.RoundCases.{mirror_visitable, mirror_placed}
 use Rattle.narrow.proofs.rounds.narrow_end.Goals as goal
 

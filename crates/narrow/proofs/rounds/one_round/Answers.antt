@@ -1,12 +1,10 @@
 -- The loop's invariant is `Visited`, the measure what is left of the places.
 -- Assumes nothing.
-use borrow.Author.Rules.{rules}
-use Prim.Native.Nat.{◌-◌, ◌<◌, ◌≤◌}
+use Prim.Native.Nat.{◌<◌, ◌≤◌}
 use native.Mathlib.Omega.{arith}
 use Rattle.list.specs.DayLists.{marked}
 use Rattle.windows.specs.Windows.{windows_in}
-use Rattle.narrow.specs.Internal.{narrowed_by}
-use Rattle.narrow.proofs.VisitCases.{Visited, visited_first, next_ready, next_few, visited_next, visited_stopped, visited_all}
+use Rattle.narrow.proofs.VisitCases.{visited_first, next_ready, next_few, visited_next, visited_stopped, visited_all}
 use Rattle.narrow.proofs.rounds.one_round.Goals as goal
 
 pub loop-k-init : goal.loop-k-init

@@ -1,12 +1,9 @@
 -- The loop's invariant is `Visited`, the measure what is left of the places.
 -- Assumes nothing.
-use borrow.Author.Rules.{rules}
-use Prim.Native.Nat.{◌-◌, ◌<◌, ◌≤◌}
-use native.Mathlib.Omega.{arith}
+use Prim.Native.Nat.{◌-◌}
 use Rattle.list.specs.DayLists.{marked}
-use Rattle.windows.specs.Windows.{windows_in}
 use Rattle.narrow.specs.Internal.{narrowed_by}
-use Rattle.narrow.proofs.VisitCases.{Visited, visited_first, next_ready, next_few, visited_next, visited_stopped, visited_all}
+use Rattle.narrow.proofs.VisitCases.{Visited}
 use Rattle.narrow.proofs.rounds.one_round.Given as goal
 
 abbrev pub invariant-loop-k : goal.invariant-loop-k

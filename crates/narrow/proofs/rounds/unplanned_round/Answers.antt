@@ -1,13 +1,12 @@
 -- The loop's invariant is that no whole entry was met; the measure is what is left of the places.
 -- Assumes nothing.
-use borrow.Author.Rules.{rules}
 use mathlib.Core.Path.{◌∙◌}
-use Prim.Native.Nat.{◌-◌, ◌<◌, ◌≤◌}
+use Prim.Native.Nat.{◌<◌, ◌≤◌}
 use native.Mathlib.Omega.{arith}
 use Rattle.list.specs.DayLists.{marked}
 use Rattle.windows.specs.Windows.{windows_in}
 use Rattle.narrow.specs.Internal.{narrowed_by}
-use Rattle.narrow.proofs.UnplannedCases.{PausesBelow, pauses_none, pauses_all, pauses_next, first_refused}
+use Rattle.narrow.proofs.UnplannedCases.{pauses_none, pauses_all, pauses_next, first_refused}
 use Rattle.narrow.proofs.rounds.unplanned_round.Goals as goal
 
 pub loop-k-init : goal.loop-k-init

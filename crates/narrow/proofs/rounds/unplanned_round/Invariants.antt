@@ -1,13 +1,9 @@
 -- The loop's invariant is that no whole entry was met; the measure is what is left of the places.
 -- Assumes nothing.
-use borrow.Author.Rules.{rules}
-use mathlib.Core.Path.{◌∙◌}
-use Prim.Native.Nat.{◌-◌, ◌<◌, ◌≤◌}
-use native.Mathlib.Omega.{arith}
+use Prim.Native.Nat.{◌-◌}
 use Rattle.list.specs.DayLists.{marked}
-use Rattle.windows.specs.Windows.{windows_in}
 use Rattle.narrow.specs.Internal.{narrowed_by}
-use Rattle.narrow.proofs.UnplannedCases.{PausesBelow, pauses_none, pauses_all, pauses_next, first_refused}
+use Rattle.narrow.proofs.UnplannedCases.{PausesBelow}
 use Rattle.narrow.proofs.rounds.unplanned_round.Given as goal
 
 abbrev pub invariant-loop-k : goal.invariant-loop-k

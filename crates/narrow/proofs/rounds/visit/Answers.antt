@@ -1,8 +1,6 @@
 -- A pause entry changes nothing; the second search goes on from what the first left.
 -- Assumes nothing.
-use borrow.Author.Rules.{rules}
 use native.Mathlib.Omega.{arith}
-use borrow.Author.Tests.{not-true, not-false}
 use Rattle.narrow.proofs.VisitCases.{visit_passed, visit_stopped, visit_on, visit_moves, visit_ends}
 use Rattle.narrow.proofs.rounds.visit.Goals as goal
 

@@ -1,9 +1,8 @@
 -- The tests of `would_move`, one after the other.
 -- Assumes nothing.
-use borrow.Author.Rules.{rules}
 use mathlib.Core.Path.{refl}
 use Prim.Native.Nat.{◌+◌}
-use borrow.Author.Tests.{not-true, not-false, eq-eqb, ne_eqb}
+use borrow.Author.Tests.{eq-eqb, ne_eqb}
 use Rattle.narrow.proofs.rounds.would_move.Goals as goal
 
 -- The tests of `would_move`, one after the other.
