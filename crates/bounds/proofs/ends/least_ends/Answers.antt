@@ -1,0 +1,41 @@
+-- The loop's invariant is `Placed`, the measure what is left of the places.
+-- Assumes nothing.
+use borrow.Author.Rules.{rules}
+use mathlib.Core.Path.{◌∙◌}
+use Prim.Native.Nat.{◌-◌, ◌<◌, ◌≤◌}
+use native.Mathlib.Omega.{arith}
+use Rattle.list.specs.DayLists.{marked}
+use Rattle.list.proofs.ByPlace.{Placed, placed_none, placed_next, placed_all}
+use Rattle.windows.specs.Windows.{windows_in}
+use Rattle.windows.specs.Intervals.{overload_of}
+use Rattle.bounds.specs.Ends.{least_end}
+use Rattle.bounds.proofs.EndCases.{closed_small, end_least}
+use Rattle.bounds.proofs.ends.least_ends.Goals as goal
+
+pub loop-i-init : goal.loop-i-init
+loop-i-init c = placed_none _ _ _ (omega arith) c.zeros-ends.ensures
+
+pub end_by_kind-requires : goal.end_by_kind-requires
+end_by_kind-requires c =
+    let short : c.args.windows.h < 65536 = search rules in
+    let place : c.loop-i.i < (windows_in c.args.windows).n = omega (arith, c.loop-i-test.true, c.places_held-count.ensures) in
+    let at = place in
+    let whole = marked c.args.whole in record {
+      p_bound = omega (arith, c.requires.formed.room _ at, c.requires.formed.in_day _ at, short);
+      closed_bound = closed_small whole (windows_in c.args.windows) c.requires.formed _ at c.args.planned _ (c.requires.pauses_planned _ at) (c.pause_ends-closed.ensures _ at)
+          (omega (arith, short));
+    }
+
+pub loop-i-preserved : goal.loop-i-preserved
+loop-i-preserved c =
+    let place : c.loop-i.i < (windows_in c.args.windows).n = omega (arith, c.loop-i-test.true, c.places_held-count.ensures) in
+    let at = place in
+    placed_next _ _ _ _ _ c.loop-i.invariant at
+    (c.end_by_kind.ensures
+    ∙ end_least (marked c.args.whole) (windows_in c.args.windows) c.requires.formed c.loop-i.i at c.args.planned _
+    (c.requires.pauses_planned c.loop-i.i at) (c.pause_ends-closed.ensures c.loop-i.i at))
+
+pub returns : goal.returns
+returns c =
+    let past : (windows_in c.args.windows).n ≤ c.loop-i.i = omega (arith, c.loop-i-test.false, c.places_held-count.ensures) in
+    placed_all _ _ _ _ c.loop-i.invariant past

@@ -1,0 +1,20 @@
+-- The loop's invariant is `Placed`, the measure what is left of the places.
+-- Assumes nothing.
+use borrow.Author.Rules.{rules}
+use mathlib.Core.Path.{◌∙◌}
+use Prim.Native.Nat.{◌-◌, ◌<◌, ◌≤◌}
+use native.Mathlib.Omega.{arith}
+use Rattle.list.specs.DayLists.{marked}
+use Rattle.list.proofs.ByPlace.{Placed, placed_none, placed_next, placed_all}
+use Rattle.windows.specs.Windows.{windows_in}
+use Rattle.windows.specs.Intervals.{overload_of}
+use Rattle.bounds.specs.Ends.{least_end}
+use Rattle.bounds.proofs.EndCases.{closed_small, end_least}
+use Rattle.bounds.proofs.ends.least_ends.Given as goal
+
+abbrev pub invariant-loop-i : goal.invariant-loop-i
+invariant-loop-i l =
+    Placed (least_end overload_of (marked l.whole) (windows_in l.windows)) (windows_in l.windows).n l.ends l.i
+
+abbrev pub decreases-loop-i : goal.decreases-loop-i
+decreases-loop-i l = l.count - l.i
