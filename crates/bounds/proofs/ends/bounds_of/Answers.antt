@@ -1,7 +1,5 @@
 -- Windows without room have no bounds; of others both are found.
 -- Assumes nothing.
-use borrow.Author.Rules.{rules}
-use borrow.Author.Tests.{not-true, not-false}
 use Rattle.list.specs.DayLists.{marked}
 use Rattle.bounds.proofs.EndCases.{room_formed, bounds_none, bounds_held}
 use Rattle.bounds.proofs.ends.bounds_of.Goals as goal

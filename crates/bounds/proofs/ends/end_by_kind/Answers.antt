@@ -2,7 +2,6 @@
 -- Assumes nothing.
 use borrow.Author.Rules.{rules}
 use mathlib.Core.Path.{refl}
-use borrow.Author.Tests.{not-true, not-false}
 use Rattle.bounds.proofs.ends.end_by_kind.Goals as goal
 
 pub returns-then-whole : goal.returns-then-whole

@@ -1,15 +1,11 @@
 -- The loop's invariant is `Placed`, the measure what is left of the places.
 -- Assumes nothing.
-use borrow.Author.Rules.{rules}
-use mathlib.Core.Path.{◌∙◌}
-use Prim.Native.Nat.{◌-◌, ◌<◌, ◌≤◌}
-use native.Mathlib.Omega.{arith}
+use Prim.Native.Nat.{◌-◌}
 use Rattle.list.specs.DayLists.{marked}
-use Rattle.list.proofs.ByPlace.{Placed, placed_none, placed_next, placed_all}
+use Rattle.list.proofs.ByPlace.{Placed}
 use Rattle.windows.specs.Windows.{windows_in}
 use Rattle.windows.specs.Intervals.{overload_of}
 use Rattle.bounds.specs.Ends.{least_end}
-use Rattle.bounds.proofs.EndCases.{closed_small, end_least}
 use Rattle.bounds.proofs.ends.least_ends.Given as goal
 
 abbrev pub invariant-loop-i : goal.invariant-loop-i

@@ -1,6 +1,5 @@
 -- Where all entries are whole, no number is asked for.
 -- Assumes nothing.
-use borrow.Author.Rules.{rules}
 use native.Mathlib.Omega.{arith}
 use Rattle.list.specs.DayLists.{marked}
 use Rattle.bounds.proofs.EndCases.{no_pause, closed_at}

@@ -1,6 +1,5 @@
 -- Where all entries are whole, nothing is asked; else the overload test says it.
 -- Assumes nothing.
-use borrow.Author.Rules.{rules}
 use mathlib.Core.Path.{ap, ◌∙◌}
 use native.Mathlib.Omega.{arith}
 use Rattle.base.specs.Outcomes.{accepts}

@@ -4,7 +4,7 @@ use borrow.Author.Rules.{rules}
 use Prim.Native.Nat.{ℕ, ◌-◌}
 use lib.ListN.{get_or}
 use lib.Seq.{lt-length-set}
-use Rattle.bounds.proofs.ShownCases.{Turned, turn_start, last_in, turn_next, turn_done}
+use Rattle.bounds.proofs.ShownCases.{turn_start, last_in, turn_next, turn_done}
 use Rattle.bounds.proofs.shown.mirror_plan.Goals as goal
 
 pub loop-first-init : goal.loop-first-init

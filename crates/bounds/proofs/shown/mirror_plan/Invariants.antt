@@ -1,10 +1,7 @@
 -- The loop's invariant is `Turned`, the measure the minutes between.
 -- Assumes nothing.
-use borrow.Author.Rules.{rules}
-use Prim.Native.Nat.{ℕ, ◌-◌}
-use lib.ListN.{get_or}
-use lib.Seq.{lt-length-set}
-use Rattle.bounds.proofs.ShownCases.{Turned, turn_start, last_in, turn_next, turn_done}
+use Prim.Native.Nat.{◌-◌}
+use Rattle.bounds.proofs.ShownCases.{Turned}
 use Rattle.bounds.proofs.shown.mirror_plan.Given as goal
 
 abbrev pub invariant-loop-first : goal.invariant-loop-first

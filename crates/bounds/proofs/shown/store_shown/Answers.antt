@@ -1,6 +1,5 @@
 -- The early plan is stored as it is. For the late one the early plan in the mirror is stored and mirrored, and its end turned round.
 -- Assumes nothing.
-use borrow.Author.Rules.{rules}
 use mathlib.Core.Path.{ap}
 use native.Mathlib.Omega.{arith}
 use Rattle.windows.specs.Windows.{Windows}
