@@ -14,7 +14,7 @@ use Rattle.narrow.specs.Searching.{Test, start_count}
 use Rattle.narrow.proofs.Planners.{Planner}
 use Rattle.narrow.proofs.StepsKeep.{StartTried}
 use Rattle.narrow.proofs.Exact.{accepted_plan, plan_accepted}
-use Rattle.backtracking.specs.Searches.{Search, none, trial, starts_from, search_from}
+use Rattle.backtracking.specs.Searches.{Search, trial, starts_from, search_from}
 use Rattle.backtracking.proofs.Endings.{Ends, Any, by_else, ends_map, ends_both}
 use Rattle.backtracking.proofs.Reaching.{Reached, Reaches, reached_at, search_reaches}
 

@@ -1,0 +1,29 @@
+-- A whole entry is left, and is tried from its first start on, or none is.
+-- Assumes nothing.
+use borrow.Author.Rules.{rules}
+use mir.Val.{Fits}
+use mir.Syntax.{w16}
+use Prim.Native.Nat.{ℕ}
+use lib.ListN.{get_or}
+use native.Mathlib.Omega.{arith}
+use Rattle.list.specs.DayLists.{marked}
+use Rattle.windows.specs.Windows.{windows_in}
+use Rattle.backtracking.specs.Internal.{NextWhole}
+use Rattle.backtracking.proofs.SearchCases.{enters_whole, enters_all}
+use Rattle.backtracking.proofs.search.entered.Goals as goal
+
+pub returns-then-place-count : goal.returns-then-place-count
+returns-then-place-count c =
+    let next_one : NextWhole (marked c.args.whole) (windows_in c.args.windows).n c.args.k c.next_whole-place.result = rw (← c.places_held-count.ensures) c.next_whole-place.ensures in
+    let fits-r : (j : ℕ) → Fits w16 (get_or c.args.windows.r j 0) = λ j. search rules in
+    enters_whole (marked c.args.whole) (windows_in c.args.windows) c.args.fixed c.args.k c.args.trials c.next_whole-place.result
+    c.requires.fixed_below (next_one)
+    (omega (arith, c.if-place-count.true, c.places_held-count.ensures))
+    (omega (arith, fits-r c.next_whole-place.result))
+
+pub returns-else-place-count : goal.returns-else-place-count
+returns-else-place-count c =
+    let next_one : NextWhole (marked c.args.whole) (windows_in c.args.windows).n c.args.k c.next_whole-place.result = rw (← c.places_held-count.ensures) c.next_whole-place.ensures in
+    enters_all (marked c.args.whole) (windows_in c.args.windows) c.args.fixed c.args.k c.args.trials c.next_whole-place.result
+    c.requires.fixed_below (next_one)
+    (omega (arith, c.if-place-count.false, c.places_held-count.ensures))

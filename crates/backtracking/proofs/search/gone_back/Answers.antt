@@ -1,0 +1,30 @@
+-- The window is opened again, and the next start is one more.
+-- Assumes nothing.
+use borrow.Author.Rules.{rules}
+use mathlib.Core.Path.{refl}
+use mir.Val.{Fits}
+use mir.Syntax.{w16}
+use lib.ListN.{get_or}
+use native.Mathlib.Omega.{arith}
+use Rattle.backtracking.proofs.search.gone_back.Goals as goal
+
+pub overflow_cast-result : goal.overflow_cast-result
+overflow_cast-result c =
+    let fits-r : Fits w16 (get_or c.args.at.windows.r c.args.k 0) = search rules in
+    search (rules, fits-r)
+
+pub overflow_add-result : goal.overflow_add-result
+overflow_add-result c =
+    let fits-r : Fits w16 (get_or c.args.at.windows.r c.args.k 0) = search rules in
+    omega (arith, fits-r)
+
+pub returns : goal.returns
+returns c =
+    let fits-r : Fits w16 (get_or c.args.at.windows.r c.args.k 0) = search rules in
+    record {
+      windows = c.with_window.ensures;
+      place = refl;
+      start = refl;
+      small = omega (arith, fits-r);
+      trials = refl;
+    }

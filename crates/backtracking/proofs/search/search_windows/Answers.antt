@@ -1,0 +1,93 @@
+-- The loop's invariant is `OnTheWay`; a trial takes one of those left, and going back leaves the place smaller.
+-- Assumes nothing.
+use borrow.Author.Rules.{rules}
+use mathlib.Core.Path.{◌≡◌, sym, ◌∙◌}
+use Prim.Native.Nat.{suc, ◌+◌, ◌-◌, ◌<◌}
+use native.Mathlib.Omega.{arith}
+use lib.Dec.{leb}
+use mathlib.Core.Bool.{false}
+use Rattle.list.specs.DayLists.{marked}
+use Rattle.windows.specs.Windows.{windows_in}
+use Rattle.backtracking.specs.Internal.{LastWhole, StartLeft}
+use Rattle.backtracking.proofs.SearchCases.{fixed_none, way_begins, way_found, way_left, way_spent, way_tried, way_none, way_again}
+use Rattle.backtracking.proofs.UnbrokenLaws.{searches_so}
+use Rattle.backtracking.proofs.search.search_windows.Goals as goal
+
+pub entered-at-requires : goal.entered-at-requires
+entered-at-requires c = record { fixed_below = fixed_none _ _; k_bound = omega arith }
+
+pub loop-at-init : goal.loop-at-init
+loop-at-init c =
+    way_begins (marked c.args.whole) c.args.windows c.args.limit c.entered-at.result c.entered-at.ensures
+
+pub start_left-requires : goal.start_left-requires
+start_left-requires c =
+    let place : c.loop-at.at.place < (windows_in c.args.windows).n = omega (arith, c.if-count-at.false, c.places_held-count.ensures) in
+    record { place_bound = omega (arith, place); start_bound = c.loop-at.invariant.stands.start }
+
+pub tried-at-requires : goal.tried-at-requires
+tried-at-requires c =
+    let place : c.loop-at.at.place < (windows_in c.args.windows).n = omega (arith, c.if-count-at.false, c.places_held-count.ensures) in
+    let left : StartLeft (windows_in c.args.windows) c.loop-at.at = way_left (marked c.args.whole) c.args.windows c.args.limit c.loop-at.at c.loop-at.invariant (place)
+    (sym c.start_left.ensures ∙ c.if-start_left.true) in
+    record { stands = c.loop-at.invariant.stands; start_left = left; trials_bound = search rules }
+
+pub loop-at-smaller-then-start_left : goal.loop-at-smaller-then-start_left
+loop-at-smaller-then-start_left c =
+    omega (arith, c.if-limit-at.false, c.tried-at.ensures.trials, c.tried-at.ensures.stands.within)
+
+pub loop-at-preserved-then-start_left : goal.loop-at-preserved-then-start_left
+loop-at-preserved-then-start_left c =
+    let place : c.loop-at.at.place < (windows_in c.args.windows).n = omega (arith, c.if-count-at.false, c.places_held-count.ensures) in
+    way_tried (marked c.args.whole) c.args.windows c.args.limit c.loop-at.at c.loop-at.invariant
+    (place) c.if-limit-at.false c.tried-at.result c.tried-at.ensures
+
+pub last_whole-last-requires : goal.last_whole-last-requires
+last_whole-last-requires c =
+    let place : c.loop-at.at.place < (windows_in c.args.windows).n = omega (arith, c.if-count-at.false, c.places_held-count.ensures) in
+    omega (arith, place)
+
+pub gone_back-at-requires : goal.gone_back-at-requires
+gone_back-at-requires c =
+    let place : c.loop-at.at.place < (windows_in c.args.windows).n = omega (arith, c.if-count-at.false, c.places_held-count.ensures) in
+    omega (arith, c.last_whole-last.ensures.within, place)
+
+pub loop-at-smaller : goal.loop-at-smaller
+loop-at-smaller c =
+    let last : LastWhole (marked c.args.whole) c.loop-at.at.place (suc (c.last_whole-last.result - 1)) = let z : c.last_whole-last.result ≡ suc (c.last_whole-last.result - 1) = omega (arith, c.if-last-eq0.false) in
+    rw (← z) c.last_whole-last.ensures in
+    omega (arith, c.gone_back-at.ensures.place, c.gone_back-at.ensures.trials, (last).within)
+
+pub loop-at-preserved : goal.loop-at-preserved
+loop-at-preserved c =
+    let place : c.loop-at.at.place < (windows_in c.args.windows).n = omega (arith, c.if-count-at.false, c.places_held-count.ensures) in
+    let none_left : let w = windows_in c.args.windows in leb (c.loop-at.at.start + w.p c.loop-at.at.place) (w.d c.loop-at.at.place) ≡ false = sym c.start_left.ensures ∙ c.if-start_left.false in
+    let last : LastWhole (marked c.args.whole) c.loop-at.at.place (suc (c.last_whole-last.result - 1)) = let z : c.last_whole-last.result ≡ suc (c.last_whole-last.result - 1) = omega (arith, c.if-last-eq0.false) in
+    rw (← z) c.last_whole-last.ensures in
+    way_again (marked c.args.whole) c.args.windows c.args.limit c.loop-at.at c.loop-at.invariant
+    (place) (none_left) _ (last)
+    c.gone_back-at.result c.gone_back-at.ensures
+
+pub returns-then-count-at : goal.returns-then-count-at
+returns-then-count-at c =
+    searches_so (marked c.args.whole) c.args.windows c.args.limit _
+    (way_found (marked c.args.whole) c.args.windows c.args.limit c.loop-at.at c.loop-at.invariant
+    (omega (arith, c.if-count-at.true, c.places_held-count.ensures)))
+
+pub returns-then-limit-at : goal.returns-then-limit-at
+returns-then-limit-at c =
+    let place : c.loop-at.at.place < (windows_in c.args.windows).n = omega (arith, c.if-count-at.false, c.places_held-count.ensures) in
+    let left : StartLeft (windows_in c.args.windows) c.loop-at.at = way_left (marked c.args.whole) c.args.windows c.args.limit c.loop-at.at c.loop-at.invariant (place)
+    (sym c.start_left.ensures ∙ c.if-start_left.true) in
+    searches_so (marked c.args.whole) c.args.windows c.args.limit _
+    (way_spent (marked c.args.whole) c.args.windows c.args.limit c.loop-at.at c.loop-at.invariant
+    (place) (left) c.if-limit-at.true)
+
+pub returns-then-last-eq0 : goal.returns-then-last-eq0
+returns-then-last-eq0 c =
+    let place : c.loop-at.at.place < (windows_in c.args.windows).n = omega (arith, c.if-count-at.false, c.places_held-count.ensures) in
+    let none_left : let w = windows_in c.args.windows in leb (c.loop-at.at.start + w.p c.loop-at.at.place) (w.d c.loop-at.at.place) ≡ false = sym c.start_left.ensures ∙ c.if-start_left.false in
+    let z : c.last_whole-last.result ≡ 0 = c.if-last-eq0.true in
+    searches_so (marked c.args.whole) c.args.windows c.args.limit _
+    (way_none (marked c.args.whole) c.args.windows c.args.limit c.loop-at.at c.loop-at.invariant
+    (place) (none_left) (rw z at c.last_whole-last.ensures))

@@ -1,0 +1,15 @@
+-- The loop's invariant is `BrokenSoFar`, the measure what is left of the places.
+-- Assumes nothing.
+use borrow.Author.Rules.{rules}
+use Prim.Native.Nat.{◌+◌, ◌-◌, ◌<◌, ◌≤◌}
+use native.Mathlib.Omega.{arith}
+use Rattle.list.specs.DayLists.{marked}
+use Rattle.windows.specs.Windows.{windows_in}
+use Rattle.planner.proofs.BrokenCases.{BrokenSoFar, counted_none, counted_next, counted_all}
+use Rattle.planner.proofs.broken.broken_in.Given as goal
+
+abbrev pub invariant-loop-i : goal.invariant-loop-i
+invariant-loop-i l = BrokenSoFar (marked l.whole) (windows_in l.windows) l.plan l.sum l.i
+
+abbrev pub decreases-loop-i : goal.decreases-loop-i
+decreases-loop-i l = l.count - l.i

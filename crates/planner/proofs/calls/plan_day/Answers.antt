@@ -1,0 +1,54 @@
+-- The checks and narrowing may refuse; else the plan is stored, and the bounds are those of the settled windows.
+-- Assumes nothing.
+use borrow.Author.Rules.{rules}
+use mathlib.Core.Path.{◌≡◌, sym, ◌∙◌}
+use lib.ListN.{length}
+use Rattle.narrow.specs.Calls.{narrowed_of}
+use Rattle.planner.specs.Calls.{plan_checks, narrow_after}
+use Rattle.planner.proofs.CallCases.{plan_formed, narrows_after, found_is, Planning, is_planning, plan_held, plan_long}
+use Rattle.planner.proofs.AnswerCases.{plan_refused, plan_done}
+use Rattle.planner.proofs.calls.plan_day.Goals as goal
+
+pub returns-in_default : goal.returns-in_default
+returns-in_default c =
+    let found : narrowed_of c.narrowed_after-found.result ≡ narrow_after (plan_checks c.args.list (length c.args.plan.now)) c.args.list = found_is (plan_checks c.args.list (length c.args.plan.now)) c.args.list (plan_formed c.args.list (length c.args.plan.now))
+    c.whole_places-whole.result c.whole_places-whole.ensures
+    c.unchecked_windows.result c.unchecked_windows.ensures c.narrowed_after-found.result
+    (rw c.plan_checks-checks.ensures at c.narrowed_after-found.ensures) in
+    plan_refused (plan_checks c.args.list (length c.args.plan.now)) c.args.list (plan_formed c.args.list (length c.args.plan.now))
+    c.args.plan.now c.narrowed_after-found.result.verdict _ c.in_default.is (sym (found) ∙ rw c.in_default.is) c.unplanned.result
+    c.unplanned.ensures
+
+pub broken_in-broken-requires : goal.broken_in-broken-requires
+broken_in-broken-requires c =
+    let found : narrowed_of c.narrowed_after-found.result ≡ narrow_after (plan_checks c.args.list (length c.args.plan.now)) c.args.list = found_is (plan_checks c.args.list (length c.args.plan.now)) c.args.list (plan_formed c.args.list (length c.args.plan.now))
+    c.whole_places-whole.result c.whole_places-whole.ensures
+    c.unchecked_windows.result c.unchecked_windows.ensures c.narrowed_after-found.result
+    (rw c.plan_checks-checks.ensures at c.narrowed_after-found.ensures) in
+    let planning : Planning (plan_checks c.args.list (length c.args.plan.now)) c.args.list c.args.plan.now c.whole_places-whole.result c.narrowed_after-found.result = is_planning c.narrowed_after-found.result (λ e. e) c.whole_places-whole.ensures (found)
+    c.in-Accepted.is in
+    plan_held (planning) c.unchecked_schedule-filled.ensures
+
+pub shape_of-plan : goal.shape_of-plan
+shape_of-plan c =
+    let found : narrowed_of c.narrowed_after-found.result ≡ narrow_after (plan_checks c.args.list (length c.args.plan.now)) c.args.list = found_is (plan_checks c.args.list (length c.args.plan.now)) c.args.list (plan_formed c.args.list (length c.args.plan.now))
+    c.whole_places-whole.result c.whole_places-whole.ensures
+    c.unchecked_windows.result c.unchecked_windows.ensures c.narrowed_after-found.result
+    (rw c.plan_checks-checks.ensures at c.narrowed_after-found.ensures) in
+    let planning : Planning (plan_checks c.args.list (length c.args.plan.now)) c.args.list c.args.plan.now c.whole_places-whole.result c.narrowed_after-found.result = is_planning c.narrowed_after-found.result (λ e. e) c.whole_places-whole.ensures (found)
+    c.in-Accepted.is in
+    plan_long (planning) c.unchecked_schedule-filled.ensures
+
+pub returns : goal.returns
+returns c =
+    let found : narrowed_of c.narrowed_after-found.result ≡ narrow_after (plan_checks c.args.list (length c.args.plan.now)) c.args.list = found_is (plan_checks c.args.list (length c.args.plan.now)) c.args.list (plan_formed c.args.list (length c.args.plan.now))
+    c.whole_places-whole.result c.whole_places-whole.ensures
+    c.unchecked_windows.result c.unchecked_windows.ensures c.narrowed_after-found.result
+    (rw c.plan_checks-checks.ensures at c.narrowed_after-found.ensures) in
+    let planning : Planning (plan_checks c.args.list (length c.args.plan.now)) c.args.list c.args.plan.now c.whole_places-whole.result c.narrowed_after-found.result = is_planning c.narrowed_after-found.result (λ e. e) c.whole_places-whole.ensures (found)
+    c.in-Accepted.is in
+    let after = narrows_after (plan_checks c.args.list (length c.args.plan.now)) c.args.list
+    (plan_formed c.args.list (length c.args.plan.now)) c.narrowed_after-found.result (found) c.answer_with.result
+    c.answer_with.ensures in
+    plan_done (planning) c.unchecked_schedule-filled.ensures c.broken_in-broken.ensures
+    c.bounds_of-bounds.ensures after

@@ -1,0 +1,51 @@
+-- The checks and narrowing may refuse; else the plan in the settled windows is stored.
+-- Assumes nothing.
+use borrow.Author.Rules.{rules}
+use mathlib.Core.Path.{◌≡◌}
+use lib.ListN.{length}
+use Rattle.base.proofs.Walk.{length_mapped}
+use Rattle.narrow.specs.Calls.{narrowed_of}
+use Rattle.planner.specs.Calls.{shown_checks, narrow_after}
+use Rattle.planner.proofs.CallCases.{shown_plan_lem, shown_formed, narrows_after, narrows_not, found_is, Planning, is_planning}
+use Rattle.planner.proofs.AnswerCases.{shown_refused, shown_place, shown_done}
+use Rattle.planner.proofs.calls.show_plan.Goals as goal
+
+pub returns-in_default : goal.returns-in_default
+returns-in_default c =
+    let found : narrowed_of c.narrowed_after-found.result ≡ narrow_after (shown_checks c.args.list c.args.k (length c.args.plan.now)) c.args.list = found_is (shown_checks c.args.list c.args.k (length c.args.plan.now)) c.args.list
+    (shown_formed c.args.list c.args.k (length c.args.plan.now)) c.whole_places-whole.result c.whole_places-whole.ensures
+    c.unchecked_windows.result c.unchecked_windows.ensures c.narrowed_after-found.result
+    (rw c.shown_checks-checks.ensures at c.narrowed_after-found.ensures) in
+    shown_refused c.args.shown
+    (narrows_not (shown_checks c.args.list c.args.k (length c.args.plan.now)) c.args.list
+    (shown_formed c.args.list c.args.k (length c.args.plan.now)) c.narrowed_after-found.result (found) c.refused_with.result
+    _ c.in_default.is
+    c.refused_with.ensures)
+    c.narrowed_after-found.result c.in_default.is (found)
+
+pub bounds-whole-k : goal.bounds-whole-k
+bounds-whole-k c =
+    let long : length c.args.list.entries ≡ 64 = search (rules, length_mapped) in
+    let found : narrowed_of c.narrowed_after-found.result ≡ narrow_after (shown_checks c.args.list c.args.k (length c.args.plan.now)) c.args.list = found_is (shown_checks c.args.list c.args.k (length c.args.plan.now)) c.args.list
+    (shown_formed c.args.list c.args.k (length c.args.plan.now)) c.whole_places-whole.result c.whole_places-whole.ensures
+    c.unchecked_windows.result c.unchecked_windows.ensures c.narrowed_after-found.result
+    (rw c.shown_checks-checks.ensures at c.narrowed_after-found.ensures) in
+    let planning : Planning (shown_checks c.args.list c.args.k (length c.args.plan.now)) c.args.list c.args.plan.now c.whole_places-whole.result c.narrowed_after-found.result = is_planning c.narrowed_after-found.result (λ e. (shown_plan_lem _ _ _ e).1) c.whole_places-whole.ensures
+    (found)
+    c.in-Accepted.is in
+    search (rules, shown_place (planning) (long))
+
+pub returns : goal.returns
+returns c =
+    let long : length c.args.list.entries ≡ 64 = search (rules, length_mapped) in
+    let found : narrowed_of c.narrowed_after-found.result ≡ narrow_after (shown_checks c.args.list c.args.k (length c.args.plan.now)) c.args.list = found_is (shown_checks c.args.list c.args.k (length c.args.plan.now)) c.args.list
+    (shown_formed c.args.list c.args.k (length c.args.plan.now)) c.whole_places-whole.result c.whole_places-whole.ensures
+    c.unchecked_windows.result c.unchecked_windows.ensures c.narrowed_after-found.result
+    (rw c.shown_checks-checks.ensures at c.narrowed_after-found.ensures) in
+    let planning : Planning (shown_checks c.args.list c.args.k (length c.args.plan.now)) c.args.list c.args.plan.now c.whole_places-whole.result c.narrowed_after-found.result = is_planning c.narrowed_after-found.result (λ e. (shown_plan_lem _ _ _ e).1) c.whole_places-whole.ensures
+    (found)
+    c.in-Accepted.is in
+    let after = narrows_after (shown_checks c.args.list c.args.k (length c.args.plan.now)) c.args.list
+    (shown_formed c.args.list c.args.k (length c.args.plan.now)) c.narrowed_after-found.result (found)
+    c.answer_with.result c.answer_with.ensures in
+    shown_done (planning) (long) c.store_plan-stored.ensures after
