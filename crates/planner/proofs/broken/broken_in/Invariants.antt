@@ -1,11 +1,9 @@
 -- The loop's invariant is `BrokenSoFar`, the measure what is left of the places.
 -- Assumes nothing.
-use borrow.Author.Rules.{rules}
-use Prim.Native.Nat.{◌+◌, ◌-◌, ◌<◌, ◌≤◌}
-use native.Mathlib.Omega.{arith}
+use Prim.Native.Nat.{◌-◌}
 use Rattle.list.specs.DayLists.{marked}
 use Rattle.windows.specs.Windows.{windows_in}
-use Rattle.planner.proofs.BrokenCases.{BrokenSoFar, counted_none, counted_next, counted_all}
+use Rattle.planner.proofs.BrokenCases.{BrokenSoFar}
 use Rattle.planner.proofs.broken.broken_in.Given as goal
 
 abbrev pub invariant-loop-i : goal.invariant-loop-i

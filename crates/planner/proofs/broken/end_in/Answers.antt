@@ -1,7 +1,7 @@
 -- The loop's invariant is `SoughtBack`, the measure the minutes left.
 -- Assumes nothing.
 use borrow.Author.Rules.{rules}
-use Rattle.planner.proofs.BrokenCases.{SoughtBack, back_none, back_next, back_found, back_all}
+use Rattle.planner.proofs.BrokenCases.{back_none, back_next, back_found, back_all}
 use Rattle.planner.proofs.broken.end_in.Goals as goal
 
 pub loop-t-init : goal.loop-t-init

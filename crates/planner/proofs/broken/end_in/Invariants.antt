@@ -1,7 +1,6 @@
 -- The loop's invariant is `SoughtBack`, the measure the minutes left.
 -- Assumes nothing.
-use borrow.Author.Rules.{rules}
-use Rattle.planner.proofs.BrokenCases.{SoughtBack, back_none, back_next, back_found, back_all}
+use Rattle.planner.proofs.BrokenCases.{SoughtBack}
 use Rattle.planner.proofs.broken.end_in.Given as goal
 
 abbrev pub invariant-loop-t : goal.invariant-loop-t

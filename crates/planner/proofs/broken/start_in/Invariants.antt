@@ -1,8 +1,7 @@
 -- The loop's invariant is `Sought`, the measure what is left of h.
 -- Assumes nothing.
-use borrow.Author.Rules.{rules}
 use Prim.Native.Nat.{◌-◌}
-use Rattle.planner.proofs.BrokenCases.{Sought, sought_none, sought_next, sought_found, sought_all}
+use Rattle.planner.proofs.BrokenCases.{Sought}
 use Rattle.planner.proofs.broken.start_in.Given as goal
 
 abbrev pub invariant-loop-t : goal.invariant-loop-t

@@ -1,6 +1,5 @@
 -- A refusal is handed on; else the windows are narrowed.
 -- Assumes nothing.
-use borrow.Author.Rules.{rules}
 use mathlib.Core.Path.{refl}
 use Rattle.planner.proofs.calls.narrowed_after.Goals as goal
 

@@ -1,6 +1,5 @@
 -- The value check, then row 11.
 -- Assumes nothing.
-use borrow.Author.Rules.{rules}
 use Rattle.planner.proofs.CallCases.{plan_failed, plan_buffer}
 use Rattle.planner.proofs.calls.plan_checks.Goals as goal
 

@@ -1,6 +1,5 @@
 -- The checks and narrowing may refuse; else the plan is stored, and the bounds are those of the settled windows.
 -- Assumes nothing.
-use borrow.Author.Rules.{rules}
 use mathlib.Core.Path.{◌≡◌, sym, ◌∙◌}
 use lib.ListN.{length}
 use Rattle.narrow.specs.Calls.{narrowed_of}

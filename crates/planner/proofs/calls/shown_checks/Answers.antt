@@ -1,6 +1,5 @@
 -- The value check, then rows 13 and 11.
 -- Assumes nothing.
-use borrow.Author.Rules.{rules}
 use Rattle.planner.proofs.CallCases.{shown_failed, place_unknown, place_known}
 use Rattle.planner.proofs.calls.shown_checks.Goals as goal
 
