@@ -18,6 +18,3 @@ mod RoomCases
 mod TurnCases
 pub mod EightRows
 pub mod LentTurns
--- A slice that is lent for a call, as the proofs that walk code by hand need it.
-mod Lending
-mod LendingFirst

@@ -1,0 +1,17 @@
+-- The search for the next unfinished room: what is left of it finds what all of it finds.
+-- Assumes nothing.
+use mathlib.Core.Path.{◌≡◌, sym, ◌∙◌, subst}
+use Prim.Native.Nat.{ℕ, ◌<◌}
+use borrow.Author.Rules.{rules}
+use Rattle.rooms.specs.Cycles.{next_from, next_unfinished}
+use Rattle.rooms.specs.Internal.{unfinished_in}
+use Rattle.rooms.proofs.CyclicOrder.{used_below, after_below}
+use Rattle.rooms.proofs.TurnCases.{search_found, search_passed, search_ended, search_starts}
+use Rattle.rooms.proofs.desk.next_unfinished.Given as goal
+
+abbrev pub invariant-loop-left : goal.invariant-loop-left
+invariant-loop-left l =
+    (l.at < l.n) × (next_unfinished (unfinished_in l.rows) l.n l.number ≡ next_from (unfinished_in l.rows) l.n l.left l.at)
+
+abbrev pub decreases-loop-left : goal.decreases-loop-left
+decreases-loop-left l = l.left

@@ -1,0 +1,7 @@
+-- A turn that stores no row.
+-- Assumes nothing.
+use borrow.Author.Rules.{rules}
+use Rattle.rooms.proofs.desk.not_taken.Goals as goal
+
+pub returns : goal.returns
+returns c = rw c.no_row-row.ensures

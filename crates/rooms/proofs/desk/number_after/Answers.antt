@@ -1,0 +1,11 @@
+-- The number after one.
+-- Assumes nothing.
+use borrow.Author.Rules.{rules}
+use Rattle.rooms.proofs.TurnCases.{after_more, after_zero}
+use Rattle.rooms.proofs.desk.number_after.Goals as goal
+
+pub returns-then-k-n : goal.returns-then-k-n
+returns-then-k-n c = after_more _ _ c.if-k-n.true
+
+pub returns : goal.returns
+returns c = after_zero _ _ c.if-k-n.false

@@ -1,0 +1,39 @@
+-- Rows 19 and 12, then a room has the turn, or nothing is unfinished.
+-- Assumes nothing.
+use borrow.Author.Rules.{rules}
+use Rattle.rooms.proofs.TurnCases.{answer_none, answer_many, answer_short, answer_took, answer_nothing}
+use Rattle.rooms.proofs.TurnCases.{takes_refused, takes_nothing, takes_room, share_lent}
+use Rattle.rooms.proofs.desk.take_turn.Goals as goal
+
+pub returns-then-n-eq0 : goal.returns-then-n-eq0
+returns-then-n-eq0 c =
+    takes_refused _ _ _ _ (λ i. (c.slice_known-1.given i).fits) _ c.not_taken.result
+    (answer_none _ _ c.args.number c.args.lists.now c.if-n-eq0.true) c.not_taken.ensures
+
+pub returns-then-n-gt-MOST_ROOMS : goal.returns-then-n-gt-MOST_ROOMS
+returns-then-n-gt-MOST_ROOMS c =
+    takes_refused _ _ _ _ (λ i. (c.slice_known-1.given i).fits) _ c.not_taken-then-n-gt-MOST_ROOMS.result
+    (answer_many _ _ c.args.number c.args.lists.now c.if-n-eq0.false c.if-n-gt-MOST_ROOMS.true)
+    c.not_taken-then-n-gt-MOST_ROOMS.ensures
+
+pub returns-then-lists-n : goal.returns-then-lists-n
+returns-then-lists-n c =
+    takes_refused _ _ _ _ (λ i. (c.slice_known-1.given i).fits) _ c.not_taken-then-lists-n.result
+    (answer_short _ _ c.args.number c.args.lists.now c.if-n-eq0.false c.if-n-gt-MOST_ROOMS.false c.if-lists-n.true)
+    c.not_taken-then-lists-n.ensures
+
+pub returns-then-at-n : goal.returns-then-at-n
+returns-then-at-n c =
+    let took =
+    answer_took _ _ c.args.number c.args.lists.now c.if-n-eq0.false c.if-n-gt-MOST_ROOMS.false c.if-lists-n.false
+    c.next_unfinished-at.result c.next_unfinished-at.ensures c.if-at-n.true in
+    takes_room _ _ _ _ (λ i. (c.slice_known-1.given i).fits) c.next_unfinished-at.result took _ _ c.room_round-out.result _ c.room_round-out.ensures
+    (share_lent c.args.lists.now c.next_unfinished-at.result) c.number_after-next.ensures
+
+pub returns : goal.returns
+returns c =
+    let none =
+    answer_nothing _ _ c.args.number c.args.lists.now c.if-n-eq0.false c.if-n-gt-MOST_ROOMS.false c.if-lists-n.false
+    c.next_unfinished-at.result c.next_unfinished-at.ensures c.if-at-n.false in
+    takes_nothing _ _ _ _ (λ i. (c.slice_known-1.given i).fits) _ c.not_taken-2.result none
+    c.number_used-used.ensures c.not_taken-2.ensures

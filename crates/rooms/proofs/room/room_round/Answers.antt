@@ -1,0 +1,35 @@
+-- A share that does not read, 9, 10, or a round that is made.
+-- Assumes nothing.
+use borrow.Author.Rules.{rules}
+use mathlib.Core.Path.{refl}
+use Rattle.rooms.proofs.RoomCases.{round_refused, unread_with, front_formed, tested_with, made_with, written_with, rounds_with}
+use Rattle.rooms.proofs.room.room_round.Goals as goal
+
+pub returns-in_default : goal.returns-in_default
+returns-in_default c =
+    round_refused c.args.row c.args.share.now c.read_front-read.result.verdict _ c.refused_room.result c.in_default.is c.refused_room.ensures
+    (unread_with c.args.row c.args.share.now c.read_front-read.result c.read_front-read.ensures _ c.in_default.is)
+
+pub first_test-test-requires : goal.first_test-test-requires
+first_test-test-requires c =
+    front_formed c.args.row c.args.share.now c.read_front-read.result c.read_front-read.ensures c.in-Accepted.is
+
+pub returns-in_default-test : goal.returns-in_default-test
+returns-in_default-test c =
+    round_refused c.args.row c.args.share.now c.first_test-test.result _ c.refused_room-in_default-test.result c.in_default-test.is c.refused_room-in_default-test.ensures
+    (tested_with c.args.row c.args.share.now c.read_front-read.result c.read_front-read.ensures c.in-Accepted.is c.first_test-test.result c.first_test-test.ensures _ c.in_default-test.is)
+
+pub returns-in_default-made : goal.returns-in_default-made
+returns-in_default-made c =
+    round_refused c.args.row c.args.share.now c.make_round-round.result.verdict _ c.refused_room-in_default-made.result c.in_default-made.is c.refused_room-in_default-made.ensures
+    (made_with c.args.row c.args.share.now c.read_front-read.result c.read_front-read.ensures c.in-Accepted.is c.first_test-test.result c.first_test-test.ensures c.in-Accepted-test.is
+    c.make_round-round.result c.make_round-round.ensures _ c.in_default-made.is)
+
+pub returns : goal.returns
+returns c =
+    let stored =
+    written_with c.args.row c.args.share.now c.read_front-read.result c.read_front-read.ensures c.in-Accepted.is c.first_test-test.result c.first_test-test.ensures c.in-Accepted-test.is
+    c.make_round-round.result c.make_round-round.ensures c.in-Accepted-made.is c.requires c.write.result c.write.new.out c.write.ensures in
+    rounds_with c.args.row c.args.share.now c.read_front-read.result c.read_front-read.ensures c.in-Accepted.is c.first_test-test.result c.first_test-test.ensures c.in-Accepted-test.is
+    c.make_round-round.result c.make_round-round.ensures c.in-Accepted-made.is _ _ stored c.stage_after.ensures c.count_on.ensures
+    c.count_on-2.ensures refl
