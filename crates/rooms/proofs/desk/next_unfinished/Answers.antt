@@ -1,10 +1,7 @@
 -- The search for the next unfinished room: what is left of it finds what all of it finds.
 -- Assumes nothing.
-use mathlib.Core.Path.{◌≡◌, sym, ◌∙◌, subst}
+use mathlib.Core.Path.{sym, ◌∙◌, subst}
 use Prim.Native.Nat.{ℕ, ◌<◌}
-use borrow.Author.Rules.{rules}
-use Rattle.rooms.specs.Cycles.{next_from, next_unfinished}
-use Rattle.rooms.specs.Internal.{unfinished_in}
 use Rattle.rooms.proofs.CyclicOrder.{used_below, after_below}
 use Rattle.rooms.proofs.TurnCases.{search_found, search_passed, search_ended, search_starts}
 use Rattle.rooms.proofs.desk.next_unfinished.Goals as goal

@@ -1,6 +1,5 @@
 -- A turn that stores no row.
 -- Assumes nothing.
-use borrow.Author.Rules.{rules}
 use Rattle.rooms.proofs.desk.not_taken.Goals as goal
 
 pub returns : goal.returns

@@ -1,6 +1,5 @@
 -- The number after one.
 -- Assumes nothing.
-use borrow.Author.Rules.{rules}
 use Rattle.rooms.proofs.TurnCases.{after_more, after_zero}
 use Rattle.rooms.proofs.desk.number_after.Goals as goal
 

@@ -1,6 +1,5 @@
 -- Rows 19 and 12, then a room has the turn, or nothing is unfinished.
 -- Assumes nothing.
-use borrow.Author.Rules.{rules}
 use Rattle.rooms.proofs.TurnCases.{answer_none, answer_many, answer_short, answer_took, answer_nothing}
 use Rattle.rooms.proofs.TurnCases.{takes_refused, takes_nothing, takes_room, share_lent}
 use Rattle.rooms.proofs.desk.take_turn.Goals as goal

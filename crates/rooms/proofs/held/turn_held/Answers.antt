@@ -1,7 +1,6 @@
 -- More than eight rooms, or `turn` over those held.
 -- Assumes nothing.
 use mathlib.Core.Path.{refl}
-use borrow.Author.Rules.{rules}
 use Rattle.rooms.proofs.LentTurns.{held_many, held_first}
 use Rattle.rooms.proofs.held.turn_held.Goals as goal
 

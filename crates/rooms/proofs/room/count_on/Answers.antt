@@ -1,6 +1,5 @@
 -- A count stays, stops, or is added to.
 -- Assumes nothing.
-use borrow.Author.Rules.{rules}
 use native.Mathlib.Omega.{arith}
 use Rattle.rooms.proofs.RoomCases.{count_kept, count_full, count_sum}
 use Rattle.rooms.proofs.room.count_on.Goals as goal

@@ -1,6 +1,5 @@
 -- The overload test of a fresh room.
 -- Assumes nothing.
-use borrow.Author.Rules.{rules}
 use Rattle.rooms.proofs.RoomCases.{test_fresh}
 use Rattle.rooms.proofs.room.first_test.Goals as goal
 

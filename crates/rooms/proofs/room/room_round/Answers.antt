@@ -1,6 +1,5 @@
 -- A share that does not read, 9, 10, or a round that is made.
 -- Assumes nothing.
-use borrow.Author.Rules.{rules}
 use mathlib.Core.Path.{refl}
 use Rattle.rooms.proofs.RoomCases.{round_refused, unread_with, front_formed, tested_with, made_with, written_with, rounds_with}
 use Rattle.rooms.proofs.room.room_round.Goals as goal
