@@ -1,0 +1,7 @@
+-- The empty list with stamp 0.
+-- Assumes nothing.
+use borrow.Author.Rules.{rules}
+use Rattle.commits.proofs.calls.no_day.Goals as goal
+
+pub returns : goal.returns
+returns c = rw c.empty_list.ensures

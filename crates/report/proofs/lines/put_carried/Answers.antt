@@ -1,0 +1,23 @@
+-- `lines::put_carried` meets its contract: the values that the number has.
+-- Assumes nothing.
+use borrow.Author.Rules.{rules}
+use borrow.Author.Tests.{eq-eqb, ne_eqb}
+use Rattle.report.specs.Text.{ascii}
+use Rattle.report.proofs.StepCases.{puts_then}
+use Rattle.report.proofs.lines.put_carried.Goals as goal
+
+pub returns-then-number-eq9 : goal.returns-then-number-eq9
+unfolding ascii
+returns-then-number-eq9 c =
+    rw c.if-number-eq9.true
+    (puts_then c.put_after-a.ensures (puts_then c.put_after-b.ensures c.put_after.ensures))
+
+pub returns-then-number-eq10 : goal.returns-then-number-eq10
+unfolding ascii
+returns-then-number-eq10 c =
+    simp (ne_eqb _ _ c.if-number-eq9.false, eq-eqb _ _ c.if-number-eq10.true) c.put_after-then-number-eq10.ensures
+
+pub returns : goal.returns
+unfolding ascii
+returns c =
+    simp (ne_eqb _ _ c.if-number-eq9.false, ne_eqb _ _ c.if-number-eq10.false) c.put_after-2.ensures

@@ -1,0 +1,13 @@
+-- `lines::put_run` meets its contract: its fields one after the other.
+-- Assumes nothing.
+use borrow.Author.Rules.{rules}
+use Rattle.report.specs.Text.{ascii, line}
+use Rattle.report.specs.Reports.{run_line}
+use Rattle.report.proofs.StepCases.{puts_then}
+use Rattle.report.proofs.lines.put_run.Goals as goal
+
+pub returns : goal.returns
+unfolding run_line line ascii
+returns c =
+    puts_then c.put_decimal-a.ensures (puts_then c.put_after-b.ensures (puts_then c.put_after-c.ensures
+    c.put_bytes.ensures))

@@ -1,0 +1,24 @@
+-- `lines::put_times_text` meets its contract: its fields one after the other.
+-- Assumes nothing.
+use borrow.Author.Rules.{rules}
+use mathlib.Core.Path.{◌∙◌}
+use Rattle.report.specs.Text.{ascii}
+use Rattle.report.proofs.CallCases.{times_put}
+use Rattle.report.proofs.lines.put_times_text.Goals as goal
+
+pub shape_of-out : goal.shape_of-out
+shape_of-out c =
+    c.put_bytes.auto.0
+    ∙ c.put_after-last.auto.0
+    ∙ c.put_after-d.auto.0
+    ∙ c.put_after-c.auto.0
+    ∙ c.put_after-b.auto.0
+    ∙ c.put_after-a.auto.0
+
+pub returns : goal.returns
+unfolding ascii
+returns c =
+    times_put c.args.e c.args.end c.args.start c.put_after-a.ensures c.put_after-b.ensures c.put_after-c.ensures
+    c.put_after-d.ensures
+    c.put_after-last.ensures
+    c.put_bytes.ensures

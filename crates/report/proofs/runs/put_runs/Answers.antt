@@ -1,0 +1,25 @@
+-- `runs::put_runs` meets its contract. The loop's invariant is `PutSoFar`, the measure what is left of the day.
+-- Assumes nothing.
+use borrow.Author.Rules.{rules}
+use Prim.Native.Nat.{◌-◌}
+use lib.ListN.{length}
+use Rattle.report.specs.Text.{texts}
+use Rattle.report.specs.Reports.{run_lines}
+use Rattle.report.specs.Internal.{run_text_at}
+use Rattle.report.proofs.StepCases.{PutSoFar, so_far_none, texts_next, texts_done}
+use Rattle.report.proofs.runs.put_runs.Goals as goal
+
+pub loop-t-init : goal.loop-t-init
+unfolding texts
+loop-t-init c = so_far_none _ _ _
+
+pub loop-t-preserved : goal.loop-t-preserved
+loop-t-preserved c =
+    texts_next (length c.args.plan.now) (run_text_at c.args.plan.now) c.loop-t.invariant c.loop-t-test.true c.put_run_at-next.auto.0 c.put_run_at-next.ensures
+
+pub shape_of-out : goal.shape_of-out
+shape_of-out c = c.loop-t.invariant.long
+
+pub returns : goal.returns
+unfolding run_lines
+returns c = texts_done _ _ c.loop-t.invariant c.loop-t-test.false

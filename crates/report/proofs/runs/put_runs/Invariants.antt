@@ -1,0 +1,16 @@
+-- `runs::put_runs` meets its contract. The loop's invariant is `PutSoFar`, the measure what is left of the day.
+-- Assumes nothing.
+use borrow.Author.Rules.{rules}
+use Prim.Native.Nat.{◌-◌}
+use lib.ListN.{length}
+use Rattle.report.specs.Text.{texts}
+use Rattle.report.specs.Reports.{run_lines}
+use Rattle.report.specs.Internal.{run_text_at}
+use Rattle.report.proofs.StepCases.{PutSoFar, so_far_none, texts_next, texts_done}
+use Rattle.report.proofs.runs.put_runs.Given as goal
+
+abbrev pub invariant-loop-t : goal.invariant-loop-t
+invariant-loop-t l = PutSoFar l.initial.out l.at (texts l.t (run_text_at l.plan)) l.out l.next l.t (length l.plan)
+
+abbrev pub decreases-loop-t : goal.decreases-loop-t
+decreases-loop-t l = length l.plan - l.t

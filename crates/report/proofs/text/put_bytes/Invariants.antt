@@ -1,0 +1,13 @@
+-- `text::put_bytes` meets its contract. The loop's invariant is `PutSoFar`, the measure what is left of the text.
+-- Assumes nothing.
+use borrow.Author.Rules.{rules}
+use Prim.Native.Nat.{◌-◌}
+use lib.ListN.{length, take}
+use Rattle.report.proofs.StepCases.{PutSoFar, so_far_none, bytes_next, bytes_done}
+use Rattle.report.proofs.text.put_bytes.Given as goal
+
+abbrev pub invariant-loop-i : goal.invariant-loop-i
+invariant-loop-i l = PutSoFar l.initial.out l.at (take l.i l.text) l.out l.next l.i (length l.text)
+
+abbrev pub decreases-loop-i : goal.decreases-loop-i
+decreases-loop-i l = length l.text - l.i

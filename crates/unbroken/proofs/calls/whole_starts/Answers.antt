@@ -1,0 +1,23 @@
+-- The loop's invariant is `Placed`, the measure what is left of the places.
+-- Assumes nothing.
+use borrow.Author.Rules.{rules}
+use mathlib.Core.Bool.{cond}
+use Prim.Native.Nat.{◌-◌}
+use native.Mathlib.Omega.{arith}
+use Rattle.list.specs.DayLists.{marked}
+use Rattle.list.proofs.ByPlace.{Placed, placed_none, placed_next, placed_all}
+use Rattle.windows.specs.Windows.{windows_in}
+use Rattle.unbroken.proofs.calls.whole_starts.Goals as goal
+
+pub loop-i-init : goal.loop-i-init
+loop-i-init c = placed_none _ _ _ (omega arith) c.zeros-starts.ensures
+
+pub loop-i-preserved : goal.loop-i-preserved
+loop-i-preserved c =
+    placed_next _ _ _ _ _ c.loop-i.invariant
+    (omega (arith, c.loop-i-test.true, c.places_held-count.ensures))
+    c.start_of_lem.ensures
+
+pub returns : goal.returns
+returns c =
+    placed_all _ _ _ _ c.loop-i.invariant (omega (arith, c.loop-i-test.false, c.places_held-count.ensures))
