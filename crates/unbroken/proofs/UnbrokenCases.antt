@@ -20,6 +20,7 @@ use Rattle.list.proofs.ByPlace.{by_place_lem}
 use Rattle.windows.specs.Windows.{Windows, windows_of, windows_in}
 use Rattle.windows.specs.Intervals.{overload_of}
 use Rattle.windows.proofs.FormedLists.{list_formed}
+use Rattle.jackson.specs.Calls.{buffer_fault, plan_after}
 use Rattle.jackson.specs.Minutes.{schedule}
 use Rattle.jackson.proofs.Schedules.{schedule_long}
 use Rattle.narrow.specs.declared.types.NarrowAnswer.{NarrowAnswer}
@@ -31,7 +32,7 @@ use Rattle.planner.proofs.SettledPlans.{plan_law}
 use Rattle.planner.proofs.CallCases.{plan_formed, plan_room, after_checks, settled_in, IsSettled, is_settled, settled_few, settled_day}
 use Rattle.backtracking.specs.Searches.{Search, found, none, spent, trials_of, search_within}
 use Rattle.backtracking.specs.Laws.{with_starts, LeastDay, FoundLaw, UnbrokenLaw}
-use Rattle.backtracking.specs.Calls.{ending_of, windows_after, AnswersSearch}
+use Rattle.backtracking.specs.Calls.{ending_of, windows_after, is_found, AnswersSearch}
 use Rattle.backtracking.specs.declared.types.Ending.TheVariants.{DayFound, TrialsSpent}
 use Rattle.backtracking.specs.declared.types.SearchAnswer.{SearchAnswer}
 use Rattle.backtracking.proofs.UnbrokenLaws.{settled_law, refused_none}
@@ -123,7 +124,9 @@ module _ (l : DayList) (limit : ℕ) (old : List ℕ) (n : NarrowAnswer) (after 
       go : (y : Search) → x ≡ y → s.ending ≡ ending_of y → windows_in s.windows ≡ windows_after v y → new ≡ found_after old y
       go (found u t) is e q =
           let fits = le-ltb (length old) u.h (omega (arith, has_room, found_day u t is)) in
-          stores ∙ rw (e, q, fits) refl
+          stores
+          ∙ (λ j. cond (is_found (e j)) (plan_after (buffer_fault (q j).h (length old)) (q j) old) old)
+          ∙ rw fits refl
       go (none t) is e q = stores ∙ rw e refl
       go (spent t) is e q = stores ∙ rw e refl
 

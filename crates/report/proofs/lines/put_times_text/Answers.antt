@@ -8,12 +8,12 @@ use Rattle.report.proofs.lines.put_times_text.Goals as goal
 
 pub shape_of-out : goal.shape_of-out
 shape_of-out c =
-    c.put_bytes.auto.0
-    ∙ c.put_after-last.auto.0
-    ∙ c.put_after-d.auto.0
-    ∙ c.put_after-c.auto.0
-    ∙ c.put_after-b.auto.0
-    ∙ c.put_after-a.auto.0
+    c.put_bytes.auto.out
+    ∙ c.put_after-last.auto.out
+    ∙ c.put_after-d.auto.out
+    ∙ c.put_after-c.auto.out
+    ∙ c.put_after-b.auto.out
+    ∙ c.put_after-a.auto.out
 
 pub returns : goal.returns
 unfolding ascii

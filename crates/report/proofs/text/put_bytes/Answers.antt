@@ -11,7 +11,7 @@ loop-i-init c = so_far_none _ _ _
 
 pub loop-i-preserved : goal.loop-i-preserved
 loop-i-preserved c =
-    bytes_next c.args.text.now c.loop-i.invariant c.loop-i-test.true c.put_byte-next.auto.0 c.put_byte-next.ensures
+    bytes_next c.args.text.now c.loop-i.invariant c.loop-i-test.true c.put_byte-next.auto.out c.put_byte-next.ensures
 
 pub shape_of-out : goal.shape_of-out
 shape_of-out c = c.loop-i.invariant.long

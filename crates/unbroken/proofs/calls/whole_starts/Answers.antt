@@ -16,7 +16,7 @@ pub loop-i-preserved : goal.loop-i-preserved
 loop-i-preserved c =
     placed_next _ _ _ _ _ c.loop-i.invariant
     (omega (arith, c.loop-i-test.true, c.places_held-count.ensures))
-    c.start_of_lem.ensures
+    c.start_of.ensures
 
 pub returns : goal.returns
 returns c =
