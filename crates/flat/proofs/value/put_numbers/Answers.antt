@@ -1,0 +1,24 @@
+-- The loop's invariant is `NumbersPut`, the measure what is left of 64.
+-- Assumes nothing.
+use borrow.Author.Rules.{rules}
+use mathlib.Core.Path.{◌≡◌}
+use Prim.Native.Nat.{◌-◌}
+use lib.ListN.{length}
+use Rattle.base.proofs.Walk.{length_mapped}
+use Rattle.flat.proofs.FlatCases.{NumbersPut, numbers_start, numbers_next, numbers_done}
+use Rattle.flat.proofs.value.put_numbers.Goals as goal
+
+pub loop-i-init : goal.loop-i-init
+loop-i-init c =
+    let k : length c.args.list.entries ≡ 64 = search (rules, length_mapped) in
+    numbers_start c.args.list c.args.fields.now c.requires k
+
+pub loop-i-preserved : goal.loop-i-preserved
+loop-i-preserved c =
+    let k : length c.args.list.entries ≡ 64 = search (rules, length_mapped) in
+    numbers_next c.loop-i.invariant k _ _ c.loop-i-test.true c.put_entry_numbers.ensures
+
+pub returns : goal.returns
+returns c =
+    let k : length c.args.list.entries ≡ 64 = search (rules, length_mapped) in
+    numbers_done c.loop-i.invariant k c.loop-i-test.false
