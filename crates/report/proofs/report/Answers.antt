@@ -1,6 +1,5 @@
 -- `report` meets its contract.
 -- Assumes nothing.
-use borrow.Author.Rules.{rules}
 use mathlib.Core.Path.{refl, sym}
 use lib.Seq.{length-take-le}
 use Rattle.report.proofs.PromiseCases.{text_fits, report_stored, report_refused}

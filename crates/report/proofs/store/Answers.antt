@@ -1,6 +1,5 @@
 -- `store` meets its contract.
 -- Assumes nothing.
-use borrow.Author.Rules.{rules}
 use Rattle.report.proofs.PromiseCases.{store_short, store_whole}
 use Rattle.report.proofs.store.Goals as goal
 

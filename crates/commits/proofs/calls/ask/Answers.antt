@@ -1,6 +1,5 @@
 -- Row 18, then planning the longer list.
 -- Assumes nothing.
-use borrow.Author.Rules.{rules}
 use mathlib.Core.Path.{refl}
 use Rattle.commits.proofs.RowFacts.{ask_passed}
 use Rattle.commits.proofs.calls.ask.Goals as goal

@@ -1,6 +1,5 @@
 -- Row 18 holds or not.
 -- Assumes nothing.
-use borrow.Author.Rules.{rules}
 use mathlib.Core.Path.{sym}
 use Rattle.commits.proofs.RowFacts.{ask_room, ask_full}
 use Rattle.commits.proofs.calls.ask_fault.Goals as goal

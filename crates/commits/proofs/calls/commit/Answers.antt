@@ -1,6 +1,5 @@
 -- Rows 17 and 18, then planning the longer list, and the day after it.
 -- Assumes nothing.
-use borrow.Author.Rules.{rules}
 use mathlib.Core.Path.{refl, ◌∙◌}
 use Rattle.commits.specs.Calls.{commit_fault}
 use Rattle.commits.proofs.RowFacts.{commit_passed}

@@ -1,6 +1,5 @@
 -- Row 17, or what an ask tests.
 -- Assumes nothing.
-use borrow.Author.Rules.{rules}
 use mathlib.Core.Path.{sym, ◌∙◌}
 use Rattle.commits.proofs.RowFacts.{stamp_right, stamp_stale}
 use Rattle.commits.proofs.calls.commit_fault.Goals as goal

@@ -1,6 +1,5 @@
 -- The longer list and the next stamp, or the day as it was.
 -- Assumes nothing.
-use borrow.Author.Rules.{rules}
 use mathlib.Core.Path.{refl, ap}
 use Rattle.list.specs.Refusals.{verdict_of}
 use Rattle.commits.proofs.calls.day_after.Goals as goal

@@ -1,6 +1,5 @@
 -- The list that was narrowed, or its refusal.
 -- Assumes nothing.
-use borrow.Author.Rules.{rules}
 use Rattle.commits.proofs.CallCases.{fresh_refused, fresh_made}
 use Rattle.commits.proofs.calls.fresh_day.Goals as goal
 

@@ -1,6 +1,5 @@
 -- The empty list with stamp 0.
 -- Assumes nothing.
-use borrow.Author.Rules.{rules}
 use Rattle.commits.proofs.calls.no_day.Goals as goal
 
 pub returns : goal.returns

@@ -1,6 +1,5 @@
 -- The rows before may refuse; else the longer list is planned.
 -- Assumes nothing.
-use borrow.Author.Rules.{rules}
 use mathlib.Core.Path.{ap}
 use Rattle.list.specs.Refusals.{verdict_of}
 use Rattle.commits.proofs.CallCases.{longer_refused, longer_planned}

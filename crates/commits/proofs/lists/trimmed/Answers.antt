@@ -2,12 +2,11 @@
 -- Assumes nothing.
 use borrow.Author.Rules.{rules}
 use mathlib.Core.Path.{◌≡◌, ap}
-use Prim.Native.Nat.{◌-◌}
 use native.Mathlib.Omega.{arith}
 use lib.ListN.{length}
 use Rattle.list.specs.declared.types.DayList.{DayList}
 use Rattle.base.proofs.Walk.{length_mapped}
-use Rattle.commits.proofs.ListCases.{Copied, copied_none, copied_next, copied_all}
+use Rattle.commits.proofs.ListCases.{copied_none, copied_next, copied_all}
 use Rattle.commits.proofs.lists.trimmed.Goals as goal
 
 pub loop-i-init : goal.loop-i-init

@@ -1,6 +1,5 @@
 -- The length decides.
 -- Assumes nothing.
-use borrow.Author.Rules.{rules}
 use Rattle.list.proofs.Verdicts.{by_accepted}
 use Rattle.flat.proofs.LengthCases.{length_right}
 use Rattle.flat.proofs.DayCases.{day_read, day_refused}

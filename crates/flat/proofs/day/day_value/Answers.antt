@@ -1,6 +1,5 @@
 -- The list in the first numbers, and the stamp after them.
 -- Assumes nothing.
-use borrow.Author.Rules.{rules}
 use mathlib.Core.Path.{sym}
 use Rattle.flat.proofs.DayCases.{front_long}
 use Rattle.flat.proofs.day.day_value.Goals as goal

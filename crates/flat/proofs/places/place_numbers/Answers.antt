@@ -2,10 +2,9 @@
 -- Assumes nothing.
 use borrow.Author.Rules.{rules}
 use mathlib.Core.Path.{◌≡◌, refl, ◌∙◌}
-use Prim.Native.Nat.{◌-◌}
 use native.Mathlib.Omega.{arith}
-use lib.ListN.{length, get_or}
-use Rattle.list.proofs.ByPlace.{Placed, placed_none, placed_next, placed_all}
+use lib.ListN.{length}
+use Rattle.list.proofs.ByPlace.{placed_none, placed_next, placed_all}
 use Rattle.flat.proofs.PlacesCases.{places_all}
 use Rattle.flat.proofs.places.place_numbers.Goals as goal
 

@@ -1,12 +1,8 @@
 -- The loop's invariant is `Placed`, the measure what is left of 64.
 -- Assumes nothing.
-use borrow.Author.Rules.{rules}
-use mathlib.Core.Path.{◌≡◌, refl, ◌∙◌}
 use Prim.Native.Nat.{◌-◌}
-use native.Mathlib.Omega.{arith}
-use lib.ListN.{length, get_or}
-use Rattle.list.proofs.ByPlace.{Placed, placed_none, placed_next, placed_all}
-use Rattle.flat.proofs.PlacesCases.{places_all}
+use lib.ListN.{get_or}
+use Rattle.list.proofs.ByPlace.{Placed}
 use Rattle.flat.proofs.places.place_numbers.Given as goal
 
 abbrev pub invariant-loop-i : goal.invariant-loop-i

@@ -2,9 +2,8 @@
 -- Assumes nothing.
 use borrow.Author.Rules.{rules}
 use mathlib.Core.Path.{◌≡◌}
-use Prim.Native.Nat.{◌-◌}
 use lib.ListN.{length}
-use Rattle.flat.proofs.PlacesCases.{PlacesSoFar, places_start, places_next, places_done}
+use Rattle.flat.proofs.PlacesCases.{places_start, places_next, places_done}
 use Rattle.flat.proofs.places.put_places.Goals as goal
 
 pub loop-i-init : goal.loop-i-init

@@ -1,10 +1,7 @@
 -- The loop's invariant is `PlacesSoFar`, the measure what is left of 64.
 -- Assumes nothing.
-use borrow.Author.Rules.{rules}
-use mathlib.Core.Path.{◌≡◌}
 use Prim.Native.Nat.{◌-◌}
-use lib.ListN.{length}
-use Rattle.flat.proofs.PlacesCases.{PlacesSoFar, places_start, places_next, places_done}
+use Rattle.flat.proofs.PlacesCases.{PlacesSoFar}
 use Rattle.flat.proofs.places.put_places.Given as goal
 
 abbrev pub invariant-loop-i : goal.invariant-loop-i

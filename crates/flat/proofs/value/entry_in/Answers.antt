@@ -1,6 +1,5 @@
 -- Field by field.
 -- Assumes nothing.
-use borrow.Author.Rules.{rules}
 use Rattle.flat.proofs.FlatCases.{entry_in_is}
 use Rattle.flat.proofs.value.entry_in.Goals as goal
 

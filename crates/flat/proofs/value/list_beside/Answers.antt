@@ -1,6 +1,5 @@
 -- The row given, then the length of the one lent.
 -- Assumes nothing.
-use borrow.Author.Rules.{rules}
 use Rattle.flat.proofs.LengthCases.{beside_bad_length, beside_refused, beside_read}
 use Rattle.flat.proofs.value.list_beside.Goals as goal
 

@@ -2,10 +2,9 @@
 -- Assumes nothing.
 use borrow.Author.Rules.{rules}
 use mathlib.Core.Path.{◌≡◌}
-use Prim.Native.Nat.{◌-◌}
 use lib.ListN.{length}
 use Rattle.base.proofs.Walk.{length_mapped}
-use Rattle.flat.proofs.FlatCases.{NumbersPut, numbers_start, numbers_next, numbers_done}
+use Rattle.flat.proofs.FlatCases.{numbers_start, numbers_next, numbers_done}
 use Rattle.flat.proofs.value.put_numbers.Goals as goal
 
 pub loop-i-init : goal.loop-i-init

@@ -1,11 +1,7 @@
 -- The loop's invariant is `NumbersPut`, the measure what is left of 64.
 -- Assumes nothing.
-use borrow.Author.Rules.{rules}
-use mathlib.Core.Path.{◌≡◌}
 use Prim.Native.Nat.{◌-◌}
-use lib.ListN.{length}
-use Rattle.base.proofs.Walk.{length_mapped}
-use Rattle.flat.proofs.FlatCases.{NumbersPut, numbers_start, numbers_next, numbers_done}
+use Rattle.flat.proofs.FlatCases.{NumbersPut}
 use Rattle.flat.proofs.value.put_numbers.Given as goal
 
 abbrev pub invariant-loop-i : goal.invariant-loop-i

@@ -1,8 +1,7 @@
 -- The loop's invariant is `ReadInSoFar`, the measure what is left of 64.
 -- Assumes nothing.
-use borrow.Author.Rules.{rules}
 use Prim.Native.Nat.{◌-◌}
-use Rattle.flat.proofs.FlatCases.{ReadInSoFar, read_in_start, read_in_next, read_in_done}
+use Rattle.flat.proofs.FlatCases.{ReadInSoFar}
 use Rattle.flat.proofs.value.value_in.Given as goal
 
 abbrev pub invariant-loop-i : goal.invariant-loop-i

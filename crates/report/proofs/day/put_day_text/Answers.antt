@@ -1,6 +1,5 @@
 -- `day::put_day` meets its contract: head, entries and runs.
 -- Assumes nothing.
-use borrow.Author.Rules.{rules}
 use Rattle.report.proofs.StepCases.{puts_then}
 use Rattle.report.proofs.day.put_day_text.Goals as goal
 

@@ -1,13 +1,12 @@
 -- `day::put_entries` meets its contract. The loop's invariant is `PutSoFar`, the measure what is left of n.
 -- Assumes nothing.
-use borrow.Author.Rules.{rules}
 use mathlib.Core.List.{List}
-use Prim.Native.Nat.{ℕ, ◌-◌}
+use Prim.Native.Nat.{ℕ}
 use lib.ListN.{get_or}
 use Rattle.list.specs.declared.types.DayList.{DayList}
 use Rattle.report.specs.Text.{texts}
 use Rattle.report.specs.Reports.{entry_line_at, entry_lines}
-use Rattle.report.proofs.StepCases.{PutSoFar, so_far_none, texts_next, texts_done}
+use Rattle.report.proofs.StepCases.{so_far_none, texts_next, texts_done}
 use Rattle.report.proofs.CallCases.{entry_put}
 use Rattle.report.proofs.day.put_entries.Goals as goal
 

@@ -1,6 +1,5 @@
 -- `day::put_planned` meets its contract.
 -- Assumes nothing.
-use borrow.Author.Rules.{rules}
 use mathlib.Core.Path.{refl}
 use Rattle.report.proofs.DayCases.{answered_few, bytes_long, bytes_room, answered_put, refused_is}
 use Rattle.report.proofs.day.put_planned.Goals as goal

@@ -1,6 +1,5 @@
 -- `day::put_report` meets its contract.
 -- Assumes nothing.
-use borrow.Author.Rules.{rules}
 use Rattle.report.proofs.DayCases.{read_formed, read_put, unread_is}
 use Rattle.report.proofs.day.put_report.Goals as goal
 

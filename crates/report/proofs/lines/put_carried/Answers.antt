@@ -1,6 +1,5 @@
 -- `lines::put_carried` meets its contract: the values that the number has.
 -- Assumes nothing.
-use borrow.Author.Rules.{rules}
 use borrow.Author.Tests.{eq-eqb, ne_eqb}
 use Rattle.report.specs.Text.{ascii}
 use Rattle.report.proofs.StepCases.{puts_then}

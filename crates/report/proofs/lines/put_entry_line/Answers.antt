@@ -1,6 +1,5 @@
 -- `lines::put_entry_line` meets its contract: its fields one after the other.
 -- Assumes nothing.
-use borrow.Author.Rules.{rules}
 use Rattle.report.specs.Text.{ascii, line}
 use Rattle.report.specs.Reports.{entry_line}
 use Rattle.report.proofs.StepCases.{puts_then}

@@ -1,6 +1,5 @@
 -- `lines::put_kind_text` meets its contract.
 -- Assumes nothing.
-use borrow.Author.Rules.{rules}
 use Rattle.report.specs.Text.{ascii}
 use Rattle.report.proofs.lines.put_kind_text.Goals as goal
 

@@ -1,6 +1,5 @@
 -- `lines::put_refusal` meets its contract.
 -- Assumes nothing.
-use borrow.Author.Rules.{rules}
 use Rattle.report.specs.Text.{ascii}
 use Rattle.report.proofs.StepCases.{puts_then}
 use Rattle.report.proofs.CallCases.{refusal_put}

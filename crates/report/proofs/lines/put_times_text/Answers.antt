@@ -1,6 +1,5 @@
 -- `lines::put_times_text` meets its contract: its fields one after the other.
 -- Assumes nothing.
-use borrow.Author.Rules.{rules}
 use mathlib.Core.Path.{◌∙◌}
 use Rattle.report.specs.Text.{ascii}
 use Rattle.report.proofs.CallCases.{times_put}

@@ -1,6 +1,5 @@
 -- `runs::begins_run` meets its contract.
 -- Assumes nothing.
-use borrow.Author.Rules.{rules}
 use Rattle.report.proofs.RunCases.{begins_idle, begins_first, begins_later}
 use Rattle.report.proofs.runs.begins_run.Goals as goal
 

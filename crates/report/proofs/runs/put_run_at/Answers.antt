@@ -1,6 +1,5 @@
 -- `runs::put_run_at` meets its contract.
 -- Assumes nothing.
-use borrow.Author.Rules.{rules}
 use mathlib.Core.Path.{sym, ◌∙◌}
 use Rattle.report.proofs.CallCases.{run_put, run_none}
 use Rattle.report.proofs.runs.put_run_at.Goals as goal

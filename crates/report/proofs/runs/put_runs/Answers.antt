@@ -1,12 +1,10 @@
 -- `runs::put_runs` meets its contract. The loop's invariant is `PutSoFar`, the measure what is left of the day.
 -- Assumes nothing.
-use borrow.Author.Rules.{rules}
-use Prim.Native.Nat.{◌-◌}
 use lib.ListN.{length}
 use Rattle.report.specs.Text.{texts}
 use Rattle.report.specs.Reports.{run_lines}
 use Rattle.report.specs.Internal.{run_text_at}
-use Rattle.report.proofs.StepCases.{PutSoFar, so_far_none, texts_next, texts_done}
+use Rattle.report.proofs.StepCases.{so_far_none, texts_next, texts_done}
 use Rattle.report.proofs.runs.put_runs.Goals as goal
 
 pub loop-t-init : goal.loop-t-init

@@ -1,9 +1,6 @@
 -- `runs::run_end` meets its contract. The loop's invariant is `Extends`, the measure what is left of the day.
 -- Assumes nothing.
-use borrow.Author.Rules.{rules}
-use Prim.Native.Nat.{◌-◌}
-use lib.ListN.{length}
-use Rattle.report.proofs.RunCases.{Extends, extends_none, extends_next, ends_day, ends_here}
+use Rattle.report.proofs.RunCases.{extends_none, extends_next, ends_day, ends_here}
 use Rattle.report.proofs.runs.run_end.Goals as goal
 
 pub loop-e-init : goal.loop-e-init

@@ -1,6 +1,5 @@
 -- `text::put_after` meets its contract: the text, then the number.
 -- Assumes nothing.
-use borrow.Author.Rules.{rules}
 use Rattle.report.proofs.StepCases.{puts_then}
 use Rattle.report.proofs.text.put_after.Goals as goal
 

@@ -1,6 +1,5 @@
 -- `text::put_byte` meets its contract.
 -- Assumes nothing.
-use borrow.Author.Rules.{rules}
 use Rattle.report.proofs.StepCases.{puts_one, puts_none}
 use Rattle.report.proofs.text.put_byte.Goals as goal
 

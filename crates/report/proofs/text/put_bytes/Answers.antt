@@ -1,9 +1,6 @@
 -- `text::put_bytes` meets its contract. The loop's invariant is `PutSoFar`, the measure what is left of the text.
 -- Assumes nothing.
-use borrow.Author.Rules.{rules}
-use Prim.Native.Nat.{◌-◌}
-use lib.ListN.{length, take}
-use Rattle.report.proofs.StepCases.{PutSoFar, so_far_none, bytes_next, bytes_done}
+use Rattle.report.proofs.StepCases.{so_far_none, bytes_next, bytes_done}
 use Rattle.report.proofs.text.put_bytes.Goals as goal
 
 pub loop-i-init : goal.loop-i-init

@@ -1,9 +1,8 @@
 -- `text::put_bytes` meets its contract. The loop's invariant is `PutSoFar`, the measure what is left of the text.
 -- Assumes nothing.
-use borrow.Author.Rules.{rules}
 use Prim.Native.Nat.{◌-◌}
 use lib.ListN.{length, take}
-use Rattle.report.proofs.StepCases.{PutSoFar, so_far_none, bytes_next, bytes_done}
+use Rattle.report.proofs.StepCases.{PutSoFar}
 use Rattle.report.proofs.text.put_bytes.Given as goal
 
 abbrev pub invariant-loop-i : goal.invariant-loop-i

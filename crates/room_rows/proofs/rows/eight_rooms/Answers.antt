@@ -1,6 +1,5 @@
 -- Eight rooms, one after the other.
 -- Assumes nothing.
-use borrow.Author.Rules.{rules}
 use Rattle.room_rows.proofs.rows.eight_rooms.Goals as goal
 
 pub returns : goal.returns

@@ -1,6 +1,5 @@
 -- A room as its numbers say it.
 -- Assumes nothing.
-use borrow.Author.Rules.{rules}
 use mathlib.Core.Path.{◌∙◌}
 use Rattle.room_rows.proofs.RoomTrip.{room_past}
 use Rattle.room_rows.proofs.RowCases.{room_read}

@@ -1,6 +1,5 @@
 -- Row 100.
 -- Assumes nothing.
-use borrow.Author.Rules.{rules}
 use Rattle.room_rows.proofs.RowCases.{fault_none, fault_over}
 use Rattle.room_rows.proofs.rows.rooms_fault.Goals as goal
 

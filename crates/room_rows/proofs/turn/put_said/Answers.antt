@@ -1,6 +1,5 @@
 -- A room's refusal as numbers.
 -- Assumes nothing.
-use borrow.Author.Rules.{rules}
 use mathlib.Core.Path.{refl}
 use Rattle.room_rows.proofs.RowCases.{carried_none, carried_some}
 use Rattle.room_rows.proofs.turn.put_said.Goals as goal

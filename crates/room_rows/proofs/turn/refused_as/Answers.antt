@@ -1,6 +1,5 @@
 -- The turn's own refusal as numbers.
 -- Assumes nothing.
-use borrow.Author.Rules.{rules}
 use Rattle.room_rows.proofs.turn.refused_as.Goals as goal
 
 pub returns : goal.returns

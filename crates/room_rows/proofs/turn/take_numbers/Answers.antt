@@ -2,7 +2,6 @@
 -- Assumes nothing.
 use mathlib.Core.Path.{refl}
 use native.Mathlib.Omega.{arith}
-use borrow.Author.Rules.{rules}
 use Rattle.list.specs.Machine.{Bytes}
 use Rattle.room_rows.proofs.TurnCases.{turn_refused, turn_nothing, in_eight, inside, turn_taken}
 use Rattle.room_rows.proofs.turn.take_numbers.Goals as goal

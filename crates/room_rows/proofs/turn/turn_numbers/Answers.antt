@@ -1,6 +1,5 @@
 -- Row 100, then the turn.
 -- Assumes nothing.
-use borrow.Author.Rules.{rules}
 use Rattle.room_rows.proofs.TurnCases.{numbers_turned, numbers_no_rows}
 use Rattle.room_rows.proofs.turn.turn_numbers.Goals as goal
 

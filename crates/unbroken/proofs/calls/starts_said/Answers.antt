@@ -1,6 +1,5 @@
 -- The starts are those found, or 0 for each place.
 -- Assumes nothing.
-use borrow.Author.Rules.{rules}
 use mathlib.Core.Path.{sym, ◌∙◌}
 use Rattle.unbroken.proofs.calls.starts_said.Goals as goal
 

@@ -1,6 +1,5 @@
 -- The schedule is stored where a day was found.
 -- Assumes nothing.
-use borrow.Author.Rules.{rules}
 use mathlib.Core.Path.{sym, ◌∙◌}
 use Rattle.unbroken.proofs.calls.store_found.Goals as goal
 

@@ -1,6 +1,5 @@
 -- The checks and narrowing may refuse; else what the search in the settled windows says is answered, and a day that is found is stored.
 -- Assumes nothing.
-use borrow.Author.Rules.{rules}
 use mathlib.Core.Path.{◌∙◌}
 use lib.ListN.{length}
 use Rattle.list.specs.DayLists.{whole_in}

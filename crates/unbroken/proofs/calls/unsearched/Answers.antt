@@ -1,6 +1,5 @@
 -- The refusal with what stands beside it.
 -- Assumes nothing.
-use borrow.Author.Rules.{rules}
 use Rattle.unbroken.proofs.calls.unsearched.Goals as goal
 
 pub returns : goal.returns

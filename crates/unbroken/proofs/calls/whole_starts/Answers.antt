@@ -1,12 +1,7 @@
 -- The loop's invariant is `Placed`, the measure what is left of the places.
 -- Assumes nothing.
-use borrow.Author.Rules.{rules}
-use mathlib.Core.Bool.{cond}
-use Prim.Native.Nat.{◌-◌}
 use native.Mathlib.Omega.{arith}
-use Rattle.list.specs.DayLists.{marked}
-use Rattle.list.proofs.ByPlace.{Placed, placed_none, placed_next, placed_all}
-use Rattle.windows.specs.Windows.{windows_in}
+use Rattle.list.proofs.ByPlace.{placed_none, placed_next, placed_all}
 use Rattle.unbroken.proofs.calls.whole_starts.Goals as goal
 
 pub loop-i-init : goal.loop-i-init
