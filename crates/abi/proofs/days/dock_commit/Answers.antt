@@ -1,0 +1,33 @@
+-- What the commit answered, as numbers, and the day after it.
+-- Assumes nothing.
+use borrow.Author.Rules.{rules}
+use Rattle.abi.proofs.DayCases.{DayGiven, is_given, commit_bad_rows, commit_said}
+use Rattle.abi.proofs.days.dock_commit.Goals as goal
+
+pub returns-in_default : goal.returns-in_default
+returns-in_default c =
+    commit_bad_rows c.args.day.now c.args.entry.now c.args.narrowed.now c.day_beside-given.result c.day_beside-given.ensures _
+    c.in_default.is _ c.verdict_as.ensures c.args.plan.now c.args.bounds.now c.args.stamp
+
+pub entry_given-e-requires : goal.entry_given-e-requires
+entry_given-e-requires c =
+    let given : DayGiven c.args.day.now c.args.entry.now c.args.narrowed.now c.day_beside-given.result.day = is_given c.args.day.now c.args.entry.now c.args.narrowed.now c.day_beside-given.result c.day_beside-given.ensures c.in-Accepted.is in
+    (given).entry
+
+pub give_day-requires : goal.give_day-requires
+give_day-requires c =
+    let given : DayGiven c.args.day.now c.args.entry.now c.args.narrowed.now c.day_beside-given.result.day = is_given c.args.day.now c.args.entry.now c.args.narrowed.now c.day_beside-given.result c.day_beside-given.ensures c.in-Accepted.is in
+    (given).row
+
+pub give_planned-requires : goal.give_planned-requires
+give_planned-requires c =
+    let given : DayGiven c.args.day.now c.args.entry.now c.args.narrowed.now c.day_beside-given.result.day = is_given c.args.day.now c.args.entry.now c.args.narrowed.now c.day_beside-given.result c.day_beside-given.ensures c.in-Accepted.is in
+    (given).lent
+
+pub returns : goal.returns
+returns c =
+    let given : DayGiven c.args.day.now c.args.entry.now c.args.narrowed.now c.day_beside-given.result.day = is_given c.args.day.now c.args.entry.now c.args.narrowed.now c.day_beside-given.result c.day_beside-given.ensures c.in-Accepted.is in
+    commit_said c.args.day.now c.args.entry.now c.args.narrowed.now _ c.args.plan.now _ c.args.bounds.now _ _
+    (given) _ c.entry_given-e.ensures _ c.commit-answer.result c.args.stamp _
+    c.commit-answer.ensures c.give_day.ensures
+    c.give_planned.ensures

@@ -1,0 +1,21 @@
+-- What showing the late plan answered, as numbers.
+-- Assumes nothing.
+use borrow.Author.Rules.{rules}
+use Rattle.bounds.specs.declared.types.Shown.TheVariants.{Late}
+use Rattle.abi.proofs.CallCases.{show_bad_length, beside_given, beside_long, shown_said}
+use Rattle.abi.proofs.dock_late.Goals as goal
+
+pub returns-in_default : goal.returns-in_default
+returns-in_default c =
+    show_bad_length c.args.fields.now c.list_beside-given.result _ c.in_default.is _ c.verdict_as.ensures
+    c.args.narrowed.now c.list_beside-given.ensures Late c.args.place c.args.plan.now
+
+pub give_narrowed-requires : goal.give_narrowed-requires
+give_narrowed-requires c =
+    beside_long c.args.fields.now c.args.narrowed.now c.list_beside-given.result c.list_beside-given.ensures c.in-Accepted.is
+
+pub returns : goal.returns
+returns c =
+    let given = beside_given c.args.fields.now c.args.narrowed.now c.list_beside-given.result c.list_beside-given.ensures c.in-Accepted.is in
+    shown_said c.args.fields.now c.args.narrowed.now _ _ given _ Late c.args.place c.args.plan.now _ c.show_late-answer.result
+    c.show_late-answer.ensures c.give_narrowed.ensures
