@@ -2,7 +2,7 @@
 // Promises: for every input, `text_of` makes the text that document 01 says, byte for byte, and demands 2 and 3 hold of the numbers that
 // stand in it. That the input arrives and the text leaves as they are is the operating system's part.
 // Uses `report` and `refusal_line` of the crate report, `numbers_of` of codes, the types of list, of format how long a list's bytes are,
-// and io and libc to read and write.
+// and io to read and write.
 #![tactic(auto)]
 
 ghost use Rattle.std.specs.Prelude.{◌≤◌, length};
@@ -11,9 +11,13 @@ ghost use Rattle.report.specs.Reports.{refusal_line};
 ghost use Rattle.report.specs.Calls.{enough, line_enough};
 ghost use Rattle.dock.specs.Calls.{InputLimit, HoldsText, Prints};
 
-use libc::{STDIN_FILENO, STDOUT_FILENO};
 use list::types::{Refusal, WriteAnswer};
 use report::REPORT_BYTES;
+
+// The program's input and output, as the operating system numbers them.
+const STDIN: i32 = 0;
+
+const STDOUT: i32 = 1;
 
 // "A longest list has 965 bytes and the program takes 966."
 const INPUT_BYTES: usize = 966;
@@ -47,8 +51,8 @@ fn text_of(input: &[u8], count: usize, text: &mut [u8]) -> usize
 
 fn main() {
     let mut input = [0u8; INPUT_BYTES];
-    let count = io::read_full(STDIN_FILENO, &mut input);
+    let count = io::read_full(STDIN, &mut input);
     let mut text = [0u8; REPORT_BYTES];
     let size = text_of(&input, count, &mut text);
-    io::write_all(STDOUT_FILENO, &text[..size]);
+    io::write_all(STDOUT, &text[..size]);
 }
