@@ -4,7 +4,7 @@ use mathlib.Core.Path.{◌≡◌, sym, ap, ◌∙◌}
 use mathlib.Core.Logic.{◌↔◌}
 use Prim.Native.Nat.{ℕ, ◌+◌, ◌*◌, ◌/◌, ◌%◌, ◌≤◌, ◌<◌}
 use native.Mathlib.Omega.{arith}
-use Rattle.base.specs.Counting.{sum, same}
+use Rattle.base.specs.Counting.{same}
 use Rattle.base.proofs.Sums.{sum_cong}
 use Rattle.base.proofs.Multiples.{multiple_le, multiple_lt, of_multiple_le, of_multiple_lt, quotient_is, rest_is, quotient_rest, rest_below}
 use Rattle.base.proofs.Multiples.{quotient_below, sum_multiple}

@@ -1,13 +1,12 @@
 -- In a slot Jackson's rule takes what it takes at the table.
 -- Assumes nothing.
 use mathlib.Core.Path.{◌≡◌, refl, sym, ap, subst, ◌∙◌, fun_ext}
-use mathlib.Core.Logic.{◌↔◌}
 use mathlib.Core.Bool.{Bool, cond, not, ◌&&◌, ◌||◌}
 use Prim.Native.Nat.{ℕ, zero, suc, ◌+◌, ◌*◌, ◌-◌, ◌/◌, ◌%◌, ◌≤◌, ◌<◌}
 use native.Mathlib.Nat.{mul-zero, mul-suc, mul-le-mul_left}
 use native.Mathlib.Omega.{arith}
 use lib.Dec.{ltb}
-use Rattle.base.specs.Counting.{sum, same, best, smaller, lex_smaller}
+use Rattle.base.specs.Counting.{same, best, smaller}
 use Rattle.base.proofs.Sums.{sum_cong, sum_after}
 use Rattle.base.proofs.Multiples.{multiple_le, multiple_lt, of_multiple_le, multiple_leb, mul_lt, of_mul_lt, of_mul_le, mul_cancel, mul_ltb}
 use Rattle.base.proofs.Multiples.{mul_eqb, quotient_rest, rest_below, quotient_below, sum_multiple}
@@ -15,7 +14,7 @@ use Rattle.windows.specs.Windows.{Windows, with_left}
 use Rattle.windows.specs.Plans.{idle, minutes_of}
 use Rattle.jackson.specs.Rules.{Ready}
 use Rattle.jackson.specs.Minutes.{State, is_ready, comes_before, chosen, Tied, Takes, had_before, state_after, FollowsJackson}
-use Rattle.tables.specs.Fillings.{last_before, just_filled, given_before, state_before, FollowsTables}
+use Rattle.tables.specs.Fillings.{just_filled, given_before, state_before, FollowsTables}
 use Rattle.tables.specs.Slots.{slots, at_tables}
 
 -- the state of the slots' day after j tables of a minute

@@ -1,11 +1,9 @@
 -- The law of plans for c tables and that of Jackson's filling, from the laws of the slots.
 -- Assumes nothing.
-use mathlib.Core.Path.{◌≡◌, ap, sym, ◌∙◌}
-use Prim.Native.Nat.{ℕ, ◌+◌, ◌*◌, ◌-◌, ◌/◌, ◌%◌, ◌≤◌, ◌<◌}
+use mathlib.Core.Path.{ap, sym, ◌∙◌}
+use Prim.Native.Nat.{ℕ, ◌+◌, ◌*◌, ◌≤◌}
 use native.Mathlib.Nat.{mul-sub, mul-le-mul_left}
 use native.Mathlib.Omega.{arith}
-use lib.ListN.{length}
-use Rattle.base.specs.Outcomes.{Code, answered, refused}
 use Rattle.base.proofs.Multiples.{multiple_lt}
 use Rattle.windows.specs.Windows.{Windows, Roomy}
 use Rattle.windows.specs.Plans.{PlanBytes, places_in}

@@ -1,5 +1,5 @@
 -- Days of several tables, as one statement; `table_examples` of proofs/Examples.antt proves it.
-use Rattle.std.specs.Prelude.{◌≡◌, List, [], ◌∷◌, ℕ}
+use Rattle.std.specs.Prelude.{◌≡◌, [], ◌∷◌}
 use Rattle.base.specs.Outcomes.{code, answered, refused}
 use Rattle.windows.specs.Windows.{Windows, columns}
 use Rattle.tables.specs.Fillings.{filling}

@@ -2,7 +2,7 @@
 use Rattle.std.specs.Prelude.{ℕ, ◌*◌, ◌-◌, ◌<◌, ◌≤◌, ◌≡◌, ◌↔◌}
 use Rattle.base.specs.Outcomes.{Code, answered, refused}
 use Rattle.windows.specs.Windows.{Windows}
-use Rattle.windows.specs.Plans.{Plan, PlanBytes}
+use Rattle.windows.specs.Plans.{Plan}
 use Rattle.windows.specs.Intervals.{Overloaded, overload_of}
 use Rattle.jackson.specs.Minutes.{schedule, FollowsJackson}
 use Rattle.tables.specs.TablePlans.{TablePlan, TablePlannable, TablePlanBytes, tables_in}

@@ -1,6 +1,5 @@
 -- A writer's answer as numbers, in both cases.
 -- Assumes nothing.
-use borrow.Author.Rules.{rules}
 use mathlib.Core.Path.{refl}
 use Rattle.abi.proofs.count_as.Goals as goal
 

@@ -1,6 +1,5 @@
 -- What showing the late plan answered, as numbers.
 -- Assumes nothing.
-use borrow.Author.Rules.{rules}
 use Rattle.bounds.specs.declared.types.Shown.TheVariants.{Late}
 use Rattle.abi.proofs.CallCases.{show_bad_length, beside_given, beside_long, shown_said}
 use Rattle.abi.proofs.dock_late.Goals as goal

@@ -1,6 +1,5 @@
 -- What the overload test answered, as numbers.
 -- Assumes nothing.
-use borrow.Author.Rules.{rules}
 use Rattle.abi.proofs.CallCases.{overload_bad_length, list_given, overload_said}
 use Rattle.abi.proofs.dock_overload.Goals as goal
 

@@ -1,6 +1,5 @@
 -- What planning answered, as numbers: the bounds, then the narrowed list, the moves and the broken entries.
 -- Assumes nothing.
-use borrow.Author.Rules.{rules}
 use Rattle.abi.proofs.CallCases.{plan_bad_length, beside_given, beside_long, plan_said}
 use Rattle.abi.proofs.dock_plan.Goals as goal
 

@@ -1,6 +1,5 @@
 -- The lent row's length, then the list read as numbers, or a refusal.
 -- Assumes nothing.
-use borrow.Author.Rules.{rules}
 use Rattle.abi.proofs.CallCases.{read_bad_length, bytes_refused, read_accepted}
 use Rattle.abi.proofs.dock_read.Goals as goal
 

@@ -1,6 +1,5 @@
 -- What the line's call answered, as numbers.
 -- Assumes nothing.
-use borrow.Author.Rules.{rules}
 use Rattle.abi.proofs.CallCases.{text_call_said}
 use Rattle.abi.proofs.dock_refusal_line.Goals as goal
 

@@ -1,6 +1,5 @@
 -- What filling the plan buffer answered, as numbers.
 -- Assumes nothing.
-use borrow.Author.Rules.{rules}
 use Rattle.abi.proofs.CallCases.{schedule_bad_length, list_given, schedule_said}
 use Rattle.abi.proofs.dock_schedule.Goals as goal
 

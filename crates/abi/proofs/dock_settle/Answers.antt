@@ -1,6 +1,5 @@
 -- What narrowing answered, as numbers.
 -- Assumes nothing.
-use borrow.Author.Rules.{rules}
 use Rattle.abi.proofs.CallCases.{settle_bad_length, beside_given, beside_long, settle_said}
 use Rattle.abi.proofs.dock_settle.Goals as goal
 

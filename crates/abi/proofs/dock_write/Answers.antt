@@ -1,6 +1,5 @@
 -- What the writer answered, as numbers.
 -- Assumes nothing.
-use borrow.Author.Rules.{rules}
 use Rattle.abi.proofs.CallCases.{write_bad_length, list_given, write_said}
 use Rattle.abi.proofs.dock_write.Goals as goal
 

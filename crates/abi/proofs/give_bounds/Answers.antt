@@ -1,6 +1,5 @@
 -- The bounds, or what was there.
 -- Assumes nothing.
-use borrow.Author.Rules.{rules}
 use Rattle.abi.proofs.CallCases.{bounds_given}
 use Rattle.abi.proofs.give_bounds.Goals as goal
 

@@ -1,6 +1,5 @@
 -- The list, the moves and the two values, or a refusal.
 -- Assumes nothing.
-use borrow.Author.Rules.{rules}
 use Rattle.abi.proofs.CallCases.{narrowed_given, narrowed_refused}
 use Rattle.abi.proofs.give_narrowed.Goals as goal
 

@@ -1,6 +1,5 @@
 -- A refusal as numbers.
 -- Assumes nothing.
-use borrow.Author.Rules.{rules}
 use Rattle.abi.proofs.refused_as.Goals as goal
 
 pub returns : goal.returns

@@ -1,6 +1,5 @@
 -- A verdict as numbers, in both cases.
 -- Assumes nothing.
-use borrow.Author.Rules.{rules}
 use mathlib.Core.Path.{refl}
 use Rattle.abi.proofs.verdict_as.Goals as goal
 

@@ -1,6 +1,5 @@
 -- `line_of` meets its contract.
 -- Assumes nothing.
-use borrow.Author.Rules.{rules}
 use Rattle.dock.proofs.Cases.{line_held, line_taken}
 use Rattle.dock.proofs.line_of.Goals as goal
 

@@ -1,6 +1,5 @@
 -- `text_of` meets its contract.
 -- Assumes nothing.
-use borrow.Author.Rules.{rules}
 use mathlib.Core.Path.{sym}
 use lib.Seq.{length-take-le}
 use Rattle.dock.proofs.Cases.{prints, report_held, refused_printed}

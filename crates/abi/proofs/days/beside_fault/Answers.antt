@@ -1,6 +1,5 @@
 -- Row 100 for the entry's row, or for the other.
 -- Assumes nothing.
-use borrow.Author.Rules.{rules}
 use mathlib.Core.Path.{refl}
 use borrow.Author.Tests.{eq-eqb, ne_eqb}
 use Rattle.abi.proofs.days.beside_fault.Goals as goal

@@ -1,6 +1,5 @@
 -- The row given, then the length of the one lent.
 -- Assumes nothing.
-use borrow.Author.Rules.{rules}
 use Rattle.abi.proofs.DayCases.{beside_bad_row, beside_bad_lent, beside_given}
 use Rattle.abi.proofs.days.day_beside.Goals as goal
 

@@ -1,6 +1,5 @@
 -- What the ask answered, as numbers.
 -- Assumes nothing.
-use borrow.Author.Rules.{rules}
 use Rattle.abi.proofs.DayCases.{DayGiven, is_given, ask_bad_rows, ask_said}
 use Rattle.abi.proofs.days.dock_ask.Goals as goal
 

@@ -1,6 +1,5 @@
 -- What the commit answered, as numbers, and the day after it.
 -- Assumes nothing.
-use borrow.Author.Rules.{rules}
 use Rattle.abi.proofs.DayCases.{DayGiven, is_given, commit_bad_rows, commit_said}
 use Rattle.abi.proofs.days.dock_commit.Goals as goal
 

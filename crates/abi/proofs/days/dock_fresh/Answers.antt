@@ -1,6 +1,5 @@
 -- The rows, then the fresh day, or a refusal.
 -- Assumes nothing.
-use borrow.Author.Rules.{rules}
 use Rattle.abi.proofs.CallCases.{list_given}
 use Rattle.abi.proofs.DayCases.{fresh_bad_list, fresh_bad_row, fresh_turned_back, fresh_given}
 use Rattle.abi.proofs.days.dock_fresh.Goals as goal

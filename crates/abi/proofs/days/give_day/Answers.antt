@@ -1,6 +1,5 @@
 -- The day, or what was there.
 -- Assumes nothing.
-use borrow.Author.Rules.{rules}
 use Rattle.abi.proofs.DayCases.{no_success, success_stored}
 use Rattle.abi.proofs.days.give_day.Goals as goal
 

@@ -1,6 +1,5 @@
 -- A turn at the control desk.
 -- Assumes nothing.
-use borrow.Author.Rules.{rules}
 use Rattle.abi.proofs.RoomCases.{turn_given}
 use Rattle.abi.proofs.desk.dock_turn.Goals as goal
 

@@ -1,6 +1,5 @@
 -- What looking for an unbroken day answered, as numbers.
 -- Assumes nothing.
-use borrow.Author.Rules.{rules}
 use Rattle.abi.proofs.CallCases.{beside_given, beside_long}
 use Rattle.abi.proofs.SearchCases.{unbroken_bad_length, unbroken_said}
 use Rattle.abi.proofs.search.dock_unbroken.Goals as goal
