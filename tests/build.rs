@@ -1,4 +1,4 @@
-// Links the static library that `rt staticlib abi` writes.
+// Links the static library that tools/build writes.
 use std::{env, path::Path};
 
 fn main() {

@@ -17,31 +17,31 @@ tests() { # STATUS ANNOUNCED PASSED FAILED IGNORED MEASURED FILTERED
     fake cargo test "printf 'running $2 tests\ntest result: ok. $3 passed; $4 failed; $5 ignored; $6 measured; $7 filtered out\n'; exit $1"
 }
 
-# rt ci proves one crate and has the edits refused, each with a log that says why.
-proves() { # EDITS
-    fake rt ci "echo 'rt: ok, 1 crates proved, $1 must-fail edits refused'; echo '3 passed, 0 failed'"
+# rt ci proves one crate and has the edits refused, each with what it says of why; the line 'rt: ok' has this of the edits.
+proves() { # EDITS TOLD-OF-THE-FIRST
+    fake rt ci "echo 'rt: must-fail one/wrong.edit: $2'
+        echo 'rt: must-fail one/worse.edit: refused, as it must be: src/lib.rt:3:5: it is not proved that the sum fits'
+        echo 'rt: ok; handles allowed: none; must-fail edits: $1; every proof and must-fail edit was done in this run'
+        echo '3 passed, 0 failed'"
 }
-# What the log of the edit `wrong` has.
-log() { printf '%s\n' "$1" >target/must-fail/one/wrong/.log; }
+# What it says of the edit `wrong`.
+told() { proves '2 refused' "$1"; }
 
 # A repository on which every step ends well, with 3 proved (2 of them edits) and 4 Rust tests, and a step that prints closing lines.
 fresh() {
     rm -rf "${scratch:?}"/*
     mkdir -p "$scratch/bin" "$scratch/repo/.ci" && cd "$scratch/repo" && cp "$gate" .ci/run || exit 1
-    mkdir -p crates/one/must-fail tests/gate target/must-fail/one/wrong target/must-fail/one/worse
-    touch crates/one/lib.rt target/made.rt tests/gate/try.sh
+    mkdir -p crates/one/must-fail crates/one/out tests/gate tools target
+    touch crates/one/lib.rt crates/one/out/made.rt target/made.rt tests/gate/try.sh
     printf '# least\nedits 2\ntests 4\n' >.ci/least
     echo 'file: src/lib.rt' | tee crates/one/must-fail/wrong.edit >crates/one/must-fail/worse.edit
-    # shellcheck disable=SC2016
-    log 'proofs/one/Proof.antt:3:5: error: `returns`: the two types first differ where one has 1'
-    # shellcheck disable=SC2016
-    echo 'fn one::one: no proof: expected `one-spec`; `search` does not close `add-result`' >target/must-fail/one/worse/.log
-    printf '# crates\none: io # a comment\n' >crates.txt
+    printf '# crates\none staticlib: io # a comment\n' >crates.txt
     # shellcheck disable=SC2016
     printf '#!/usr/bin/env bash\n! [ -f "$0.$1" ] || . "$0.$1"\n' | tee "$scratch/bin/rt" >"$scratch/bin/cargo"
     chmod +x "$scratch/bin/rt" "$scratch/bin/cargo"
-    fake rt fmt "printf '9 passed, 0 failed\n8\r7 passed, 0 failed\n'; echo 6 passed, 0 failed >&2"
-    proves 2
+    echo "printf '9 passed, 0 failed\n8\r7 passed, 0 failed\n'; echo 6 passed, 0 failed >&2" >tools/build
+    # shellcheck disable=SC2016
+    told 'refused, as it must be: ./proofs/one/Answers.antt:3:5: error: `returns`: the two types first differ where one has 1'
     tests 0 4 4 0 0 0 0
 }
 

@@ -16,7 +16,7 @@ fn path() -> PathBuf {
 #[track_caller]
 fn start(input: Stdio) -> Child {
     let path = path();
-    assert!(path.is_file(), "the program {} is not built: run 'rt check dock' first", path.display());
+    assert!(path.is_file(), "the program {} is not built: run 'tools/build' first", path.display());
     let mut command = Command::new(&path);
     command.stdin(input).stdout(Stdio::piped()).stderr(Stdio::piped());
     command.spawn().unwrap_or_else(|error| panic!("{} does not start: {error}", path.display()))

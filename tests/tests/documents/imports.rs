@@ -41,37 +41,36 @@ fn files(folder: &str, ending: &str) -> Vec<String> {
     names(&root().join(folder), ending).iter().map(|name| format!("{folder}/{name}.{ending}")).collect()
 }
 
-/// The definitions and proofs that a file imports, by lines "use Rattle·windows·specs.specs.Windows.{Windows}" and
-/// "ghost use ..". There is no other way to name another file, and each such line must lead to one. Modules of
-/// `specs.declared` are made from the code's types and import nothing.
+/// The definitions and proofs that a file imports, by lines "use Rattle.windows.specs.Windows.{Windows}" and
+/// "ghost use ..". There is no other way to name another file, and each such line must lead to one, but for those of
+/// the kit's library `std`. Modules of `specs.declared` are made from the code's types and import nothing.
 #[track_caller]
 fn definitions(file: &str) -> Vec<String> {
     let text = page(file);
-    let lines = text.lines().filter(|line| line.contains("Rattle·"));
+    let lines = text.lines().filter(|line| line.contains("Rattle."));
     let modules = lines.map(|line| {
         let line = line.trim_start();
-        assert_eq!(line.matches("Rattle·").count(), 1, "{file}: {line} is more than an import");
-        let module = line.strip_prefix("ghost ").unwrap_or(line).strip_prefix("use Rattle·");
+        assert_eq!(line.matches("Rattle.").count(), 1, "{file}: {line} is more than an import");
+        let module = line.strip_prefix("ghost ").unwrap_or(line).strip_prefix("use Rattle.");
         module.unwrap_or_else(|| panic!("{file}: {line} is no import"))
     });
     modules.filter_map(|module| definition(file, module)).collect()
 }
 
-/// The file of a module "windows·specs.specs.Windows.{Windows}".
+/// The file of a module "windows.specs.Windows.{Windows}".
 #[track_caller]
 fn definition(file: &str, import: &str) -> Option<String> {
     let module = import.split(".{").next().and_then(|part| part.split(" as ").next()).expect("a module");
-    let (owner, path) = module.split_once('.').expect("a crate and a path");
-    if path.starts_with("specs.declared.") {
+    let (name, path) = module.split_once('.').expect("a crate and a path");
+    if name == "std" || path.starts_with("specs.declared.") {
         return None;
     }
-    let name = owner.split('·').next().expect("a crate");
     let found = format!("crates/{name}/{}.antt", path.replace('.', "/"));
     assert!(root().join(&found).is_file(), "{file}: {import} leads to no file");
     Some(found)
 }
 
-/// The code that a file names: by lines "use crate::types::Found;", "use list::types::Verdict;", "use
+/// The code that a file names: by lines "use crate::types::Found;", "use list::types::{Refusal, Verdict};", "use
 /// windows::mirrored;" and, in lib.rt, "pub use mirror::mirrored;", and where it is called, "list::check(list)".
 #[track_caller]
 fn code(file: &str) -> Vec<String> {
@@ -80,10 +79,17 @@ fn code(file: &str) -> Vec<String> {
     let lines = text.lines().map(str::trim_start);
     let lines = lines.filter(|line| !line.starts_with("//") && !line.starts_with("ghost "));
     let named = lines.flat_map(|line| match line.strip_prefix("pub use ") {
-        Some(path) => vec![format!("crate::{path}")],
-        None => paths(line),
+        Some(import) => items(import).into_iter().map(|path| format!("crate::{path}")).collect(),
+        None => line.strip_prefix("use ").map_or_else(|| paths(line), items),
     });
-    named.map(|path| source(file, own, path.trim_end_matches(';'))).collect()
+    named.map(|path| source(file, own, &path)).collect()
+}
+
+/// The items of an import: "list::types::Refusal" and "list::types::Verdict" in "list::types::{Refusal, Verdict};".
+fn items(import: &str) -> Vec<String> {
+    let import = import.trim_end_matches(';');
+    let Some((path, names)) = import.split_once("::{") else { return vec![import.to_string()] };
+    names.trim_end_matches('}').split(", ").map(|name| format!("{path}::{name}")).collect()
 }
 
 /// The paths in a line, "list::check" in "let verdict = list::check(list);". Crates and modules begin with a small
@@ -119,9 +125,9 @@ fn exporting(name: &str, item: &str) -> String {
     if text.contains(&format!("\npub fn {item}(")) {
         return "lib".to_string();
     }
-    let mut exports = text.lines().filter_map(|line| line.strip_prefix("pub use ")?.split_once("::"));
-    let found = exports.find(|(_, exported)| exported.trim_end_matches(';') == item);
-    found.unwrap_or_else(|| panic!("{name} exports no {item}")).0.to_string()
+    let mut exports = text.lines().filter_map(|line| line.strip_prefix("pub use ")).flat_map(items);
+    let found = exports.find_map(|path| Some(path.strip_suffix(&format!("::{item}"))?.to_string()));
+    found.unwrap_or_else(|| panic!("{name} exports no {item}"))
 }
 
 /// None of these files leads to the tie rule. More files than so many are met from all of them, their own among them.
@@ -190,6 +196,6 @@ fn plans_are_defined_proved_and_coded_with_the_tie_rule() {
     }
     let met = met("crates/bounds/src/shown.rt", code);
     assert!(met.contains_key("crates/jackson/src/fill.rt"), "{met:?}");
-    assert!(page("crates/jackson/src/fill.rt").contains("use crate::types::Day;"));
+    assert!(page("crates/jackson/src/fill.rt").contains("use crate::types::{Day, "));
     assert!(code("crates/narrow/src/rounds.rt").contains(&"crates/windows/src/interval.rt".to_string()));
 }

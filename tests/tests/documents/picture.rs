@@ -10,7 +10,7 @@ fn stored() -> String {
 
 #[test]
 fn the_picture_is_the_samples() {
-    let way = "rt staticlib abi && cargo run --manifest-path tests/Cargo.toml --bin picture";
+    let way = "tools/build && cargo run --manifest-path tests/Cargo.toml --bin picture";
     assert!(
         stored() == picture::morning(),
         "docs/morning.svg is not of samples/morning; to write it anew: {way}"

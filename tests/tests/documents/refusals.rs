@@ -7,10 +7,10 @@ use dock_tests::commits;
 use dock_tests::flat::SIZE;
 use std::fs;
 
-/// The number and the case of each refusal, from the definition: "codeOf (BadMapByte at) = code 4 (at ∷ [])".
+/// The number and the case of each refusal, from the definition: "code_of (BadMapByte at) = code 4 (at ∷ [])".
 fn defined() -> Vec<(usize, String)> {
     let text = page("crates/list/specs/Refusals.antt");
-    let lines = text.lines().filter_map(|line| line.strip_prefix("codeOf ")?.split_once(" = code "));
+    let lines = text.lines().filter_map(|line| line.strip_prefix("code_of ")?.split_once(" = code "));
     lines
         .map(|(case, code)| {
             let number = code.split(' ').next().and_then(|word| word.parse().ok()).expect("a number");
@@ -81,8 +81,8 @@ fn no_public_function_asks_anything() {
             for (at, _) in text.match_indices("pub fn ").chain(text.match_indices("pub extern \"C\" fn ")) {
                 let contract = text[at..].split("\n{").next().and_then(|part| part.split("\n    {").next());
                 let contract = contract.expect("a signature");
-                assert!(!contract.contains("requires {"), "{name}: {contract}");
-                assert!(contract.contains("ensures {"), "{name}: {contract}");
+                assert!(!contract.contains("requires "), "{name}: {contract}");
+                assert!(contract.contains("ensures "), "{name}: {contract}");
                 found += 1;
             }
         }

@@ -30,11 +30,13 @@ fn git(folder: &Folder, arguments: &[&str]) -> String {
     succeeds(command(folder, "git").args(settings).args(arguments))
 }
 
-/// A repository with the scripts, in which the crate flat has these sources at one commit after the other.
+/// A repository with the scripts, but for the one that builds the library: that one says what it is asked, shows the
+/// source and fails. The crate flat has these sources at one commit after the other.
 fn repository(name: &str, sources: &[&str]) -> Folder {
-    let folder = Folder::with(name, &["crates/flat/src", "bench"]);
+    let folder = Folder::with(name, &["crates/flat/src", "bench", "tools"]);
     folder.copy("bench/run");
     folder.copy("bench/climb");
+    folder.program("tools/build", "echo \"tools/build $*\"; cat crates/flat/src/lib.rt; exit 7");
     git(&folder, &["init", "-q"]);
     for source in sources {
         fs::write(folder.join("crates/flat/src/lib.rt"), source).expect("a source");
@@ -78,13 +80,13 @@ fn a_commit_with_rows_of_another_length() {
     }
 }
 
-/// The library of that commit is asked for, in a folder with its sources. The `rt` here fails, so that nothing is built.
+/// The library of that commit is asked for, in a folder with its sources. The script that builds it fails here, so that
+/// nothing is built.
 #[test]
 fn a_commit_with_rows_of_the_same_length() {
     let folder = repository("bench-same", &[NOW, &format!("{NOW}// more\n")]);
-    folder.program("rt", "echo \"rt $*\"; cat crates/flat/src/lib.rt; exit 7");
     let (output, said) = run(&folder, "bench/run", &["HEAD~1"]);
-    assert_eq!(said, format!("rt staticlib abi\n{NOW}"));
+    assert_eq!(said, format!("tools/build library\n{NOW}"));
     assert_eq!((output.status.code(), &output.stdout[..]), (Some(7), &b""[..]));
 }
 

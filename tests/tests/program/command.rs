@@ -40,30 +40,30 @@ fn the_command_refuses_what_is_no_file() {
     }
 }
 
-/// A folder with the command, a program `rt` that says and does this, and a program `dock` that prints its input.
-fn beside_rt(name: &str, rt: &str) -> Folder {
-    let folder = Folder::with(name, &["target/bin"]);
+/// A folder with the command, a script `tools/build` that says and does this, and a program `dock` that prints its input.
+fn beside_build(name: &str, build: &str) -> Folder {
+    let folder = Folder::with(name, &["target/bin", "tools", "crates/one/out", "crates/one/src"]);
     folder.copy("dock-report");
-    folder.program("rt", rt);
+    folder.copy("tools/below");
+    folder.copy("crates.txt");
+    folder.program("tools/build", build);
     folder.program("target/bin/dock", "cat");
     folder
 }
 
-/// Runs the command of such a folder, which finds that `rt` first; then what its log has.
-fn run_beside_rt(folder: &Folder) -> (Output, String) {
+/// Runs the command of such a folder; then what its log has.
+fn run_beside_build(folder: &Folder) -> (Output, String) {
     let mut command = Command::new(folder.join("dock-report"));
-    folder.first_in_path(&mut command);
     let output = command.arg(root().join("samples/morning.txt")).output().expect("the command must start");
-    (output, fs::read_to_string(folder.join("target/dock-report.log")).expect("a log"))
+    (output, fs::read_to_string(folder.join("target/dock-report.log")).unwrap_or_default())
 }
 
 /// The names go to standard error, the report alone to standard output, and all that was said to the log.
 #[test]
 fn the_command_names_each_crate_that_is_proved() {
-    let said = "rt: list proved (unchanged since it was last proved)\nfn codes::with_one: proved\n\
-                rt: codes proved (4 s)\nrt: jackson proved (31 s)\nrt: ok, 3 crates proved\n";
-    let folder = beside_rt("rt-proves", &format!("[ \"$*\" = 'check dock' ] && printf '{said}'"));
-    let (output, log) = run_beside_rt(&folder);
+    let said = "fn codes::with_one: proved\nbuild: codes proved (4 s)\nrt: jackson proved\nbuild: jackson proved (31 s)\n";
+    let folder = beside_build("build-proves", &format!("[ \"$*\" = program ] && printf '{said}'"));
+    let (output, log) = run_beside_build(&folder);
     assert!(output.status.success());
     assert_eq!(
         String::from_utf8_lossy(&output.stderr),
@@ -76,10 +76,12 @@ fn the_command_names_each_crate_that_is_proved() {
 /// Where there is no program yet, the crates that it is made of are named first, in the order of crates.txt.
 #[test]
 fn the_command_names_what_will_be_proved() {
-    let folder = beside_rt("rt-builds", "cp dock target/bin/dock; echo 'rt: base proved (1 s)'");
+    let folder = beside_build(
+        "build-builds",
+        "cd \"${0%/*}/..\"; cp dock target/bin/dock; echo 'build: base proved (1 s)'",
+    );
     fs::rename(folder.join("target/bin/dock"), folder.join("dock")).expect("no program");
-    folder.copy("crates.txt");
-    let (output, _) = run_beside_rt(&folder);
+    let (output, _) = run_beside_build(&folder);
     assert!(output.status.success());
     assert_eq!(
         String::from_utf8_lossy(&output.stderr),
@@ -90,14 +92,26 @@ fn the_command_names_what_will_be_proved() {
 
 #[test]
 fn the_command_shows_why_the_program_is_not_built() {
-    let folder =
-        beside_rt("rt-fails", "echo 'rt: codes NOT PROVED (exit 1, 2 s)'; echo 'an error' >&2; exit 1");
-    let (output, log) = run_beside_rt(&folder);
+    let folder = beside_build("build-fails", "echo 'an error'; echo 'build: codes NOT PROVED' >&2; exit 1");
+    let (output, log) = run_beside_build(&folder);
     assert_eq!(output.status.code(), Some(1));
     assert_eq!(output.stdout, b"");
-    assert_eq!(log, "rt: codes NOT PROVED (exit 1, 2 s)\nan error\n");
+    assert_eq!(log, "an error\nbuild: codes NOT PROVED\n");
     assert_eq!(
         String::from_utf8_lossy(&output.stderr),
         log + "dock-report: the program could not be built\n"
     );
+}
+
+/// It is built again when a source is newer, and not for what a build leaves in a folder out/.
+#[test]
+fn the_command_builds_after_a_change_alone() {
+    let folder = beside_build("build-again", "echo 'build: one proved (1 s)'");
+    let built = || String::from_utf8_lossy(&run_beside_build(&folder).0.stderr).into_owned();
+    assert_eq!(built(), "dock-report: one proved (1 s)\n", "the first run");
+    fs::write(folder.join("crates/one/out/made"), "").expect("a file");
+    assert_eq!(built(), "", "nothing has changed");
+    std::thread::sleep(std::time::Duration::from_millis(20));
+    fs::write(folder.join("crates/one/src/lib.rt"), "").expect("a source");
+    assert_eq!(built(), "dock-report: one proved (1 s)\n", "a source is new");
 }
