@@ -38,7 +38,7 @@ module _ (l : DayList) where
     pub test_told : place < length (entries_of l) → (i : ℕ) → i < place → (e : Entry) → e ≡ get_or l.entries place blank → (t : Bool)
         → t ≡ clash (get_or l.entries i blank) e
         → earlier_test i ≡ t
-    test_told in_List i h e is t says = rw (in_array i (omega (arith, h, in_List)), in_array place in_List, ← is) (sym says)
+    test_told in_list i h e is t says = rw (in_array i (omega (arith, h, in_list)), in_array place in_list, ← is) (sym says)
 
     pub earlier_found : (i : ℕ) → Passed place earlier_test i → i < place → earlier_test i ≡ true → true ≡ clashes_earlier (entries_of l) place
     earlier_found i so h e = rw (passed_found place earlier_test i so e) (sym (lt-ltb i place h))
