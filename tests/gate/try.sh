@@ -20,7 +20,7 @@ tests() { # STATUS ANNOUNCED PASSED FAILED IGNORED MEASURED FILTERED
 # rt ci proves one crate and has the edits refused, each with what it says of why; the line 'rt: ok' has this of the edits.
 proves() { # EDITS TOLD-OF-THE-FIRST
     fake rt ci "echo 'rt: must-fail one/wrong.edit: $2'
-        echo 'rt: must-fail one/worse.edit: refused, as it must be: src/lib.rt:3:5: it is not proved that the sum fits'
+        echo 'rt: must-fail one/worse.edit: refused, as it must be: note: src/lib.rt:3:5: not proved; the facts known there allow values'
         echo 'rt: ok; handles allowed: none; must-fail edits: $1; every proof and must-fail edit was done in this run'
         echo '3 passed, 0 failed'"
 }

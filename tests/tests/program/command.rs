@@ -55,13 +55,13 @@ fn beside_build(name: &str, build: &str) -> Folder {
 fn run_beside_build(folder: &Folder) -> (Output, String) {
     let mut command = Command::new(folder.join("dock-report"));
     let output = command.arg(root().join("samples/morning.txt")).output().expect("the command must start");
-    (output, fs::read_to_string(folder.join("target/dock-report.log")).unwrap_or_default())
+    (output, fs::read_to_string(folder.join("target/dock-report.log")).expect("a log"))
 }
 
 /// The names go to standard error, the report alone to standard output, and all that was said to the log.
 #[test]
 fn the_command_names_each_crate_that_is_proved() {
-    let said = "fn codes::with_one: proved\nbuild: codes proved (4 s)\nrt: jackson proved\nbuild: jackson proved (31 s)\n";
+    let said = "rt: list proved (unchanged since it was last proved)\nfn codes::with_one: proved\nbuild: codes proved (4 s)\nrt: jackson proved\nbuild: jackson proved (31 s)\n";
     let folder = beside_build("build-proves", &format!("[ \"$*\" = program ] && printf '{said}'"));
     let (output, log) = run_beside_build(&folder);
     assert!(output.status.success());
@@ -103,7 +103,7 @@ fn the_command_shows_why_the_program_is_not_built() {
     );
 }
 
-/// It is built again when a source is newer, and not for what a build leaves in a folder out/.
+/// It is built again when a source is another, and not for what a build leaves in a folder out/.
 #[test]
 fn the_command_builds_after_a_change_alone() {
     let folder = beside_build("build-again", "echo 'build: one proved (1 s)'");
@@ -111,7 +111,6 @@ fn the_command_builds_after_a_change_alone() {
     assert_eq!(built(), "dock-report: one proved (1 s)\n", "the first run");
     fs::write(folder.join("crates/one/out/made"), "").expect("a file");
     assert_eq!(built(), "", "nothing has changed");
-    std::thread::sleep(std::time::Duration::from_millis(20));
     fs::write(folder.join("crates/one/src/lib.rt"), "").expect("a source");
-    assert_eq!(built(), "dock-report: one proved (1 s)\n", "a source is new");
+    assert_eq!(built(), "dock-report: one proved (1 s)\n", "a source is another");
 }

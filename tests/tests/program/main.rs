@@ -1,6 +1,7 @@
-//! The program `dock` as it is built, the sample days, the command ./dock-report and the scripts of bench/.
+//! The program `dock` as it is built, the sample days, the command ./dock-report and the scripts of bench/ and tools/.
 
 mod bench;
+mod build;
 mod cases;
 mod command;
 mod folder;
