@@ -93,7 +93,8 @@ module _ (xs fields : List ℕ) where
 
   beside_says : Says Passed Anything (flat_beside xs (length fields))
   beside_says =
-      by_step (λ l. l ≡ value_of xs) Anything Passed (list_in xs) (λ l. and_then (flat_fault (length fields)) (λ _. answered l)) (list_says xs)
+      by_step (λ l. l ≡ value_of xs) Anything Passed (list_in xs) (λ l. and_then (flat_fault (length fields)) (λ _. answered l))
+      (list_says xs)
       lent_says
 
   module _ (a : ReadAnswer) (w : read_answer_of a ≡ flat_beside xs (length fields)) (v : a.verdict ≡ Accepted) where

@@ -124,7 +124,8 @@ module _ (xs ys fields : List ℕ) (a : StampedAnswer) (w : stamped_answer_of a 
 
   all_say : Says Passed Anything (day_beside xs (length ys) (length fields))
   all_say =
-      by_step (Row xs) Anything Passed (day_in xs) (λ d. and_then (beside_fault (length ys) (length fields)) (λ _. answered d)) (row_says xs)
+      by_step (Row xs) Anything Passed (day_in xs) (λ d. and_then (beside_fault (length ys) (length fields)) (λ _. answered d))
+      (row_says xs)
       (λ d r. by_step (λ _. Beside) Anything Passed (beside_fault (length ys) (length fields)) (λ _. answered d) beside_says
       (λ _ long. (r, long)))
 

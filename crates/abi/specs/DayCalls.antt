@@ -49,7 +49,8 @@ pub record AskedCall (d : StampedDay) (e : Entry) (o : Outcome Narrowed) (old_pl
 abbrev pub AskCall : (xs ys old_plan old_fields old_bounds : List ℕ) → Answer → (new_plan new_fields new_bounds : List ℕ) → Type 0
 AskCall xs ys old_plan old_fields =
     let e = entry_in ys 0 in
-    AskedCall (day_of xs) e (and_then (day_beside xs (length ys) (length old_fields)) (λ d. ask_of d e (length old_plan))) old_plan old_fields
+    AskedCall (day_of xs) e (and_then (day_beside xs (length ys) (length old_fields)) (λ d. ask_of d e (length old_plan))) old_plan
+    old_fields
 
 -- the day after a commit of the entry e to the day d with the outcome o, if it succeeded
 abbrev pub day_if_committed : StampedDay → Entry → Outcome Narrowed → Outcome StampedDay

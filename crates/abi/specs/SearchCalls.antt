@@ -32,5 +32,6 @@ pub record SearchedCall (l : DayList) (o : Outcome Narrowed) (x : Outcome Search
 abbrev pub UnbrokenCall : List ℕ → ℕ → List ℕ → List ℕ → List ℕ → Answer → List ℕ → List ℕ → List ℕ → Type 0
 UnbrokenCall xs limit old_plan old_fields =
     let rows = flat_beside xs (length old_fields) in
-    SearchedCall (value_of xs) (and_then rows (λ l. plan_of l (length old_plan))) (and_then rows (λ l. unbroken_of l limit (length old_plan)))
+    SearchedCall (value_of xs) (and_then rows (λ l. plan_of l (length old_plan)))
+    (and_then rows (λ l. unbroken_of l limit (length old_plan)))
     old_plan old_fields

@@ -97,7 +97,8 @@ module _ {test : Test} (planner : Planner test) (may : ℕ → Bool) where
         by_else _ Any Any Any (trial test rest (fixed_at v k s) t) _
         (cond_cases (Reaches whole k v) (accepts (test (fixed_at v k s))) _ _
         (λ e.
-        ends_map (rest (fixed_at v k s) (t + 1)) (λ u _ after. reached_start whole k v u s after formed is place tried) (λ _ z. z) (λ _ z. z)
+        ends_map (rest (fixed_at v k s) (t + 1)) (λ u _ after. reached_start whole k v u s after formed is place tried) (λ _ z. z)
+        (λ _ z. z)
         (deeper s (t + 1) tried (accepted_plan planner v formed k place s tried.1 e)))
         (λ _. tt))
         (λ u _. starts_reach c (s + 1) u (omega arith) (omega arith)))

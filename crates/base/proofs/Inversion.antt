@@ -39,7 +39,8 @@ module _ {A : Type 0} (P : A → Type 0) (R : Code → Type 0) where
   by_step Q (refused k) f p q = p
 
   -- one step, then two rests that agree on what it answers
-  pub same_after : {B : Type 0} (o : Outcome A) (f g : A → Outcome B) → Says P R o → ((a : A) → P a → f a ≡ g a) → and_then o f ≡ and_then o g
+  pub same_after : {B : Type 0} (o : Outcome A) (f g : A → Outcome B) → Says P R o → ((a : A) → P a → f a ≡ g a)
+      → and_then o f ≡ and_then o g
   same_after (answered a) f g p q = q a p
   same_after (refused k) f g p q = refl
 

@@ -181,7 +181,9 @@ module _ (h : ℕ) (old : List ℕ) where
           record {
             room = so.room;
             rest = omega (arith, so.rest);
-            long = length-set (set new first (get_or new last 0)) last (get_or new first 0) ∙ length-set new first (get_or new last 0) ∙ so.long;
+            long =
+                length-set (set new first (get_or new last 0)) last (get_or new first 0) ∙ length-set new first (get_or new last 0) ∙
+                so.long;
             mirrored =
                 λ t in_day turned. same_cases t last
                 (λ e _. let z : h - suc t ≡ first = omega (arith, so.rest) in rw (z, e) at_last)

@@ -39,7 +39,8 @@ module _ (v : Verdict) (l : DayList) (e : Entry) (old : List ℕ) (a : PlanAnswe
   pub longer_refused : (x : Refusal) → v ≡ Refused x → a ≡ unplanned v → PlansLonger (verdict_of v) l e old a old
   longer_refused x is made =
       let z : longer_checks (verdict_of v) l e (length old) ≡ refused (code_of x) = rw is refl in
-      plan_refused (longer_checks (verdict_of v) l e (length old)) (with_entry l e) (λ q. absurd (answered_refused q z)) old v x is (rw z refl)
+      plan_refused (longer_checks (verdict_of v) l e (length old)) (with_entry l e) (λ q. absurd (answered_refused q z)) old v x is
+      (rw z refl)
       a made
 
   pub longer_planned : (new : List ℕ) → v ≡ Accepted → PlansDay (with_entry l e) old a new → PlansLonger (verdict_of v) l e old a new

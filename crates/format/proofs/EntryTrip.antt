@@ -141,7 +141,8 @@ module _ (f : Frame) (at : ℕ) (bs : List ℕ) (len : ℕ) (all : at + length b
   abbrev e : Entry
   e = entry_at f m bs
 
-  taken : legal_map (get_or bs 0 0) ≡ true → size_of m ≤ length bs → default_written f m e ≡ false → Sound f e → TakenEntry f bs (e, size_of m)
+  taken : legal_map (get_or bs 0 0) ≡ true → size_of m ≤ length bs → default_written f m e ≡ false → Sound f e
+      → TakenEntry f bs (e, size_of m)
   unfolding entry_at
   taken legal long w s =
       let z = neither (m.r && eqb e.r (default_r f)) (m.d && eqb e.d (default_d f)) w in

@@ -56,5 +56,6 @@ fullest_apart = rw (take-append_seam (full_entries 64) (replicate (64 - length (
 
 -- some list's one form is as long
 pub longest_reached : (l : DayList) × WellFormed l × (length (bytes_of l) ≡ longest_list)
-unfolding fullest full_entries values_fault header_fault opening_fault entries_fault entry_fault bytes_of header_bytes bytes_of_entries entry_bytes
+unfolding fullest full_entries values_fault header_fault opening_fault entries_fault entry_fault bytes_of header_bytes bytes_of_entries
+    entry_bytes
 longest_reached = (fullest, values_apart fullest refl fullest_apart, refl)

@@ -2,7 +2,8 @@
 ghost use Rattle.std.specs.Prelude.{◌≡◌, cond, ◌&&◌, ◌+◌, ◌<◌, ◌≤◌, ◌^◌, length, eqb};
 ghost use Rattle.format.specs.LittleEndian.{u16_at, u32_at};
 ghost use Rattle.format.specs.Maps.{size_of};
-ghost use Rattle.format.specs.EntryFields.{default_r, default_d, seal_of, entry_at, default_written, fields_entry, entry_of, entry_answer_of};
+ghost use Rattle.format.specs.EntryFields.{default_r, default_d, seal_of, entry_at, default_written, fields_entry};
+ghost use Rattle.format.specs.EntryFields.{entry_of, entry_answer_of};
 
 use crate::bytes::{u16_at, u32_at};
 use crate::map::{Fields, MapAnswer, d_place, map_answer, p_place, r_place, size_of};

@@ -28,7 +28,8 @@ module _ {a b : DayList} (s : SameWindows a b) (checked : check_of a ≡ check_o
       and_then (checked j)
       (λ _. first_of (buffer_row (s.h j) room ∷ []) (overload_of (alike_windows s j)))
 
-  pub alike_plan : (room : ℕ) (old : List ℕ) → plan_after (fill_of a room) (windows_of a) old ≡ plan_after (fill_of b room) (windows_of b) old
+  pub alike_plan : (room : ℕ) (old : List ℕ)
+      → plan_after (fill_of a room) (windows_of a) old ≡ plan_after (fill_of b room) (windows_of b) old
   alike_plan room old = rw (alike_filled room) (go (fill_of b room))
     where
       go : (o : Outcome (Unit {0})) → plan_after o (windows_of a) old ≡ plan_after o (windows_of b) old

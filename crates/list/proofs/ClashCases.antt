@@ -40,7 +40,8 @@ module _ (l : DayList) where
         → earlier_test i ≡ t
     test_told in_list i h e is t says = rw (in_array i (omega (arith, h, in_list)), in_array place in_list, ← is) (sym says)
 
-    pub earlier_found : (i : ℕ) → Passed place earlier_test i → i < place → earlier_test i ≡ true → true ≡ clashes_earlier (entries_of l) place
+    pub earlier_found : (i : ℕ) → Passed place earlier_test i → i < place → earlier_test i ≡ true
+        → true ≡ clashes_earlier (entries_of l) place
     earlier_found i so h e = rw (passed_found place earlier_test i so e) (sym (lt-ltb i place h))
 
     pub earlier_none : (i : ℕ) → Passed place earlier_test i → place ≤ i → false ≡ clashes_earlier (entries_of l) place

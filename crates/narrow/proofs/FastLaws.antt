@@ -105,7 +105,8 @@ module _ (order : Windows → ℕ → ℕ) (sorted : (v : Windows) → LatestRel
       le_or_lt first k
       (λ past.
       rw (le-ltb k first past)
-      (ap (λ (o : Outcome Narrowed). and_then o (fast_visit order whole k)) (visits_alike s formed planned first same k (omega (arith, most)))
+      (ap (λ (o : Outcome Narrowed). and_then o (fast_visit order whole k))
+      (visits_alike s formed planned first same k (omega (arith, most)))
       ∙ then_same (visits overload_of whole k s) (fast_visit order whole k) (visit overload_of whole k)
       (λ v e.
       let keeps = (visits_cost overload_of whole s formed k (omega (arith, most)) v e).keeps in

@@ -61,8 +61,12 @@ by_answer P (refused k) f each = tt
 
 -- and so does a step; whatever room the windows have, so not by the mirror
 step_still : (test : Test) (side : Side) (k : ℕ) (w : Windows) → Says (λ v. moves_of k w v ≡ 0 → v ≡ w) Anything (step test side k w)
-step_still test earliest k w = by_answer _ (least_start test w k) (with_r w k) (λ s. subst (λ v. moves_of k w v ≡ 0 → v ≡ w) (with_r_lem w k s) (window_still k w s (w.d k)))
-step_still test latest k w = by_answer _ (greatest_end test w k) (with_d w k) (λ e. subst (λ v. moves_of k w v ≡ 0 → v ≡ w) (with_d_lem w k e) (window_still k w (w.r k) e))
+step_still test earliest k w =
+    by_answer _ (least_start test w k) (with_r w k)
+    (λ s. subst (λ v. moves_of k w v ≡ 0 → v ≡ w) (with_r_lem w k s) (window_still k w s (w.d k)))
+step_still test latest k w =
+    by_answer _ (greatest_end test w k) (with_d w k)
+    (λ e. subst (λ v. moves_of k w v ≡ 0 → v ≡ w) (with_d_lem w k e) (window_still k w (w.r k) e))
 
 -- from s to v: moves are only added, and if none is, nothing has changed and X holds
 record Still (X : Type 0) (s v : Narrowed) : Type 0 where
@@ -125,7 +129,8 @@ module _ (test : Test) (whole : ℕ → Bool) where
       both a b latest _ = b
 
       go : (t : Bool) → whole k ≡ t
-          → Says (Still (Passed k s) s) Anything (cond t (and_then (narrow_side test earliest k s) (narrow_side test latest k)) (answered s))
+          → Says (Still (Passed k s) s) Anything
+          (cond t (and_then (narrow_side test earliest k s) (narrow_side test latest k)) (answered s))
       go true e =
           still_then (Stays earliest k s) (Passed k s) (Stays latest k) s (narrow_side test earliest k s) (narrow_side test latest k) both
           (side_still earliest k s)

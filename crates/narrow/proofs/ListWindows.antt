@@ -25,7 +25,8 @@ listed_frame l w = refl
 
 -- The windows of the list that is answered.
 module _ (l : DayList) (w : Windows) (keeps : Keeps (windows_of l) w) where
-  past_places : (i : ℕ) → (windows_of l).n ≤ i → (get_or (entries_of (list_with l w)) i blank ≡ blank) × (get_or (entries_of l) i blank ≡ blank)
+  past_places : (i : ℕ) → (windows_of l).n ≤ i
+      → (get_or (entries_of (list_with l w)) i blank ≡ blank) × (get_or (entries_of l) i blank ≡ blank)
   past_places i h = (
     get_or-eq_default (entries_of (list_with l w)) blank (omega (arith, listed_count l w)),
     get_or-eq_default (entries_of l) blank h,
@@ -76,7 +77,8 @@ module _ (l : DayList) (w : Windows) (keeps : Keeps (windows_of l) w) where
       (λ i k c. list_apart l formed i k
       (clash_carried (entries_of (list_with l w)) (entries_of l) (listed_count l w) serials (λ t. t) within i k c))
     where
-      serials : (i : ℕ) → i < length (entries_of l) → (get_or (entries_of (list_with l w)) i blank).serial ≡ (get_or (entries_of l) i blank).serial
+      serials : (i : ℕ) → i < length (entries_of l)
+          → (get_or (entries_of (list_with l w)) i blank).serial ≡ (get_or (entries_of l) i blank).serial
       serials i place = ap (λ (e : Entry). e.serial) (listed_entry l w i place)
 
       -- a minute of the narrower window lies in the one given

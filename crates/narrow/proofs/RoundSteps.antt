@@ -58,7 +58,8 @@ module _ (test : Test) where
   some_first [] ys w e = absurd (false≢true e)
   some_first (x ∷ xs) ys w e = or_later (step test x.side x.place w) _ _ (some_first xs ys _) e
 
-  some_second : (xs ys : List Step) (w : Windows) → some_refused test ys (steps_leave test xs w) ≡ true → some_refused test (xs ++ ys) w ≡ true
+  some_second : (xs ys : List Step) (w : Windows) → some_refused test ys (steps_leave test xs w) ≡ true
+      → some_refused test (xs ++ ys) w ≡ true
   unfolding some_refused steps_leave
   some_second [] ys w e = e
   some_second (x ∷ xs) ys w e = or_some (step test x.side x.place w) _ (some_second xs ys _ e)

@@ -185,7 +185,8 @@ module _ (whole : ℕ → Bool) (s : Narrowed) (formed : Formed s.windows) (plan
             kept_stays w formed planned k place (e ∙ ap answered r)
             (sym (ap (λ (v : Windows). greatest_end overload_of v k) (ap (with_r w k) r ∙ own)) ∙ (f ∙ ap answered d))
 
-        ends : (x : ℕ) → least_start overload_of w k ≡ answered x → (o : Outcome ℕ) → greatest_end overload_of (with_r w k x) k ≡ o → Stays w k
+        ends : (x : ℕ) → least_start overload_of w k ≡ answered x → (o : Outcome ℕ) → greatest_end overload_of (with_r w k x) k ≡ o
+            → Stays w k
         ends x e (answered y) f = both x y e f (ap windows_left (sym (visit_found whole s k is x e y f) ∙ same))
           where
             windows_left : Outcome Narrowed → Windows
@@ -223,7 +224,8 @@ module _ (whole : ℕ → Bool) (s t : WindowSet) (mirrors : windows_in t ≡ mi
       moves_here =
           let count : (windows_in t).n ≡ (windows_in s).n = ap (λ (w : Windows). w.n) mirrors in
           let from : get_or t.r k 0 ≡ (mirror (windows_in s)).r k = ap (λ (w : Windows). w.r k) mirrors in
-          let end : get_or ends k 0 ≡ closed_end (windows_in s) k = rw is_end (by_place_lem (closed_end (windows_in s)) _ k (omega arith) place) in
+          let end : get_or ends k 0 ≡ closed_end (windows_in s) k =
+          rw is_end (by_place_lem (closed_end (windows_in s)) _ k (omega arith) place) in
           let last : get_or late k 0 ≡ closed_end (mirror (windows_in s)) k =
           rw is_late (by_place_lem (closed_end (windows_in t)) _ k (omega arith) (omega (arith, place, count)))
           ∙ ap (λ (w : Windows). closed_end w k) mirrors in

@@ -17,7 +17,8 @@ use Rattle.jackson.specs.Minutes.{schedule}
 use Rattle.narrow.specs.Rounds.{narrowing}
 use Rattle.narrow.specs.Calls.{SameTimes, listed}
 use Rattle.narrow.proofs.Alike.{same_times, times_windows, times_whole, same_listed}
-use Rattle.planner.specs.Calls.{plan_checks, shown_checks, narrow_after, settled_or, planned, plan_of, ends_of, starts_of, broken_of, shown_of}
+use Rattle.planner.specs.Calls.{plan_checks, shown_checks, narrow_after, settled_or, planned, plan_of, ends_of, starts_of, broken_of}
+use Rattle.planner.specs.Calls.{shown_of}
 use Rattle.bounds.specs.ShownPlans.{bound_of, shown_plan}
 use Rattle.bounds.specs.declared.types.Shown.{Shown}
 

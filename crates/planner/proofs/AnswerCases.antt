@@ -113,7 +113,8 @@ module _ (checks : Outcome (Unit {0})) (l : DayList) (formed : checks ≡ answer
 -- Showing a plan of place k.
 
 -- what is put for the plan x of place k changes nothing if it is what was there
-put_shown_lem : {A : Type 0} (f : Shown → ℕ → A) (x : Shown) (k : ℕ) (v : A) → v ≡ f x k → (y : Shown) (i : ℕ) → put_shown x k v f y i ≡ f y i
+put_shown_lem : {A : Type 0} (f : Shown → ℕ → A) (x : Shown) (k : ℕ) (v : A) → v ≡ f x k → (y : Shown) (i : ℕ)
+    → put_shown x k v f y i ≡ f y i
 put_shown_lem {A} f x k v e = go x e
   where
     there : (g : ℕ → A) → v ≡ g k → (i : ℕ) → cond (eqb i k) v (g i) ≡ g i

@@ -143,7 +143,8 @@ module _ (checks : Outcome (Unit {0})) (l : DayList) (formed : checks ≡ answer
         given = λ i. narrow_windows (kinds i) (holds.windows i)
 
         go : (o : Outcome (Unit {0})) → checks ≡ o
-            → and_then o (λ _. narrow_windows (marked marks) (windows_in s)) ≡ and_then o (λ _. narrowing overload_of (whole_in l) (windows_of l))
+            → and_then o (λ _. narrow_windows (marked marks) (windows_in s)) ≡ and_then o
+            (λ _. narrowing overload_of (whole_in l) (windows_of l))
         go (answered t) e = given ∙ rw (formed_passes (windows_of l) (list_formed l (formed e)))
         go (refused k) e = refl
 

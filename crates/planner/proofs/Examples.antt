@@ -105,7 +105,8 @@ starts_at_2 = record { below = omega arith; minute = refl; none_before = none }
 
 -- Outcomes and bytes are computed.
 pub plan_examples : PlanExamples
-unfolding read_of decode_of opened_of body_of entries_from first_clash check_of values_fault header_fault opening_fault entries_fault entry_fault
+unfolding read_of decode_of opened_of body_of entries_from first_clash check_of values_fault header_fault opening_fault entries_fault
+    entry_fault
     sum first_below best list_of work left_end right_end overload_of chosen minute_of later schedule
     failed_starts failed_ends least_start greatest_end narrow_side visit visits rounds narrowing
     entries_with list_with settle_of round_of failed_deadlines failed_releases least_end greatest_start plan_checks

@@ -20,7 +20,8 @@ use Rattle.report.specs.Reports.{head_line, entry_line, entry_lines, run_line, r
 use Rattle.report.specs.Examples.{ReportExamples}
 
 pub report_examples : ReportExamples
-unfolding entry_at entry_fault fields_entry entry_of header_fault opening_fault entries_from body_of opened_of decode_of map_place first_clash read_of
+unfolding entry_at entry_fault fields_entry entry_of header_fault opening_fault entries_from body_of opened_of decode_of map_place
+    first_clash read_of
     sum first_below last_below best list_of work left_end right_end overload_of chosen minute_of later schedule
     failed_starts failed_ends least_start greatest_end narrow_side visit visits rounds narrowing entries_with list_with
     failed_deadlines failed_releases least_end greatest_start broken_in ascii digits decimal line texts run_end

@@ -178,7 +178,15 @@ module _ (b : ℕ → Bool) (x : ℕ → LineFields) where
     -- its own comes last
     own : b n ≡ true → HasLine (suc n) (xs ++ (x n ∷ [])) (length xs) n
     own e =
-        record { place = omega (arith, length-append xs (x n ∷ [])); below = omega arith; passes = e; is = get_or-append_seam xs (x n) [] [] }
+        record {
+          place =
+              omega (arith, length-append xs (x n ∷ []));
+          below =
+              omega arith;
+          passes =
+              e;
+          is = get_or-append_seam xs (x n) [] [];
+        }
 
     more_at : (j : ℕ) → (j < length xs → (t : ℕ) × HasLine n xs j t) → (p : Bool) → b n ≡ p → j < length (xs ++ cond p (x n ∷ []) [])
         → (t : ℕ) × HasLine (suc n) (xs ++ cond p (x n ∷ []) []) j t

@@ -45,7 +45,8 @@ module _ (number : ℕ) where
 
 -- a room read
 pub room_read : (xs : List ℕ) (i : ℕ) → i < length xs / room_numbers → (s : Stage) → s ≡ stage_of (get_or xs (room_numbers * i) 0)
-    → record { stage = s; rounds = get_or xs (room_numbers * i + 1) 0; moves = get_or xs (room_numbers * i + 2) 0 } ≡ get_or (rooms_in xs) i no_row
+    → record { stage = s; rounds = get_or xs (room_numbers * i + 1) 0; moves = get_or xs (room_numbers * i + 2) 0 } ≡ get_or
+    (rooms_in xs) i no_row
 room_read xs i h s e = rw e (room_inside xs i h)
 
 -- the refusal of a room

@@ -5,5 +5,6 @@ use Rattle.room_rows.specs.Calls.{lent_in, NumbersTurn}
 use Rattle.room_rows.specs.declared.turn.TurnNumbers.{TurnNumbers}
 
 -- a turn over rows of three numbers, whatever stands behind them
-abbrev pub TurnsRooms : (xs lists : List ℕ) (number : ℕ) (carried : List ℕ) → TurnNumbers → (new_rooms new_lists new_carried : List ℕ) → Type 0
+abbrev pub TurnsRooms : (xs lists : List ℕ) (number : ℕ) (carried : List ℕ) → TurnNumbers → (new_rooms new_lists new_carried : List ℕ)
+    → Type 0
 TurnsRooms xs lists number carried = NumbersTurn (lent_in xs lists) (turn_of (lent_in xs lists) number) xs carried

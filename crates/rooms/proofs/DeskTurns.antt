@@ -100,7 +100,8 @@ module _ (d : Desk) (good : Good d.lent) where
     pub new_length : length (new_share k) ≡ share_bytes
     new_length =
         ap length (sym (own_share d k))
-        ∙ length_kept (room_in d k) (own_turn (room_in d k)) (own_turn_lem (room_in d k) (good.reads k h)) (share_size k x.lists share_inside)
+        ∙ length_kept (room_in d k) (own_turn (room_in d k)) (own_turn_lem (room_in d k) (good.reads k h))
+        (share_size k x.lists share_inside)
 
     room_same : room_in (desk_after k) k ≡ own_turn (room_in d k)
     unfolding own_turn

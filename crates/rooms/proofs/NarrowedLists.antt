@@ -108,7 +108,8 @@ entries_grow f w i (e ∷ es) sound narrower =
     )
 
 -- so of the list's own bytes none is left behind the one form that takes their place
-pub form_grows : (l : DayList) (v : Windows) → WellFormed l → Keeps (windows_of l) v → length (bytes_of l) ≤ length (bytes_of (list_with l v))
+pub form_grows : (l : DayList) (v : Windows) → WellFormed l → Keeps (windows_of l) v
+    → length (bytes_of l) ≤ length (bytes_of (list_with l v))
 unfolding list_with
 form_grows l v formed keeps =
     let es = entries_of l in

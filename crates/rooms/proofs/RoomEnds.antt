@@ -57,7 +57,8 @@ finishes (suc k) s true is reads enough =
     ap unfinished (alone_next unfinished own_turn k s is)
     ∙ ends_or_less s (own_turn s) (own_turn_lem s reads)
     (λ e. ap unfinished (alone_finished unfinished own_turn k (own_turn s) e) ∙ e)
-    (λ less. finishes k (own_turn s) (unfinished (own_turn s)) refl (reads_kept s (own_turn s) (own_turn_lem s reads) reads) (omega (arith, less)))
+    (λ less. finishes k (own_turn s) (unfinished (own_turn s)) refl (reads_kept s (own_turn s) (own_turn_lem s reads) reads)
+    (omega (arith, less)))
 
 -- for every room, whatever its row
 pub room_finishes : (s : RoomState) → Bytes s.share → unfinished (alone unfinished own_turn (suc (slack_of s.share)) s) ≡ false
@@ -155,7 +156,8 @@ rest_alone : (share : List ℕ) → Says Stands Anything (front_of share) → re
 unfolding rest_of rest_read answer_alone settle_of narrowing
 rest_alone share = go (front_of share)
   where
-    after_test : (l : DayList) (o : Outcome (Unit {0})) (u : Outcome Narrowed) → and_then o (λ _. listed l u) ≡ listed l (and_then o (λ _. u))
+    after_test : (l : DayList) (o : Outcome (Unit {0})) (u : Outcome Narrowed)
+        → and_then o (λ _. listed l u) ≡ listed l (and_then o (λ _. u))
     after_test l (answered x) u = refl
     after_test l (refused k) u = refl
 

@@ -83,7 +83,8 @@ module _ (stage : Stage) (m : ℕ) (share : List ℕ) where
     overloaded k t = (rw (e, t), rw (e, t))
 
     rest_is : first_test stage l ≡ answered tt
-        → rest_of stage m share ≡ listed l (rounds overload_of (whole_in l) (suc (slack (whole_in l) (windows_of l))) (state (windows_of l) m))
+        → rest_of stage m share ≡ listed l
+        (rounds overload_of (whole_in l) (suc (slack (whole_in l) (windows_of l))) (state (windows_of l) m))
     unfolding rest_of rest_read
     rest_is t = rw (e, t)
 

@@ -53,7 +53,8 @@ module _ (x : Lent) (b : Bytes x.lists) (number : ℕ) (fit : Fit x) where
   room_after_lem t i = ap (λ (c : Cycle RoomState). c.rooms i) (cycle_turns_lem t first (good x b fit))
 
   own_alone : (i t : ℕ) → i < m
-      → room_in (after_turns x number t) i ≡ alone unfinished own_turn (own_turns unfinished own_turn m t (cycle_of first) i) (room_in first i)
+      → room_in (after_turns x number t) i ≡ alone unfinished own_turn (own_turns unfinished own_turn m t (cycle_of first) i)
+      (room_in first i)
   own_alone i t h = room_after_lem t i ∙ projected unfinished own_turn m t (cycle_of first) i h
 
   module _ (i t : ℕ) (h : i < m) (enough : m * (1 + slack_of (share_of i x.lists)) ≤ t) where

@@ -55,7 +55,8 @@ two_rooms a b = record { rows = room_with a 5 6 ∷ room_with b 0 0 ∷ []; list
 
 pub record RoomExamples : Type 0 where
   -- a fresh room: one round with a move, which writes over two of the bytes behind the list, and one without
-  pub first_round : own_turn fresh_room ≡ record { row = room_with Begun 1 1; share = narrowed_bytes ++ (0xCC ∷ 0xDD ∷ []); said = answered tt }
+  pub first_round : own_turn fresh_room
+      ≡ record { row = room_with Begun 1 1; share = narrowed_bytes ++ (0xCC ∷ 0xDD ∷ []); said = answered tt }
   pub second_round : own_turn (own_turn fresh_room)
       ≡ record { row = room_with Settled 2 1; share = narrowed_bytes ++ (0xCC ∷ 0xDD ∷ []); said = answered tt }
   -- the sum of d - r - p is 2 - 0 - 1, so that the bound allows two own turns, and both are needed

@@ -45,7 +45,8 @@ Ends (refused k) s = EndsRefused k s
 -- "the sum of d - r - p over its whole entries, 0 where its share does not read"
 pub record SlackLaw (share : List ℕ) : Type 0 where
   pub read : (l : DayList) → front_of share ≡ answered l
-      → slack_of share ≡ sum (length (entries_of l)) (λ i. let e = get_or (entries_of l) i blank in cond (whole_in l i) (e.d - (e.r + e.p)) 0)
+      → slack_of share
+      ≡ sum (length (entries_of l)) (λ i. let e = get_or (entries_of l) i blank in cond (whole_in l i) (e.d - (e.r + e.p)) 0)
   pub unread : (k : Code) → front_of share ≡ refused k → slack_of share ≡ 0
 
 -- turns over what is lent, all of it left to them and the number handed on, the first from this number

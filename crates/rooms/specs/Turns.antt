@@ -27,7 +27,8 @@ row_in x i = get_or x.rows i no_row
 -- the first eight rows, this one past the last
 abbrev pub eight_rows : List Room → Room → List Room
 eight_rows rows d =
-    get_or rows 0 d ∷ get_or rows 1 d ∷ get_or rows 2 d ∷ get_or rows 3 d ∷ get_or rows 4 d ∷ get_or rows 5 d ∷ get_or rows 6 d ∷ get_or rows 7 d ∷ []
+    get_or rows 0 d ∷ get_or rows 1 d ∷ get_or rows 2 d ∷ get_or rows 3 d
+    ∷ get_or rows 4 d ∷ get_or rows 5 d ∷ get_or rows 6 d ∷ get_or rows 7 d ∷ []
 
 -- the share of room i in the buffer
 abbrev pub share_of : ℕ → List ℕ → List ℕ

@@ -110,7 +110,8 @@ module _ (bs : List ℕ) (b : Bytes bs) where
       (λ same. rw same (whole (front_of bs) refl read_says same))
       (λ at h r alone. rw r (record { inside = omega arith; read = sym alone }))
     where
-      whole : (o : Outcome DayList) → front_of bs ≡ o → Says Read (Told bs) o → read_of bs ≡ front_of bs → EndsAt bs (read_end o (length bs))
+      whole : (o : Outcome DayList) → front_of bs ≡ o → Says Read (Told bs) o → read_of bs ≡ front_of bs
+          → EndsAt bs (read_end o (length bs))
       whole (answered l) e p same = record { inside = omega arith; read = ap read_of (take-length bs) ∙ same }
       whole (refused k) e not same =
           rw (ne_eqb k.number 8 not.0) (record { inside = omega arith; read = ap read_of (take-length bs) ∙ same })

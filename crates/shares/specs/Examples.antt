@@ -12,7 +12,8 @@ no_list = 0xAA ∷ 0x00 ∷ 0xFF ∷ []
 
 pub record FrontExamples : Type 0 where
   -- "bytes after the list are not tested", by 8 or by any other row
-  pub read : front_of (touching_bytes ++ no_list) ≡ answered (day_list (record { h = 10; opening = 0 }) (serial501 0 4 ∷ serial501 4 10 ∷ []))
+  pub read : front_of (touching_bytes ++ no_list)
+      ≡ answered (day_list (record { h = 10; opening = 0 }) (serial501 0 4 ∷ serial501 4 10 ∷ []))
   pub tested_elsewhere : read_of (touching_bytes ++ no_list) ≡ refused (code 8 (21 ∷ []))
   pub none_follow : front_of touching_bytes ≡ read_of touching_bytes
   -- 14 is tested, and carries its place from the first byte on

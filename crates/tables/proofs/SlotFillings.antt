@@ -105,4 +105,5 @@ module _ (c : ℕ) (some : 1 ≤ c) where
     pub filling_is : filling c w ≡ schedule (slots c w)
     unfolding filling schedule
     filling_is =
-        sym (list_multiple c w.h (place_at first) ∙ concat_same c w.h (λ k j. place_at first (c * k + j)) (table_at c (day_start w)) slot_is)
+        sym (list_multiple c w.h (place_at first) ∙ concat_same c w.h (λ k j. place_at first (c * k + j)) (table_at c (day_start w))
+        slot_is)

@@ -13,7 +13,8 @@ use Rattle.base.specs.Outcomes.{Code, code, Outcome, answered, refused, first_of
 use Rattle.base.specs.Counting.{sum, best}
 use Rattle.base.proofs.Multiples.{mul_lt, of_mul_lt, of_mul_le, mul_cancel, mul_leb, mul_ltb}
 use Rattle.windows.specs.Windows.{Windows}
-use Rattle.windows.specs.Intervals.{work, Overloaded, IntervalShown, NoOverload, ShowsOverload, is_overloaded, left_end, right_end, overload_of}
+use Rattle.windows.specs.Intervals.{work, Overloaded, IntervalShown, NoOverload, ShowsOverload, is_overloaded, left_end, right_end}
+use Rattle.windows.specs.Intervals.{overload_of}
 use Rattle.tables.specs.TableIntervals.{TableOverloaded, NoTableOverload, TableIntervalShown, ShowsTableOverload, is_table_overloaded}
 use Rattle.tables.specs.TableIntervals.{table_left_end, table_right_end, table_overload_of}
 use Rattle.tables.specs.Slots.{slots}

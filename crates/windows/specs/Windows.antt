@@ -1,5 +1,6 @@
 -- "A set of windows has one for each entry." The rules speak of windows by the entry's place, as functions of it.
-use Rattle.std.specs.Prelude.{ℕ, ◌+◌, ◌-◌, ◌<◌, ◌≤◌, min, max, ◌≡◌, Bool, cond, not, ◌&&◌, List, [], ◌∷◌, map, length, get_or, eqb, leb, ltb}
+use Rattle.std.specs.Prelude.{ℕ, ◌+◌, ◌-◌, ◌<◌, ◌≤◌, min, max, ◌≡◌, Bool, cond, not, ◌&&◌, List, [], ◌∷◌, map, length, get_or, eqb, leb}
+use Rattle.std.specs.Prelude.{ltb}
 use Rattle.base.specs.Outcomes.{Outcome, answered, row, first_of}
 use Rattle.base.specs.Counting.{first_below}
 use Rattle.list.specs.DayLists.{entries_of, blank, most_entries}

@@ -15,6 +15,8 @@ give_narrowed-requires c =
 
 pub returns : goal.returns
 returns c =
-    let given = beside_given c.args.fields.now c.args.narrowed.now c.list_beside-given.result c.list_beside-given.ensures c.in-Accepted.is in
-    shown_said c.args.fields.now c.args.narrowed.now _ _ given _ Early c.args.place c.args.plan.now _ c.show_early-answer.result
+    let narrowed = c.args.narrowed.now in
+    let fields = c.args.fields.now in
+    let given = beside_given fields narrowed c.list_beside-given.result c.list_beside-given.ensures c.in-Accepted.is in
+    shown_said fields narrowed _ _ given _ Early c.args.place c.args.plan.now _ c.show_early-answer.result
     c.show_early-answer.ensures c.give_narrowed.ensures

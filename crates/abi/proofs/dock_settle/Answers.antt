@@ -14,6 +14,8 @@ give_narrowed-requires c =
 
 pub returns : goal.returns
 returns c =
-    let given = beside_given c.args.fields.now c.args.narrowed.now c.list_beside-given.result c.list_beside-given.ensures c.in-Accepted.is in
-    settle_said c.args.fields.now c.args.narrowed.now _ _ given _ c.settle.result c.give_narrowed.ensures
+    let narrowed = c.args.narrowed.now in
+    let fields = c.args.fields.now in
+    let given = beside_given fields narrowed c.list_beside-given.result c.list_beside-given.ensures c.in-Accepted.is in
+    settle_said fields narrowed _ _ given _ c.settle.result c.give_narrowed.ensures
     c.settle.ensures

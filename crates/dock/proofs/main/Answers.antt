@@ -5,7 +5,15 @@ use Rattle.dock.proofs.Cases.{limit_is, size_is, size_fits}
 use Rattle.dock.proofs.main.Goals as goal
 
 pub text_of-size-requires : goal.text_of-size-requires
-text_of-size-requires c = record { input_limit = limit_is _ (search rules) (search rules); count_in_bounds = search rules; enough_in_bounds = search rules }
+text_of-size-requires c =
+    record {
+      input_limit =
+          limit_is _ (search rules) (search rules);
+      count_in_bounds =
+          search rules;
+      enough_in_bounds =
+          search rules;
+    }
 
 pub slice_bounds-text-end : goal.slice_bounds-text-end
 slice_bounds-text-end c = size_fits _ _ _ c.text_of-size.ensures.read

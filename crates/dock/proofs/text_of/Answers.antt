@@ -17,5 +17,6 @@ returns-in-Written c =
 pub returns-in-NotWritten : goal.returns-in-NotWritten
 returns-in-NotWritten c =
     prints c.args.input.now c.args.count c.requires.input_limit _ _
-    (rw (refused_printed _ c.args.text.now c.report-answer.result _ c.report-answer.ensures c.requires.enough_in_bounds _ c.in-NotWritten.is)
+    (rw (refused_printed _ c.args.text.now c.report-answer.result _ c.report-answer.ensures c.requires.enough_in_bounds _
+    c.in-NotWritten.is)
     c.line_of.ensures)

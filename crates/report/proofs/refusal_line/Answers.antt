@@ -13,21 +13,27 @@ use Rattle.report.proofs.refusal_line.Goals as goal
 
 pub slice_bounds-line-end : goal.slice_bounds-line-end
 slice_bounds-line-end c =
-    let number_fits : c.args.code.number < 2 ^ 64 = omega arith in
-    let values-fit : (i : ℕ) → get_or c.args.code.values i 0 < 2 ^ 64 = λ i. let fits : Fits w64 (get_or c.args.code.values i 0) = search rules in fits.fits in
-    line_fits c.args.code (number_fits) (values-fit) _ _ refl c.put_refusal-size.result c.put_refusal-size.ensures
+    let code = c.args.code in
+    let number_fits : code.number < 2 ^ 64 = omega arith in
+    let values_fit : (i : ℕ) → get_or code.values i 0 < 2 ^ 64 =
+    λ i. let fits : Fits w64 (get_or code.values i 0) = search rules in fits.fits in
+    line_fits code number_fits values_fit _ _ refl c.put_refusal-size.result c.put_refusal-size.ensures
 
 pub slice_bounds-store-end : goal.slice_bounds-store-end
 slice_bounds-store-end c =
-    let number_fits : c.args.code.number < 2 ^ 64 = omega arith in
-    let values-fit : (i : ℕ) → get_or c.args.code.values i 0 < 2 ^ 64 = λ i. let fits : Fits w64 (get_or c.args.code.values i 0) = search rules in fits.fits in
+    let code = c.args.code in
+    let number_fits : code.number < 2 ^ 64 = omega arith in
+    let values_fit : (i : ℕ) → get_or code.values i 0 < 2 ^ 64 =
+    λ i. let fits : Fits w64 (get_or code.values i 0) = search rules in fits.fits in
     sym
     (length-take-le _ _
-    (line_fits c.args.code (number_fits) (values-fit) _ _ refl c.put_refusal-size.result c.put_refusal-size.ensures))
+    (line_fits code number_fits values_fit _ _ refl c.put_refusal-size.result c.put_refusal-size.ensures))
 
 pub returns : goal.returns
 returns c =
-    let number_fits : c.args.code.number < 2 ^ 64 = omega arith in
-    let values-fit : (i : ℕ) → get_or c.args.code.values i 0 < 2 ^ 64 = λ i. let fits : Fits w64 (get_or c.args.code.values i 0) = search rules in fits.fits in
-    line_stored c.args.code (number_fits) (values-fit) _ _ refl c.put_refusal-size.result c.put_refusal-size.ensures
+    let code = c.args.code in
+    let number_fits : code.number < 2 ^ 64 = omega arith in
+    let values_fit : (i : ℕ) → get_or code.values i 0 < 2 ^ 64 =
+    λ i. let fits : Fits w64 (get_or code.values i 0) = search rules in fits.fits in
+    line_stored code number_fits values_fit _ _ refl c.put_refusal-size.result c.put_refusal-size.ensures
     c.args.out.now _ c.store.result c.store.ensures

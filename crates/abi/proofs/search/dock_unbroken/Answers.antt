@@ -15,7 +15,9 @@ give_narrowed-requires c =
 
 pub returns : goal.returns
 returns c =
-    let given = beside_given c.args.fields.now c.args.narrowed.now c.list_beside-given.result c.list_beside-given.ensures c.in-Accepted.is in
-    unbroken_said c.args.fields.now c.args.narrowed.now _ _ given _ c.args.limit c.args.plan.now _ c.args.starts.now _
+    let narrowed = c.args.narrowed.now in
+    let fields = c.args.fields.now in
+    let given = beside_given fields narrowed c.list_beside-given.result c.list_beside-given.ensures c.in-Accepted.is in
+    unbroken_said fields narrowed _ _ given _ c.args.limit c.args.plan.now _ c.args.starts.now _
     c.unbroken_day-answer.result c.unbroken_day-answer.ensures c.give_starts.ensures
     _ c.ending_number.ensures c.give_narrowed.ensures

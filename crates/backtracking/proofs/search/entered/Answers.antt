@@ -14,16 +14,22 @@ use Rattle.backtracking.proofs.search.entered.Goals as goal
 
 pub returns-then-place-count : goal.returns-then-place-count
 returns-then-place-count c =
-    let next_one : NextWhole (marked c.args.whole) (windows_in c.args.windows).n c.args.k c.next_whole-place.result = rw (← c.places_held-count.ensures) c.next_whole-place.ensures in
-    let fits-r : (j : ℕ) → Fits w16 (get_or c.args.windows.r j 0) = λ j. search rules in
-    enters_whole (marked c.args.whole) (windows_in c.args.windows) c.args.fixed c.args.k c.args.trials c.next_whole-place.result
-    c.requires.fixed_below (next_one)
-    (omega (arith, c.if-place-count.true, c.places_held-count.ensures))
-    (omega (arith, fits-r c.next_whole-place.result))
+    let count_says = c.places_held-count.ensures in
+    let place = c.next_whole-place.result in
+    let windows = c.args.windows in
+    let next_one : NextWhole (marked c.args.whole) (windows_in windows).n c.args.k place = rw (← count_says) c.next_whole-place.ensures in
+    let fits_r : (j : ℕ) → Fits w16 (get_or windows.r j 0) = λ j. search rules in
+    enters_whole (marked c.args.whole) (windows_in windows) c.args.fixed c.args.k c.args.trials place
+    c.requires.fixed_below next_one
+    (omega (arith, c.if-place-count.true, count_says))
+    (omega (arith, fits_r place))
 
 pub returns-else-place-count : goal.returns-else-place-count
 returns-else-place-count c =
-    let next_one : NextWhole (marked c.args.whole) (windows_in c.args.windows).n c.args.k c.next_whole-place.result = rw (← c.places_held-count.ensures) c.next_whole-place.ensures in
-    enters_all (marked c.args.whole) (windows_in c.args.windows) c.args.fixed c.args.k c.args.trials c.next_whole-place.result
-    c.requires.fixed_below (next_one)
-    (omega (arith, c.if-place-count.false, c.places_held-count.ensures))
+    let count_says = c.places_held-count.ensures in
+    let place = c.next_whole-place.result in
+    let next_one : NextWhole (marked c.args.whole) (windows_in c.args.windows).n c.args.k place =
+    rw (← count_says) c.next_whole-place.ensures in
+    enters_all (marked c.args.whole) (windows_in c.args.windows) c.args.fixed c.args.k c.args.trials place
+    c.requires.fixed_below next_one
+    (omega (arith, c.if-place-count.false, count_says))

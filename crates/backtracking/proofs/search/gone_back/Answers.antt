@@ -10,21 +10,21 @@ use Rattle.backtracking.proofs.search.gone_back.Goals as goal
 
 pub overflow_cast-result : goal.overflow_cast-result
 overflow_cast-result c =
-    let fits-r : Fits w16 (get_or c.args.at.windows.r c.args.k 0) = search rules in
-    search (rules, fits-r)
+    let fits_r : Fits w16 (get_or c.args.at.windows.r c.args.k 0) = search rules in
+    search (rules, fits_r)
 
 pub overflow_add-result : goal.overflow_add-result
 overflow_add-result c =
-    let fits-r : Fits w16 (get_or c.args.at.windows.r c.args.k 0) = search rules in
-    omega (arith, fits-r)
+    let fits_r : Fits w16 (get_or c.args.at.windows.r c.args.k 0) = search rules in
+    omega (arith, fits_r)
 
 pub returns : goal.returns
 returns c =
-    let fits-r : Fits w16 (get_or c.args.at.windows.r c.args.k 0) = search rules in
+    let fits_r : Fits w16 (get_or c.args.at.windows.r c.args.k 0) = search rules in
     record {
       windows = c.with_window.ensures;
       place = refl;
       start = refl;
-      small = omega (arith, fits-r);
+      small = omega (arith, fits_r);
       trials = refl;
     }

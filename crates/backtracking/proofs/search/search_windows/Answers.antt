@@ -27,10 +27,12 @@ start_left-requires c =
 
 pub tried-at-requires : goal.tried-at-requires
 tried-at-requires c =
-    let place : c.loop-at.at.place < (windows_in c.args.windows).n = omega (arith, c.if-count-at.false, c.places_held-count.ensures) in
-    let left : StartLeft (windows_in c.args.windows) c.loop-at.at = way_left (marked c.args.whole) c.args.windows c.args.limit c.loop-at.at c.loop-at.invariant (place)
+    let holds = c.loop-at.invariant in
+    let windows = c.args.windows in
+    let place : c.loop-at.at.place < (windows_in windows).n = omega (arith, c.if-count-at.false, c.places_held-count.ensures) in
+    let left : StartLeft (windows_in windows) c.loop-at.at = way_left (marked c.args.whole) windows c.args.limit c.loop-at.at holds place
     (sym c.start_left.ensures ∙ c.if-start_left.true) in
-    record { stands = c.loop-at.invariant.stands; start_left = left; trials_bound = search rules }
+    record { stands = holds.stands; start_left = left; trials_bound = search rules }
 
 pub loop-at-smaller-then-start_left : goal.loop-at-smaller-then-start_left
 loop-at-smaller-then-start_left c =
@@ -54,18 +56,23 @@ gone_back-at-requires c =
 
 pub loop-at-smaller : goal.loop-at-smaller
 loop-at-smaller c =
-    let last : LastWhole (marked c.args.whole) c.loop-at.at.place (suc (c.last_whole-last.result - 1)) = let z : c.last_whole-last.result ≡ suc (c.last_whole-last.result - 1) = omega (arith, c.if-last-eq0.false) in
+    let at_says = c.gone_back-at.ensures in
+    let last : LastWhole (marked c.args.whole) c.loop-at.at.place (suc (c.last_whole-last.result - 1)) =
+    let z : c.last_whole-last.result ≡ suc (c.last_whole-last.result - 1) = omega (arith, c.if-last-eq0.false) in
     rw (← z) c.last_whole-last.ensures in
-    omega (arith, c.gone_back-at.ensures.place, c.gone_back-at.ensures.trials, (last).within)
+    omega (arith, at_says.place, at_says.trials, last.within)
 
 pub loop-at-preserved : goal.loop-at-preserved
 loop-at-preserved c =
-    let place : c.loop-at.at.place < (windows_in c.args.windows).n = omega (arith, c.if-count-at.false, c.places_held-count.ensures) in
-    let none_left : let w = windows_in c.args.windows in leb (c.loop-at.at.start + w.p c.loop-at.at.place) (w.d c.loop-at.at.place) ≡ false = sym c.start_left.ensures ∙ c.if-start_left.false in
-    let last : LastWhole (marked c.args.whole) c.loop-at.at.place (suc (c.last_whole-last.result - 1)) = let z : c.last_whole-last.result ≡ suc (c.last_whole-last.result - 1) = omega (arith, c.if-last-eq0.false) in
+    let windows = c.args.windows in
+    let place : c.loop-at.at.place < (windows_in windows).n = omega (arith, c.if-count-at.false, c.places_held-count.ensures) in
+    let none_left : let w = windows_in windows in leb (c.loop-at.at.start + w.p c.loop-at.at.place) (w.d c.loop-at.at.place) ≡ false =
+    sym c.start_left.ensures ∙ c.if-start_left.false in
+    let last : LastWhole (marked c.args.whole) c.loop-at.at.place (suc (c.last_whole-last.result - 1)) =
+    let z : c.last_whole-last.result ≡ suc (c.last_whole-last.result - 1) = omega (arith, c.if-last-eq0.false) in
     rw (← z) c.last_whole-last.ensures in
-    way_again (marked c.args.whole) c.args.windows c.args.limit c.loop-at.at c.loop-at.invariant
-    (place) (none_left) _ (last)
+    way_again (marked c.args.whole) windows c.args.limit c.loop-at.at c.loop-at.invariant
+    place none_left _ last
     c.gone_back-at.result c.gone_back-at.ensures
 
 pub returns-then-count-at : goal.returns-then-count-at
@@ -76,18 +83,24 @@ returns-then-count-at c =
 
 pub returns-then-limit-at : goal.returns-then-limit-at
 returns-then-limit-at c =
-    let place : c.loop-at.at.place < (windows_in c.args.windows).n = omega (arith, c.if-count-at.false, c.places_held-count.ensures) in
-    let left : StartLeft (windows_in c.args.windows) c.loop-at.at = way_left (marked c.args.whole) c.args.windows c.args.limit c.loop-at.at c.loop-at.invariant (place)
+    let holds = c.loop-at.invariant in
+    let windows = c.args.windows in
+    let whole = c.args.whole in
+    let limit = c.args.limit in
+    let place : c.loop-at.at.place < (windows_in windows).n = omega (arith, c.if-count-at.false, c.places_held-count.ensures) in
+    let left : StartLeft (windows_in windows) c.loop-at.at = way_left (marked whole) windows limit c.loop-at.at holds place
     (sym c.start_left.ensures ∙ c.if-start_left.true) in
-    searches_so (marked c.args.whole) c.args.windows c.args.limit _
-    (way_spent (marked c.args.whole) c.args.windows c.args.limit c.loop-at.at c.loop-at.invariant
-    (place) (left) c.if-limit-at.true)
+    searches_so (marked whole) windows limit _
+    (way_spent (marked whole) windows limit c.loop-at.at holds
+    place left c.if-limit-at.true)
 
 pub returns-then-last-eq0 : goal.returns-then-last-eq0
 returns-then-last-eq0 c =
-    let place : c.loop-at.at.place < (windows_in c.args.windows).n = omega (arith, c.if-count-at.false, c.places_held-count.ensures) in
-    let none_left : let w = windows_in c.args.windows in leb (c.loop-at.at.start + w.p c.loop-at.at.place) (w.d c.loop-at.at.place) ≡ false = sym c.start_left.ensures ∙ c.if-start_left.false in
+    let windows = c.args.windows in
+    let place : c.loop-at.at.place < (windows_in windows).n = omega (arith, c.if-count-at.false, c.places_held-count.ensures) in
+    let none_left : let w = windows_in windows in leb (c.loop-at.at.start + w.p c.loop-at.at.place) (w.d c.loop-at.at.place) ≡ false =
+    sym c.start_left.ensures ∙ c.if-start_left.false in
     let z : c.last_whole-last.result ≡ 0 = c.if-last-eq0.true in
-    searches_so (marked c.args.whole) c.args.windows c.args.limit _
-    (way_none (marked c.args.whole) c.args.windows c.args.limit c.loop-at.at c.loop-at.invariant
-    (place) (none_left) (rw z at c.last_whole-last.ensures))
+    searches_so (marked c.args.whole) windows c.args.limit _
+    (way_none (marked c.args.whole) windows c.args.limit c.loop-at.at c.loop-at.invariant
+    place none_left (rw z at c.last_whole-last.ensures))

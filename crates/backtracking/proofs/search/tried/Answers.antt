@@ -18,13 +18,13 @@ overflow_add-e c =
 
 pub overflow_cast-s : goal.overflow_cast-s
 overflow_cast-s c =
-    let fits-d : Fits w16 (get_or c.args.windows.d c.args.at.place 0) = search rules in
-    omega (arith, fits-d, c.requires.start_left.room)
+    let fits_d : Fits w16 (get_or c.args.windows.d c.args.at.place 0) = search rules in
+    omega (arith, fits_d, c.requires.start_left.room)
 
 pub overflow_cast-e-2 : goal.overflow_cast-e-2
 overflow_cast-e-2 c =
-    let fits-d : Fits w16 (get_or c.args.windows.d c.args.at.place 0) = search rules in
-    omega (arith, fits-d, c.requires.start_left.room)
+    let fits_d : Fits w16 (get_or c.args.windows.d c.args.at.place 0) = search rules in
+    omega (arith, fits_d, c.requires.start_left.room)
 
 pub with_window-fixed-requires : goal.with_window-fixed-requires
 with_window-fixed-requires c = search (rules, c.requires.start_left.place)
@@ -49,8 +49,8 @@ returns-then-has_plan c =
 
 pub returns : goal.returns
 returns c =
-    let fits-d : Fits w16 (get_or c.args.windows.d c.args.at.place 0) = search rules in
+    let fits_d : Fits w16 (get_or c.args.windows.d c.args.at.place 0) = search rules in
     tries_fails (marked c.args.whole) (windows_in c.args.windows) c.args.at c.requires.stands c.requires.start_left
     (windows_in c.with_window-fixed.result) c.with_window-fixed.ensures
     (sym c.has_plan.ensures ∙ c.if-has_plan.false)
-    (omega (arith, fits-d, c.requires.start_left.room))
+    (omega (arith, fits_d, c.requires.start_left.room))

@@ -11,12 +11,15 @@ use Rattle.bounds.proofs.ends.least_end.Goals as goal
 
 pub end_by_kind-requires : goal.end_by_kind-requires
 end_by_kind-requires c =
-    let short : c.args.windows.h < 65536 = search rules in
-    let w = windows_in c.args.windows in
+    let windows = c.args.windows in
+    let short : windows.h < 65536 = search rules in
+    let w = windows_in windows in
     let test = c.is_accepted-planned.ensures ∙ ap accepts c.unchecked_overload.ensures in
-    let at = closed_at c.args.windows c.closed_ends-closed.result c.closed_ends-closed.ensures.ends c.args.k c.requires.place in record {
+    let at = closed_at windows c.closed_ends-closed.result c.closed_ends-closed.ensures.ends c.args.k c.requires.place in record {
       p_bound = omega (arith, c.requires.formed.room _ c.requires.place, c.requires.formed.in_day _ c.requires.place, short);
-      closed_bound = closed_small (λ _. c.args.whole) w c.requires.formed c.args.k c.requires.place c.is_accepted-planned.result _ (λ _. test) (λ _. at)
+      closed_bound =
+          closed_small (λ _. c.args.whole) w c.requires.formed c.args.k c.requires.place c.is_accepted-planned.result _ (λ _. test)
+          (λ _. at)
           (omega (arith, short));
     }
 

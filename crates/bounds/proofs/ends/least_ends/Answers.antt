@@ -15,12 +15,15 @@ loop-i-init c = placed_none _ _ _ (omega arith) c.zeros-ends.ensures
 
 pub end_by_kind-requires : goal.end_by_kind-requires
 end_by_kind-requires c =
-    let short : c.args.windows.h < 65536 = search rules in
-    let place : c.loop-i.i < (windows_in c.args.windows).n = omega (arith, c.loop-i-test.true, c.places_held-count.ensures) in
+    let windows = c.args.windows in
+    let short : windows.h < 65536 = search rules in
+    let place : c.loop-i.i < (windows_in windows).n = omega (arith, c.loop-i-test.true, c.places_held-count.ensures) in
     let at = place in
     let whole = marked c.args.whole in record {
       p_bound = omega (arith, c.requires.formed.room _ at, c.requires.formed.in_day _ at, short);
-      closed_bound = closed_small whole (windows_in c.args.windows) c.requires.formed _ at c.args.planned _ (c.requires.pauses_planned _ at) (c.pause_ends-closed.ensures _ at)
+      closed_bound =
+          closed_small whole (windows_in windows) c.requires.formed _ at c.args.planned _ (c.requires.pauses_planned _ at)
+          (c.pause_ends-closed.ensures _ at)
           (omega (arith, short));
     }
 

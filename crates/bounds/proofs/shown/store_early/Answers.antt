@@ -21,7 +21,9 @@ bounds-shown-k c = search (rules, c.requires.searchable.place)
 
 pub returns : goal.returns
 returns c =
-    let long : length c.args.windows.d ≡ 64 = search rules in
-    let same = held_d c.args.windows c.args.k c.least_end-end.result (omega (arith, long, c.requires.searchable.place)) in
-    stored_early (λ _. c.args.whole) (windows_in c.args.windows) _ c.args.k c.least_end-end.result c.args.plan.now c.unchecked_schedule-filled.result _ same
+    let end = c.least_end-end.result in
+    let windows = c.args.windows in
+    let long : length windows.d ≡ 64 = search rules in
+    let same = held_d windows c.args.k end (omega (arith, long, c.requires.searchable.place)) in
+    stored_early (λ _. c.args.whole) (windows_in windows) _ c.args.k end c.args.plan.now c.unchecked_schedule-filled.result _ same
     c.unchecked_schedule-filled.ensures c.requires.h_in_bounds c.least_end-end.ensures

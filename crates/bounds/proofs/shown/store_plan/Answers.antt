@@ -15,19 +15,22 @@ returns-in_default c =
 pub returns-then-places_held-k : goal.returns-then-places_held-k
 returns-then-places_held-k c =
     let past : (windows_in c.args.windows).n ≤ c.args.k = omega (arith, c.if-places_held-k.true, c.places_held.ensures) in
-    no_place c.args.shown c.args.whole c.args.windows c.args.k c.args.plan.now c.room_fault-fault.result c.room_fault-fault.ensures c.in-Accepted.is
+    no_place c.args.shown c.args.whole c.args.windows c.args.k c.args.plan.now c.room_fault-fault.result c.room_fault-fault.ensures
+    c.in-Accepted.is
     past _ c.no_bound.ensures
 
 pub returns-then-plan-h : goal.returns-then-plan-h
 returns-then-plan-h c =
     let known : c.args.k < (windows_in c.args.windows).n = omega (arith, c.if-places_held-k.false, c.places_held.ensures) in
-    no_buffer c.args.shown c.args.whole c.args.windows c.args.k c.args.plan.now c.room_fault-fault.result c.room_fault-fault.ensures c.in-Accepted.is
-    (known) c.if-plan-h.true _ c.no_bound-then-plan-h.ensures
+    no_buffer c.args.shown c.args.whole c.args.windows c.args.k c.args.plan.now c.room_fault-fault.result c.room_fault-fault.ensures
+    c.in-Accepted.is
+    known c.if-plan-h.true _ c.no_bound-then-plan-h.ensures
 
 pub store_shown-requires : goal.store_shown-requires
 store_shown-requires c =
     let known : c.args.k < (windows_in c.args.windows).n = omega (arith, c.if-places_held-k.false, c.places_held.ensures) in
-    let formed = stored_formed c.args.shown c.args.whole c.args.windows c.args.k c.args.plan.now c.room_fault-fault.result c.room_fault-fault.ensures
+    let formed = stored_formed c.args.shown c.args.whole c.args.windows c.args.k c.args.plan.now c.room_fault-fault.result
+    c.room_fault-fault.ensures
     c.in-Accepted.is in
     record { searchable = record { formed = formed; place = known }; h_in_bounds = omega (arith, c.if-plan-h.false) }
 

@@ -8,7 +8,13 @@ use Rattle.bounds.proofs.shown.store_shown.Goals as goal
 
 pub store_early-end-requires : goal.store_early-end-requires
 store_early-end-requires c =
-    record { searchable = searchable_mirror c.requires.searchable c.mirrored.ensures; h_in_bounds = omega (arith, ap (λ (w : Windows). w.h) c.mirrored.ensures.windows, c.requires.h_in_bounds) }
+    let mirrored_says = c.mirrored.ensures in
+    record {
+      searchable =
+          searchable_mirror c.requires.searchable mirrored_says;
+      h_in_bounds =
+          omega (arith, ap (λ (w : Windows). w.h) mirrored_says.windows, c.requires.h_in_bounds);
+    }
 
 pub overflow_sub-result : goal.overflow_sub-result
 overflow_sub-result c =

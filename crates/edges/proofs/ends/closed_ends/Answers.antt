@@ -7,11 +7,13 @@ use Rattle.edges.proofs.ends.closed_ends.Goals as goal
 
 pub ends_by_position-ends-requires : goal.ends_by_position-ends-requires
 ends_by_position-ends-requires c =
-    record { count_le_most_entries = omega (arith, c.places_held-count.ensures); each_once = held_once _ _ c.places_held-count.ensures _ _ c.largest_first-order.ensures }
+    let count_says = c.places_held-count.ensures in
+    record { count_le_most_entries = omega (arith, count_says); each_once = held_once _ _ count_says _ _ c.largest_first-order.ensures }
 
 pub at_places-requires : goal.at_places-requires
 at_places-requires c =
-    record { count_le_most_entries = omega (arith, c.places_held-count.ensures); each_once = held_once _ _ c.places_held-count.ensures _ _ c.largest_first-order.ensures }
+    let count_says = c.places_held-count.ensures in
+    record { count_le_most_entries = omega (arith, count_says); each_once = held_once _ _ count_says _ _ c.largest_first-order.ensures }
 
 pub returns : goal.returns
 returns c =

@@ -13,7 +13,12 @@ loop-j-init c = (omega arith, ends_first _ _ c.args.d.now _ _ _ c.first_ends-end
 
 pub raise_ends-requires : goal.raise_ends-requires
 raise_ends-requires c =
-    record { count_le_most_entries = c.requires.count_le_most_entries; each_once = c.requires.each_once; ends_len = c.loop-j.invariant.1.long }
+    record {
+      count_le_most_entries =
+          c.requires.count_le_most_entries;
+      each_once = c.requires.each_once;
+      ends_len = c.loop-j.invariant.1.long;
+    }
 
 pub loop-j-preserved : goal.loop-j-preserved
 loop-j-preserved c =

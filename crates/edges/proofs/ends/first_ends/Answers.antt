@@ -27,8 +27,11 @@ bounds-p-i c =
     search (rules, once_in _ _ c.requires.each_once _ c.loop-x-test.true)
 
 pub loop-x-preserved : goal.loop-x-preserved
-loop-x-preserved c =
-    (omega arith, first_next _ _ _ _ _ _ (omega (arith, c.requires.count_le_most_entries, c.loop-x-test.true)) c.loop-x.invariant.1 c.earliest_end.ensures)
+loop-x-preserved c = (
+  omega arith,
+  first_next _ _ _ _ _ _ (omega (arith, c.requires.count_le_most_entries, c.loop-x-test.true)) c.loop-x.invariant.1
+      c.earliest_end.ensures,
+)
 
 pub returns : goal.returns
 returns c =

@@ -6,7 +6,8 @@ use Rattle.edges.proofs.ends.raise_ends.Goals as goal
 
 pub loop-x-init : goal.loop-x-init
 loop-x-init c =
-    raising_start _ _ _ _ _ c.requires.count_le_most_entries c.requires.each_once c.requires.ends_len c.work_by-kept.ensures.is c.work_by-kept.ensures.small
+    let kept_says = c.work_by-kept.ensures in
+    raising_start _ _ _ _ _ c.requires.count_le_most_entries c.requires.each_once c.requires.ends_len kept_says.is kept_says.small
 
 pub offset_bounds-order-x : goal.offset_bounds-order-x
 offset_bounds-order-x c =

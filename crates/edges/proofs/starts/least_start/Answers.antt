@@ -16,25 +16,42 @@ loop-r-init c = searching_first _ _ _ _ _ _ c.wide-s.ensures
 
 pub pass-next-requires : goal.pass-next-requires
 pass-next-requires c =
+    let count_says = c.places_held-count.ensures in
     let long : length c.args.windows.p ≡ 64 = search rules in
-    record { count_le_most_entries = omega (arith, c.places_held-count.ensures); lists_places = lists_places c.args.windows c.args.k _ c.places_held-count.ensures _ c.if-count-k.false (long) c.largest_first-order.ensures }
+    record {
+      count_le_most_entries =
+          omega (arith, count_says);
+      lists_places =
+          lists_places c.args.windows c.args.k _ count_says _ c.if-count-k.false long c.largest_first-order.ensures;
+    }
 
 pub overflow_cast-result : goal.overflow_cast-result
 overflow_cast-result c =
-    search (rules, c.is_used_up.ensures.d_bound, search_room _ _ _ _ _ _ _ c.loop-r.invariant c.is_used_up.result c.is_used_up.ensures.value c.if-is_used_up.false)
+    let is_used_up_says = c.is_used_up.ensures in
+    search (
+      rules,
+      is_used_up_says.d_bound,
+      search_room _ _ _ _ _ _ _ c.loop-r.invariant c.is_used_up.result is_used_up_says.value
+          c.if-is_used_up.false,
+    )
 
 pub loop-r-smaller : goal.loop-r-smaller
 loop-r-smaller c =
+    let is_used_up_says = c.is_used_up.ensures in
+    let is_used_up = c.is_used_up.result in
+    let holds = c.loop-r.invariant in
     omega (
       arith,
-      search_room _ _ _ _ _ _ _ c.loop-r.invariant c.is_used_up.result c.is_used_up.ensures.value c.if-is_used_up.false,
-      search_less _ _ _ _ _ _ _ c.loop-r.invariant c.is_used_up.result c.is_used_up.ensures.value c.if-is_used_up.false c.is_at.result c.is_at.ensures c.pass-next.result c.pass-next.ensures
+      search_room _ _ _ _ _ _ _ holds is_used_up is_used_up_says.value c.if-is_used_up.false,
+      search_less _ _ _ _ _ _ _ holds is_used_up is_used_up_says.value c.if-is_used_up.false c.is_at.result c.is_at.ensures
+          c.pass-next.result c.pass-next.ensures
           c.if-next-s.false,
     )
 
 pub loop-r-preserved : goal.loop-r-preserved
 loop-r-preserved c =
-    search_next _ _ _ _ _ _ _ c.loop-r.invariant c.is_used_up.result c.is_used_up.ensures.value c.if-is_used_up.false c.is_at.result c.is_at.ensures c.pass-next.result
+    search_next _ _ _ _ _ _ _ c.loop-r.invariant c.is_used_up.result c.is_used_up.ensures.value c.if-is_used_up.false c.is_at.result
+    c.is_at.ensures c.pass-next.result
     c.pass-next.ensures
     c.if-next-s.false
 
@@ -50,9 +67,10 @@ pub returns-then-next-s : goal.returns-then-next-s
 returns-then-next-s c =
     let long : length c.args.windows.p ≡ 64 = search rules in
     start_found c.args.windows c.args.k _ c.places_held-count.ensures c.largest_first-order.result c.if-count-k.false
-    (long)
+    long
     c.largest_first-order.ensures _
-    (search_found _ _ _ _ _ _ _ c.loop-r.invariant c.is_used_up.result c.is_used_up.ensures.value c.if-is_used_up.false c.is_at.result c.is_at.ensures
+    (search_found _ _ _ _ _ _ _ c.loop-r.invariant c.is_used_up.result c.is_used_up.ensures.value c.if-is_used_up.false c.is_at.result
+    c.is_at.ensures
     c.pass-next.result
     c.pass-next.ensures
     c.if-next-s.true)

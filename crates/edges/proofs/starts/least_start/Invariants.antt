@@ -10,7 +10,8 @@ use Rattle.edges.proofs.starts.least_start.Given as goal
 abbrev pub invariant-loop-r : goal.invariant-loop-r
 invariant-loop-r l =
     let v = held_in l.count l.r l.d l.minutes in
-    Searching v (value_at l.order) l.first l.last l.p (start_from v (value_at l.order) l.first l.last l.p (passes l.first l.last l.p) l.first) l.s
+    Searching v (value_at l.order) l.first l.last l.p
+    (start_from v (value_at l.order) l.first l.last l.p (passes l.first l.last l.p) l.first) l.s
 
 abbrev pub decreases-loop-r : goal.decreases-loop-r
 decreases-loop-r l = suc l.last - l.s

@@ -19,12 +19,14 @@ bounds-order-x c = search (rules, c.loop-x.invariant.left)
 
 pub offset_bounds-d-i : goal.offset_bounds-d-i
 offset_bounds-d-i c =
-    let below : value_at c.args.order.now (c.loop-x.x - 1) < most_entries = c.requires.lists_places _ (omega (arith, c.loop-x.invariant.left, c.loop-x-test.true)) in
+    let below : value_at c.args.order.now (c.loop-x.x - 1) < most_entries =
+    c.requires.lists_places _ (omega (arith, c.loop-x.invariant.left, c.loop-x-test.true)) in
     search (rules, below)
 
 pub bounds-d-i : goal.bounds-d-i
 bounds-d-i c =
-    let below : value_at c.args.order.now (c.loop-x.x - 1) < most_entries = c.requires.lists_places _ (omega (arith, c.loop-x.invariant.left, c.loop-x-test.true)) in
+    let below : value_at c.args.order.now (c.loop-x.x - 1) < most_entries =
+    c.requires.lists_places _ (omega (arith, c.loop-x.invariant.left, c.loop-x-test.true)) in
     search (rules, below)
 
 pub loop-x-preserved-then-wide-s : goal.loop-x-preserved-then-wide-s

@@ -17,8 +17,8 @@ returns-then-row-eq-DAY_NUMBERS c =
       long = search (rules, length_mapped);
       minutes = each_minutes c.args.day.list.entries c.well_formed.0.1.1.0.1.1.1.1.0.0 c.well_formed.0.1.1.0.1.1.1.1.0.1.1;
     } in
-    let stamp-fits : c.args.day.stamp < 65536 = search rules in
-    day_put c.args.day (in_types) (stamp-fits) c.args.row.now _ c.if-row-eq-DAY_NUMBERS.true
+    let stamp_fits : c.args.day.stamp < 65536 = search rules in
+    day_put c.args.day (in_types) (stamp_fits) c.args.row.now _ c.if-row-eq-DAY_NUMBERS.true
     c.put_day_numbers.ensures
 
 pub returns-else-row-eq-DAY_NUMBERS : goal.returns-else-row-eq-DAY_NUMBERS

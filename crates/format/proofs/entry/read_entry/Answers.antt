@@ -10,7 +10,8 @@ returns-then-rest-eq0 c =
 
 pub returns-in-Breaks : goal.returns-in-Breaks
 returns-in-Breaks c =
-    entry_broken c.args.frame c.args.at c.args.rest.now c.if-rest-eq0.false c.map_answer-answer.result c.map_answer-answer.ensures c.in-Breaks.is
+    entry_broken c.args.frame c.args.at c.args.rest.now c.if-rest-eq0.false c.map_answer-answer.result c.map_answer-answer.ensures
+    c.in-Breaks.is
 
 pub returns-in-Follow : goal.returns-in-Follow
 returns-in-Follow c =

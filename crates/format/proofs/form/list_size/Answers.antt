@@ -15,19 +15,27 @@ loop-i-init c = sized_start c.args.list _ c.header_size-size.ensures
 
 pub overflow_add-size : goal.overflow_add-size
 overflow_add-size c =
-    let enough : c.args.list.n ≤ length c.args.list.entries = let len : length c.args.list.entries ≡ 64 = search (rules, length_mapped) in omega (arith, len, c.requires) in
-    let sized : SizedSoFar c.args.list (c.loop-i.size + c.size_of-size.result) (c.loop-i.i + 1) = sized_next c.args.list (enough) _ _ c.loop-i.i _ c.fields_in.result c.loop-i.invariant
+    let list = c.args.list in
+    let enough : list.n ≤ length list.entries =
+    let len : length list.entries ≡ 64 = search (rules, length_mapped) in omega (arith, len, c.requires) in
+    let sized : SizedSoFar list (c.loop-i.size + c.size_of-size.result) (c.loop-i.i + 1) =
+    sized_next list enough _ _ c.loop-i.i _ c.fields_in.result c.loop-i.invariant
     c.loop-i-test.true c.fields_in.ensures c.size_of-size.ensures in
-    omega (arith, list_short c.args.list c.requires, (sized).total)
+    omega (arith, list_short list c.requires, sized.total)
 
 pub loop-i-preserved : goal.loop-i-preserved
 loop-i-preserved c =
-    let enough : c.args.list.n ≤ length c.args.list.entries = let len : length c.args.list.entries ≡ 64 = search (rules, length_mapped) in omega (arith, len, c.requires) in
-    let sized : SizedSoFar c.args.list (c.loop-i.size + c.size_of-size.result) (c.loop-i.i + 1) = sized_next c.args.list (enough) _ _ c.loop-i.i _ c.fields_in.result c.loop-i.invariant
+    let list = c.args.list in
+    let enough : list.n ≤ length list.entries =
+    let len : length list.entries ≡ 64 = search (rules, length_mapped) in omega (arith, len, c.requires) in
+    let sized : SizedSoFar list (c.loop-i.size + c.size_of-size.result) (c.loop-i.i + 1) =
+    sized_next list enough _ _ c.loop-i.i _ c.fields_in.result c.loop-i.invariant
     c.loop-i-test.true c.fields_in.ensures c.size_of-size.ensures in
     sized
 
 pub returns : goal.returns
 returns c =
-    let enough : c.args.list.n ≤ length c.args.list.entries = let len : length c.args.list.entries ≡ 64 = search (rules, length_mapped) in omega (arith, len, c.requires) in
-    sized_done c.args.list (enough) _ _ c.loop-i.invariant c.loop-i-test.false
+    let list = c.args.list in
+    let enough : list.n ≤ length list.entries =
+    let len : length list.entries ≡ 64 = search (rules, length_mapped) in omega (arith, len, c.requires) in
+    sized_done list enough _ _ c.loop-i.invariant c.loop-i-test.false

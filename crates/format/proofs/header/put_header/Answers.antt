@@ -23,12 +23,14 @@ put_minute-requires c =
 
 pub shape_of-out : goal.shape_of-out
 shape_of-out c =
-    let stored : Wrote c.args.out.now 0 (header_bytes c.args.frame c.args.n) c.put_minute.new.out c.put_minute.result = header_stored c.args.frame c.args.n c.count_byte.result _ c.opens_later-written.ensures c.count_byte.ensures c.put_u16.ensures
+    let stored : Wrote c.args.out.now 0 (header_bytes c.args.frame c.args.n) c.put_minute.new.out c.put_minute.result =
+    header_stored c.args.frame c.args.n c.count_byte.result _ c.opens_later-written.ensures c.count_byte.ensures c.put_u16.ensures
     c.put_minute.ensures in
-    wrote_length (stored)
+    wrote_length stored
 
 pub returns : goal.returns
 returns c =
-    let stored : Wrote c.args.out.now 0 (header_bytes c.args.frame c.args.n) c.put_minute.new.out c.put_minute.result = header_stored c.args.frame c.args.n c.count_byte.result _ c.opens_later-written.ensures c.count_byte.ensures c.put_u16.ensures
+    let stored : Wrote c.args.out.now 0 (header_bytes c.args.frame c.args.n) c.put_minute.new.out c.put_minute.result =
+    header_stored c.args.frame c.args.n c.count_byte.result _ c.opens_later-written.ensures c.count_byte.ensures c.put_u16.ensures
     c.put_minute.ensures in
     stored

@@ -16,17 +16,47 @@ plus_if-bits-requires c =
 
 pub overflow_cast-result : goal.overflow_cast-result
 overflow_cast-result c =
-    let bits_small : c.plus_if-bits.result ≤ 31 = omega (arith, at_most c.args.m.seal 2, at_most c.args.m.r 4, at_most c.args.m.d 8, c.plus_if-bits.ensures, c.plus_if-2.ensures, c.plus_if.ensures) in
+    let bits_small : c.plus_if-bits.result ≤ 31 =
+    omega (
+      arith,
+      at_most c.args.m.seal 2,
+      at_most c.args.m.r 4,
+      at_most c.args.m.d
+          8,
+      c.plus_if-bits.ensures,
+      c.plus_if-2.ensures,
+      c.plus_if.ensures,
+    ) in
     omega (arith, bits_small)
 
 pub overflow_add-result : goal.overflow_add-result
 overflow_add-result c =
-    let bits_small : c.plus_if-bits.result ≤ 31 = omega (arith, at_most c.args.m.seal 2, at_most c.args.m.r 4, at_most c.args.m.d 8, c.plus_if-bits.ensures, c.plus_if-2.ensures, c.plus_if.ensures) in
+    let bits_small : c.plus_if-bits.result ≤ 31 =
+    omega (
+      arith,
+      at_most c.args.m.seal 2,
+      at_most c.args.m.r 4,
+      at_most c.args.m.d
+          8,
+      c.plus_if-bits.ensures,
+      c.plus_if-2.ensures,
+      c.plus_if.ensures,
+    ) in
     omega (arith, bits_small)
 
 pub overflow_cast-result-in-Whole : goal.overflow_cast-result-in-Whole
 overflow_cast-result-in-Whole c =
-    let bits_small : c.plus_if-bits.result ≤ 31 = omega (arith, at_most c.args.m.seal 2, at_most c.args.m.r 4, at_most c.args.m.d 8, c.plus_if-bits.ensures, c.plus_if-2.ensures, c.plus_if.ensures) in
+    let bits_small : c.plus_if-bits.result ≤ 31 =
+    omega (
+      arith,
+      at_most c.args.m.seal 2,
+      at_most c.args.m.r 4,
+      at_most c.args.m.d
+          8,
+      c.plus_if-bits.ensures,
+      c.plus_if-2.ensures,
+      c.plus_if.ensures,
+    ) in
     omega (arith, bits_small)
 
 pub returns-in-Pause : goal.returns-in-Pause

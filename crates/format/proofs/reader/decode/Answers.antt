@@ -23,12 +23,18 @@ read_opened-requires c =
 
 pub returns-in-Accepted : goal.returns-in-Accepted
 returns-in-Accepted c =
-    let header_read : verdict_of c.header_fault-header.result ≡ header_fault 2 (frame_of c.args.bytes.now).h (count_of c.args.bytes.now) = c.header_fault-header.ensures ∙ ap (λ (h : ℕ). header_fault 2 h (count_of c.args.bytes.now)) c.u16_at-h.ensures in
-    rw (decode_opened c.args.bytes.now c.header_fault-header.result c.if-bytes-lt3.false (header_read) c.in-Accepted.is)
+    let header = c.header_fault-header.result in
+    let bytes = c.args.bytes.now in
+    let header_read : verdict_of header ≡ header_fault 2 (frame_of bytes).h (count_of bytes) =
+    c.header_fault-header.ensures ∙ ap (λ (h : ℕ). header_fault 2 h (count_of bytes)) c.u16_at-h.ensures in
+    rw (decode_opened bytes header c.if-bytes-lt3.false header_read c.in-Accepted.is)
     c.read_opened.ensures
 
 pub returns-in-Refused : goal.returns-in-Refused
 returns-in-Refused c =
-    let header_read : verdict_of c.header_fault-header.result ≡ header_fault 2 (frame_of c.args.bytes.now).h (count_of c.args.bytes.now) = c.header_fault-header.ensures ∙ ap (λ (h : ℕ). header_fault 2 h (count_of c.args.bytes.now)) c.u16_at-h.ensures in
+    let header = c.header_fault-header.result in
+    let bytes = c.args.bytes.now in
+    let header_read : verdict_of header ≡ header_fault 2 (frame_of bytes).h (count_of bytes) =
+    c.header_fault-header.ensures ∙ ap (λ (h : ℕ). header_fault 2 h (count_of bytes)) c.u16_at-h.ensures in
     reads_refused _ _ _ c.read_refused-in-Refused.ensures
-    (decode_header c.args.bytes.now c.header_fault-header.result c.if-bytes-lt3.false (header_read) _ c.in-Refused.is)
+    (decode_header bytes header c.if-bytes-lt3.false header_read _ c.in-Refused.is)

@@ -21,13 +21,17 @@ loop-i-init c =
 
 pub put_entry-at-requires : goal.put_entry-at-requires
 put_entry-at-requires c =
-    let enough : c.args.list.n ≤ length c.args.list.entries = let len : length c.args.list.entries ≡ 64 = search (rules, length_mapped) in omega (arith, len, c.requires) in
-    stored_room c.args.list (enough) _ _ _ _ c.loop-i.i _ c.loop-i.invariant c.loop-i-test.true
+    let list = c.args.list in
+    let enough : list.n ≤ length list.entries =
+    let len : length list.entries ≡ 64 = search (rules, length_mapped) in omega (arith, len, c.requires) in
+    stored_room list enough _ _ _ _ c.loop-i.i _ c.loop-i.invariant c.loop-i-test.true
 
 pub loop-i-preserved : goal.loop-i-preserved
 loop-i-preserved c =
-    let enough : c.args.list.n ≤ length c.args.list.entries = let len : length c.args.list.entries ≡ 64 = search (rules, length_mapped) in omega (arith, len, c.requires) in
-    stored_next c.args.list (enough) _ _ _ _ _ _ c.loop-i.i _ c.loop-i.invariant c.loop-i-test.true
+    let list = c.args.list in
+    let enough : list.n ≤ length list.entries =
+    let len : length list.entries ≡ 64 = search (rules, length_mapped) in omega (arith, len, c.requires) in
+    stored_next list enough _ _ _ _ _ _ c.loop-i.i _ c.loop-i.invariant c.loop-i-test.true
     c.put_entry-at.ensures
 
 pub shape_of-out : goal.shape_of-out
@@ -35,6 +39,8 @@ shape_of-out c = c.loop-i.invariant.long ∙ wrote_length c.put_header-at.ensure
 
 pub returns : goal.returns
 returns c =
-    let enough : c.args.list.n ≤ length c.args.list.entries = let len : length c.args.list.entries ≡ 64 = search (rules, length_mapped) in omega (arith, len, c.requires) in
-    stored_done c.args.list (enough) _ _ _ _ _ c.loop-i.invariant c.loop-i-test.false
-    ∙ list_stored c.args.list c.put_header-at.ensures
+    let list = c.args.list in
+    let enough : list.n ≤ length list.entries =
+    let len : length list.entries ≡ 64 = search (rules, length_mapped) in omega (arith, len, c.requires) in
+    stored_done list enough _ _ _ _ _ c.loop-i.invariant c.loop-i-test.false
+    ∙ list_stored list c.put_header-at.ensures

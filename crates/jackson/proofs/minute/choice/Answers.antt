@@ -20,22 +20,28 @@ returns-then-not-is_ready c =
 
 pub offset_bounds-d-k : goal.offset_bounds-d-k
 offset_bounds-d-k c =
-    let found : c.earliest_deadline-k.result < c.places_held-count.result = found_place c.args.windows _ c.places_held-count.ensures c.args.t c.args.last _ c.earliest_deadline-k.ensures c.is_ready.result
-    c.is_ready.ensures c.if-count-running.false (omega (arith, c.places_held-count.ensures)) (ap not c.if-not-is_ready.false) in
+    let count_says = c.places_held-count.ensures in
+    let found : c.earliest_deadline-k.result < c.places_held-count.result =
+    found_place c.args.windows _ count_says c.args.t c.args.last _ c.earliest_deadline-k.ensures c.is_ready.result
+    c.is_ready.ensures c.if-count-running.false (omega (arith, count_says)) (ap not c.if-not-is_ready.false) in
     let below = found in search (rules, below)
 
 pub bounds-d-k : goal.bounds-d-k
 bounds-d-k c =
-    let found : c.earliest_deadline-k.result < c.places_held-count.result = found_place c.args.windows _ c.places_held-count.ensures c.args.t c.args.last _ c.earliest_deadline-k.ensures c.is_ready.result
-    c.is_ready.ensures c.if-count-running.false (omega (arith, c.places_held-count.ensures)) (ap not c.if-not-is_ready.false) in
+    let count_says = c.places_held-count.ensures in
+    let found : c.earliest_deadline-k.result < c.places_held-count.result =
+    found_place c.args.windows _ count_says c.args.t c.args.last _ c.earliest_deadline-k.ensures c.is_ready.result
+    c.is_ready.ensures c.if-count-running.false (omega (arith, count_says)) (ap not c.if-not-is_ready.false) in
     let below = found in search (rules, below)
 
 pub returns-then-d-k : goal.returns-then-d-k
 returns-then-d-k c =
     interrupted c.args.windows c.places_held-count.result c.places_held-count.ensures c.args.t c.args.last c.earliest_deadline-k.result
-    c.earliest_deadline-k.ensures c.is_ready.result c.is_ready.ensures c.if-count-running.false (ap not c.if-not-is_ready.false) c.if-d-k.true
+    c.earliest_deadline-k.ensures c.is_ready.result c.is_ready.ensures c.if-count-running.false (ap not c.if-not-is_ready.false)
+    c.if-d-k.true
 
 pub returns : goal.returns
 returns c =
     continued c.args.windows c.places_held-count.result c.places_held-count.ensures c.args.t c.args.last c.earliest_deadline-k.result
-    c.earliest_deadline-k.ensures c.is_ready.result c.is_ready.ensures c.if-count-running.false (ap not c.if-not-is_ready.false) c.if-d-k.false
+    c.earliest_deadline-k.ensures c.is_ready.result c.is_ready.ensures c.if-count-running.false (ap not c.if-not-is_ready.false)
+    c.if-d-k.false

@@ -15,10 +15,12 @@ returns-in_default c =
 
 pub returns-then-place-places_held : goal.returns-then-place-places_held
 returns-then-place-places_held c =
-    let all : length (entries_of c.args.list) ≡ c.places_held.result = held_count c.args.list (search (rules, length_mapped)) _ c.places_held.ensures in
-    check_clash c.args.list _ c.values_fault-fault.ensures _ _ c.in-Accepted.is c.first_clash-place.ensures (all) c.if-place-places_held.true
+    let all : length (entries_of c.args.list) ≡ c.places_held.result =
+    held_count c.args.list (search (rules, length_mapped)) _ c.places_held.ensures in
+    check_clash c.args.list _ c.values_fault-fault.ensures _ _ c.in-Accepted.is c.first_clash-place.ensures all c.if-place-places_held.true
 
 pub returns : goal.returns
 returns c =
-    let all : length (entries_of c.args.list) ≡ c.places_held.result = held_count c.args.list (search (rules, length_mapped)) _ c.places_held.ensures in
-    check_apart c.args.list _ c.values_fault-fault.ensures _ _ c.in-Accepted.is c.first_clash-place.ensures (all) c.if-place-places_held.false
+    let all : length (entries_of c.args.list) ≡ c.places_held.result =
+    held_count c.args.list (search (rules, length_mapped)) _ c.places_held.ensures in
+    check_apart c.args.list _ c.values_fault-fault.ensures _ _ c.in-Accepted.is c.first_clash-place.ensures all c.if-place-places_held.false

@@ -26,4 +26,10 @@ returns-then-e c =
 pub returns : goal.returns
 returns c =
     sym (faultless c.args.frame c.args.place c.args.e
-    (record { opened = c.if-e-frame.false; some_minutes = omega (arith, c.if-e-eq0.false); in_day = c.if-frame-e.false; room = c.if-e.false }))
+    (record {
+      opened = c.if-e-frame.false;
+      some_minutes = omega (arith, c.if-e-eq0.false);
+      in_day = c.if-frame-e.false;
+      room =
+          c.if-e.false;
+    }))

@@ -29,20 +29,22 @@ loop-i-init c = (
 
 pub returns-in_default-fault : goal.returns-in_default-fault
 returns-in_default-fault c =
-    let all-places : length c.args.list.entries ≡ 64 = search (rules, length_mapped) in
-    values_refused c.args.list (omega (arith, all-places, c.loop-i.invariant.1)) c.loop-i.i _ c.entry_fault-fault.result c.entry_fault-fault.ensures
-    c.loop-i-test.true _ c.in_default-fault.is ∙ sym c.loop-i.invariant.2
+    let holds = c.loop-i.invariant in
+    let all_places : length c.args.list.entries ≡ 64 = search (rules, length_mapped) in
+    values_refused c.args.list (omega (arith, all_places, holds.1)) c.loop-i.i _ c.entry_fault-fault.result c.entry_fault-fault.ensures
+    c.loop-i-test.true _ c.in_default-fault.is ∙ sym holds.2
 
 pub loop-i-preserved : goal.loop-i-preserved
 loop-i-preserved c =
-    let all-places : length c.args.list.entries ≡ 64 = search (rules, length_mapped) in (
+    let holds = c.loop-i.invariant in
+    let all_places : length c.args.list.entries ≡ 64 = search (rules, length_mapped) in (
       omega (arith, c.loop-i-test.true),
-      c.loop-i.invariant.1,
-      c.loop-i.invariant.2 ∙ values_next c.args.list (omega (arith, all-places, c.loop-i.invariant.1)) c.loop-i.i _ c.entry_fault-fault.result
+      holds.1,
+      holds.2 ∙ values_next c.args.list (omega (arith, all_places, holds.1)) c.loop-i.i _ c.entry_fault-fault.result
           c.entry_fault-fault.ensures c.loop-i-test.true c.in-Accepted-fault.is,
     )
 
 pub returns : goal.returns
 returns c =
-    let all-places : length c.args.list.entries ≡ 64 = search (rules, length_mapped) in
-    sym (c.loop-i.invariant.2 ∙ values_done c.args.list (omega (arith, all-places, c.loop-i.invariant.1)) c.loop-i.i c.loop-i-test.false)
+    let all_places : length c.args.list.entries ≡ 64 = search (rules, length_mapped) in
+    sym (c.loop-i.invariant.2 ∙ values_done c.args.list (omega (arith, all_places, c.loop-i.invariant.1)) c.loop-i.i c.loop-i-test.false)

@@ -34,13 +34,16 @@ bounds-list-i c =
 
 pub returns-then-clashes : goal.returns-then-clashes
 returns-then-clashes c =
-    let tested : earlier_test c.args.list c.args.place c.loop-i.i ≡ c.clashes.result = test_told c.args.list c.args.place c.requires _ c.loop-i-test.true _ refl _ c.clashes.ensures in
-    earlier_found c.args.list c.args.place c.loop-i.i c.loop-i.invariant c.loop-i-test.true
+    let place = c.args.place in
+    let tested : earlier_test c.args.list place c.loop-i.i ≡ c.clashes.result =
+    test_told c.args.list place c.requires _ c.loop-i-test.true _ refl _ c.clashes.ensures in
+    earlier_found c.args.list place c.loop-i.i c.loop-i.invariant c.loop-i-test.true
     (tested ∙ c.if-clashes.true)
 
 pub loop-i-preserved : goal.loop-i-preserved
 loop-i-preserved c =
-    let tested : earlier_test c.args.list c.args.place c.loop-i.i ≡ c.clashes.result = test_told c.args.list c.args.place c.requires _ c.loop-i-test.true _ refl _ c.clashes.ensures in
+    let tested : earlier_test c.args.list c.args.place c.loop-i.i ≡ c.clashes.result =
+    test_told c.args.list c.args.place c.requires _ c.loop-i-test.true _ refl _ c.clashes.ensures in
     passed_next _ _ c.loop-i.i c.loop-i.invariant c.loop-i-test.true (tested ∙ c.if-clashes.false)
 
 pub returns : goal.returns

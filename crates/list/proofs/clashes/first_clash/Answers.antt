@@ -16,14 +16,16 @@ loop-place-init c = passed_none _ _
 
 pub clashes_earlier-requires : goal.clashes_earlier-requires
 clashes_earlier-requires c =
-    let all : length (entries_of c.args.list) ≡ c.places_held-count.result = held_count c.args.list (search (rules, length_mapped)) _ c.places_held-count.ensures in
-    rw (all) c.loop-place-test.true
+    let all : length (entries_of c.args.list) ≡ c.places_held-count.result =
+    held_count c.args.list (search (rules, length_mapped)) _ c.places_held-count.ensures in
+    rw all c.loop-place-test.true
 
 pub returns-then-clashes_earlier : goal.returns-then-clashes_earlier
 returns-then-clashes_earlier c =
-    let all : length (entries_of c.args.list) ≡ c.places_held-count.result = held_count c.args.list (search (rules, length_mapped)) _ c.places_held-count.ensures in
+    let all : length (entries_of c.args.list) ≡ c.places_held-count.result =
+    held_count c.args.list (search (rules, length_mapped)) _ c.places_held-count.ensures in
     let found = sym c.if-clashes_earlier.true ∙ c.clashes_earlier.ensures in
-    clash_found c.args.list _ c.loop-place.place (all) c.loop-place.invariant found
+    clash_found c.args.list _ c.loop-place.place all c.loop-place.invariant found
 
 pub loop-place-preserved : goal.loop-place-preserved
 loop-place-preserved c =
@@ -32,5 +34,6 @@ loop-place-preserved c =
 
 pub returns : goal.returns
 returns c =
-    let all : length (entries_of c.args.list) ≡ c.places_held-count.result = held_count c.args.list (search (rules, length_mapped)) _ c.places_held-count.ensures in
-    clash_none c.args.list _ _ (all) c.loop-place.invariant c.loop-place-test.false
+    let all : length (entries_of c.args.list) ≡ c.places_held-count.result =
+    held_count c.args.list (search (rules, length_mapped)) _ c.places_held-count.ensures in
+    clash_none c.args.list _ _ all c.loop-place.invariant c.loop-place-test.false

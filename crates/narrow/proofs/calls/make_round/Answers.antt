@@ -9,10 +9,12 @@ returns-in_default c =
 
 pub single_round-found-requires : goal.single_round-found-requires
 single_round-found-requires c =
-    list_room _ c.check-verdict.result c.check-verdict.ensures c.in-Accepted.is c.whole_places.result c.whole_places.ensures c.unchecked_windows.result
+    list_room _ c.check-verdict.result c.check-verdict.ensures c.in-Accepted.is c.whole_places.result c.whole_places.ensures
+    c.unchecked_windows.result
     c.unchecked_windows.ensures
 
 pub returns : goal.returns
 returns c =
-    round_found _ c.check-verdict.result c.check-verdict.ensures c.in-Accepted.is c.whole_places.result c.whole_places.ensures c.unchecked_windows.result
+    round_found _ c.check-verdict.result c.check-verdict.ensures c.in-Accepted.is c.whole_places.result c.whole_places.ensures
+    c.unchecked_windows.result
     c.unchecked_windows.ensures c.answer_with.result c.single_round-found.result c.answer_with.ensures c.single_round-found.ensures

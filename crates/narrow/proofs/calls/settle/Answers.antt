@@ -9,5 +9,6 @@ returns-in_default c =
 
 pub returns : goal.returns
 returns c =
-    settle_found _ c.check-verdict.result c.check-verdict.ensures c.in-Accepted.is c.whole_places.result c.whole_places.ensures c.unchecked_windows.result
+    settle_found _ c.check-verdict.result c.check-verdict.ensures c.in-Accepted.is c.whole_places.result c.whole_places.ensures
+    c.unchecked_windows.result
     c.unchecked_windows.ensures c.answer_with.result c.narrow_windows-found.result c.answer_with.ensures c.narrow_windows-found.ensures

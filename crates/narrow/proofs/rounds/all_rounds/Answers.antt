@@ -12,20 +12,24 @@ one_round-next-requires c = c.loop-next.invariant.ready
 
 pub loop-next-smaller : goal.loop-next-smaller
 loop-next-smaller c =
-    rounded_less (marked c.args.whole) c.args.windows c.loop-next.now c.loop-next.moves c.loop-next.invariant c.one_round-next.result c.one_round-next.ensures
+    rounded_less (marked c.args.whole) c.args.windows c.loop-next.now c.loop-next.moves c.loop-next.invariant c.one_round-next.result
+    c.one_round-next.ensures
     c.in-Accepted.is c.if-next-moves.false
 
 pub loop-next-preserved : goal.loop-next-preserved
 loop-next-preserved c =
-    rounded_next (marked c.args.whole) c.args.windows c.loop-next.now c.loop-next.moves c.loop-next.invariant c.one_round-next.result c.one_round-next.ensures
+    rounded_next (marked c.args.whole) c.args.windows c.loop-next.now c.loop-next.moves c.loop-next.invariant c.one_round-next.result
+    c.one_round-next.ensures
     c.in-Accepted.is c.if-next-moves.false
 
 pub returns-in_default : goal.returns-in_default
 returns-in_default c =
-    rounded_stopped (marked c.args.whole) c.args.windows c.loop-next.now c.loop-next.moves c.loop-next.invariant c.one_round-next.result c.one_round-next.ensures _
+    rounded_stopped (marked c.args.whole) c.args.windows c.loop-next.now c.loop-next.moves c.loop-next.invariant c.one_round-next.result
+    c.one_round-next.ensures _
     c.in_default.is
 
 pub returns-then-next-moves : goal.returns-then-next-moves
 returns-then-next-moves c =
-    rounded_last (marked c.args.whole) c.args.windows c.loop-next.now c.loop-next.moves c.loop-next.invariant c.one_round-next.result c.one_round-next.ensures
+    rounded_last (marked c.args.whole) c.args.windows c.loop-next.now c.loop-next.moves c.loop-next.invariant c.one_round-next.result
+    c.one_round-next.ensures
     c.in-Accepted.is c.if-next-moves.true

@@ -14,14 +14,18 @@ loop-k-init c = passed_none _ _
 pub returns-then-would_move : goal.returns-then-would_move
 returns-then-would_move c =
     let place : c.loop-k.k < (windows_in c.args.windows).n = omega (arith, c.loop-k-test.true, c.places_held-count.ensures) in
-    move_found (marked c.args.whole) c.args.windows c.mirrored-mirror.result c.mirrored-mirror.ensures.windows c.closed_ends-ends.result c.closed_ends-late.result
-    c.closed_ends-ends.ensures.ends c.closed_ends-late.ensures.ends c.loop-k.k (place) c.would_move.result c.would_move.ensures c.loop-k.invariant c.if-would_move.true
+    move_found (marked c.args.whole) c.args.windows c.mirrored-mirror.result c.mirrored-mirror.ensures.windows c.closed_ends-ends.result
+    c.closed_ends-late.result
+    c.closed_ends-ends.ensures.ends c.closed_ends-late.ensures.ends c.loop-k.k place c.would_move.result c.would_move.ensures
+    c.loop-k.invariant c.if-would_move.true
 
 pub loop-k-preserved : goal.loop-k-preserved
 loop-k-preserved c =
     let place : c.loop-k.k < (windows_in c.args.windows).n = omega (arith, c.loop-k-test.true, c.places_held-count.ensures) in
-    move_passed (marked c.args.whole) c.args.windows c.mirrored-mirror.result c.mirrored-mirror.ensures.windows c.closed_ends-ends.result c.closed_ends-late.result
-    c.closed_ends-ends.ensures.ends c.closed_ends-late.ensures.ends c.loop-k.k (place) c.would_move.result c.would_move.ensures c.loop-k.invariant c.if-would_move.false
+    move_passed (marked c.args.whole) c.args.windows c.mirrored-mirror.result c.mirrored-mirror.ensures.windows c.closed_ends-ends.result
+    c.closed_ends-late.result
+    c.closed_ends-ends.ensures.ends c.closed_ends-late.ensures.ends c.loop-k.k place c.would_move.result c.would_move.ensures
+    c.loop-k.invariant c.if-would_move.false
 
 pub returns : goal.returns
 returns c =

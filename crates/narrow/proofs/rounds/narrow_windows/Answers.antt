@@ -12,7 +12,8 @@ returns-in_default c =
 
 pub returns-in_default-test : goal.returns-in_default-test
 returns-in_default-test c =
-    windows_overloaded _ _ c.room_fault-fault.result c.room_fault-fault.ensures c.in-Accepted.is c.unchecked_overload-test.result c.unchecked_overload-test.ensures _
+    windows_overloaded _ _ c.room_fault-fault.result c.room_fault-fault.ensures c.in-Accepted.is c.unchecked_overload-test.result
+    c.unchecked_overload-test.ensures _
     c.in_default-test.is _ c.unmoved_with-in_default-test.ensures
 
 pub all_rounds-found-requires : goal.all_rounds-found-requires
@@ -23,11 +24,13 @@ all_rounds-found-requires c =
 
 pub returns-in_default-verdict : goal.returns-in_default-verdict
 returns-in_default-verdict c =
-    windows_stopped _ _ c.room_fault-fault.result c.room_fault-fault.ensures c.in-Accepted.is c.unchecked_overload-test.result c.unchecked_overload-test.ensures
+    windows_stopped _ _ c.room_fault-fault.result c.room_fault-fault.ensures c.in-Accepted.is c.unchecked_overload-test.result
+    c.unchecked_overload-test.ensures
     c.in-Accepted-test.is
     c.all_rounds-found.result c.all_rounds-found.ensures _ c.in_default-verdict.is _ c.unmoved_with-in_default-verdict.ensures
 
 pub returns : goal.returns
 returns c =
-    windows_found (marked c.args.whole) c.args.windows c.room_fault-fault.result c.room_fault-fault.ensures c.in-Accepted.is c.unchecked_overload-test.result
+    windows_found (marked c.args.whole) c.args.windows c.room_fault-fault.result c.room_fault-fault.ensures c.in-Accepted.is
+    c.unchecked_overload-test.result
     c.unchecked_overload-test.ensures c.in-Accepted-test.is c.all_rounds-found.result c.all_rounds-found.ensures c.in-Accepted-verdict.is

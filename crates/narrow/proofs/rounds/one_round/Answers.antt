@@ -13,8 +13,15 @@ loop-k-init c =
 
 pub visit-now-requires : goal.visit-now-requires
 visit-now-requires c =
-    let place : c.loop-k.k < (windows_in c.args.windows).n = omega (arith, c.loop-k-test.true, c.places_held-count.ensures) in
-    record { visitable = next_ready (marked c.args.whole) c.args.windows c.args.moves c.requires c.loop-k.now c.loop-k.k c.loop-k.invariant (place); moves_bound = next_few (marked c.args.whole) c.args.windows c.args.moves c.requires c.loop-k.now c.loop-k.k c.loop-k.invariant (place) }
+    let holds = c.loop-k.invariant in
+    let windows = c.args.windows in
+    let place : c.loop-k.k < (windows_in windows).n = omega (arith, c.loop-k-test.true, c.places_held-count.ensures) in
+    record {
+      visitable =
+          next_ready (marked c.args.whole) windows c.args.moves c.requires c.loop-k.now c.loop-k.k holds place;
+      moves_bound =
+          next_few (marked c.args.whole) windows c.args.moves c.requires c.loop-k.now c.loop-k.k holds place;
+    }
 
 pub returns-in_default : goal.returns-in_default
 returns-in_default c =

@@ -8,10 +8,16 @@ use Rattle.narrow.proofs.rounds.single_round.Goals as goal
 
 pub unplanned_round-requires : goal.unplanned_round-requires
 unplanned_round-requires c =
-    record { formed = c.requires; fact = test_unplanned c.args.windows c.requires c.unchecked_overload-test.result c.unchecked_overload-test.ensures _ c.in_default.is }
+    record {
+      formed =
+          c.requires;
+      fact = test_unplanned c.args.windows c.requires c.unchecked_overload-test.result c.unchecked_overload-test.ensures _
+          c.in_default.is;
+    }
 
 pub one_round-requires : goal.one_round-requires
 one_round-requires c =
     let short : c.args.windows.h < 65536 = search rules in
-    test_countable c.args.windows c.requires c.unchecked_overload-test.result c.unchecked_overload-test.ensures (marked c.args.whole) c.in-Accepted.is
-    (short)
+    test_countable c.args.windows c.requires c.unchecked_overload-test.result c.unchecked_overload-test.ensures (marked c.args.whole)
+    c.in-Accepted.is
+    short

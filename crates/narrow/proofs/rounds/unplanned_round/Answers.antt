@@ -16,7 +16,8 @@ pub returns-then-whole-k : goal.returns-then-whole-k
 returns-then-whole-k c =
     let place : c.loop-k.k < (windows_in c.args.windows).n = omega (arith, c.loop-k-test.true, c.places_held-count.ensures) in
     c.refused_at.ensures
-    ∙ first_refused (marked c.args.whole) (narrowed_by c.args.windows 0) c.loop-k.k c.loop-k.invariant (place) c.requires.formed c.requires.fact
+    ∙ first_refused (marked c.args.whole) (narrowed_by c.args.windows 0) c.loop-k.k c.loop-k.invariant place c.requires.formed
+    c.requires.fact
     c.if-whole-k.true
 
 pub loop-k-preserved : goal.loop-k-preserved

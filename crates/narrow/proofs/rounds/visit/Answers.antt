@@ -15,13 +15,15 @@ returns-in_default c =
 
 pub narrow_end-requires : goal.narrow_end-requires
 narrow_end-requires c =
+    let started_says = c.narrow_start-started.ensures in
+    let started = c.narrow_start-started.result in
     record {
-      visitable = visit_on c.args.windows c.args.moves c.args.k c.requires.visitable c.args.whole (c.if-not-whole.false) c.narrow_start-started.result
-          c.narrow_start-started.ensures c.in-Accepted.is;
+      visitable = visit_on c.args.windows c.args.moves c.args.k c.requires.visitable c.args.whole (c.if-not-whole.false) started
+          started_says c.in-Accepted.is;
       moves_bound = omega (
         arith,
         visit_moves c.args.windows c.args.moves c.args.k c.requires.visitable c.args.whole (c.if-not-whole.false)
-            c.narrow_start-started.result c.narrow_start-started.ensures c.in-Accepted.is,
+            started started_says c.in-Accepted.is,
         c.requires.moves_bound,
       );
     }

@@ -18,9 +18,11 @@ one_broken-sum-requires c =
 
 pub overflow_add-sum : goal.overflow_add-sum
 overflow_add-sum c =
+    let holds = c.loop-i.invariant in
     let place : c.loop-i.i < (windows_in c.args.windows).n = omega (arith, c.loop-i-test.true, c.places_held-count.ensures) in
-    let next : BrokenSoFar (marked c.args.whole) (windows_in c.args.windows) c.args.plan.now (c.loop-i.sum + c.one_broken-sum.result) (c.loop-i.i + 1) = counted_next c.requires c.loop-i.invariant (place) c.one_broken-sum.ensures in
-    search (rules, c.loop-i.invariant.small, c.loop-i.invariant.few, (next).small)
+    let next : BrokenSoFar (marked c.args.whole) (windows_in c.args.windows) c.args.plan.now (c.loop-i.sum + c.one_broken-sum.result)
+    (c.loop-i.i + 1) = counted_next c.requires holds place c.one_broken-sum.ensures in
+    search (rules, holds.small, holds.few, next.small)
 
 pub overflow_add-i : goal.overflow_add-i
 overflow_add-i c = search (rules, c.loop-i.invariant.few)
@@ -28,7 +30,8 @@ overflow_add-i c = search (rules, c.loop-i.invariant.few)
 pub loop-i-preserved : goal.loop-i-preserved
 loop-i-preserved c =
     let place : c.loop-i.i < (windows_in c.args.windows).n = omega (arith, c.loop-i-test.true, c.places_held-count.ensures) in
-    let next : BrokenSoFar (marked c.args.whole) (windows_in c.args.windows) c.args.plan.now (c.loop-i.sum + c.one_broken-sum.result) (c.loop-i.i + 1) = counted_next c.requires c.loop-i.invariant (place) c.one_broken-sum.ensures in
+    let next : BrokenSoFar (marked c.args.whole) (windows_in c.args.windows) c.args.plan.now (c.loop-i.sum + c.one_broken-sum.result)
+    (c.loop-i.i + 1) = counted_next c.requires c.loop-i.invariant place c.one_broken-sum.ensures in
     next
 
 pub returns : goal.returns

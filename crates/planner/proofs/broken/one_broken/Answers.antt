@@ -28,7 +28,13 @@ overflow_cast-p c = search (rules, minutes_in_day c.requires.holds_plan c.requir
 
 pub overflow_add-start_in : goal.overflow_add-start_in
 overflow_add-start_in c =
-    search (rules, start_in_day c.requires.holds_plan c.requires.k_bound, minutes_in_day c.requires.holds_plan c.requires.k_bound, c.start_in.ensures)
+    search (
+      rules,
+      start_in_day c.requires.holds_plan c.requires.k_bound,
+      minutes_in_day c.requires.holds_plan
+          c.requires.k_bound,
+      c.start_in.ensures,
+    )
 
 pub end_in-requires : goal.end_in-requires
 end_in-requires c = c.requires.holds_plan.room

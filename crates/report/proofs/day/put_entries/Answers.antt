@@ -21,7 +21,8 @@ loop-i-init c = so_far_none _ _ _
 
 pub loop-i-preserved : goal.loop-i-preserved
 loop-i-preserved c =
-    texts_next c.args.list.n (line_at c.args.list c.args.ends c.args.starts) c.loop-i.invariant c.loop-i-test.true c.put_entry_line-next.auto.out
+    texts_next c.args.list.n (line_at c.args.list c.args.ends c.args.starts) c.loop-i.invariant c.loop-i-test.true
+    c.put_entry_line-next.auto.out
     (entry_put c.args.list c.args.ends c.args.starts c.loop-i.i c.loop-i-test.true c.put_entry_line-next.ensures)
 
 pub shape_of-out : goal.shape_of-out

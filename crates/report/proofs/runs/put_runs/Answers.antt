@@ -13,7 +13,8 @@ loop-t-init c = so_far_none _ _ _
 
 pub loop-t-preserved : goal.loop-t-preserved
 loop-t-preserved c =
-    texts_next (length c.args.plan.now) (run_text_at c.args.plan.now) c.loop-t.invariant c.loop-t-test.true c.put_run_at-next.auto.out c.put_run_at-next.ensures
+    texts_next (length c.args.plan.now) (run_text_at c.args.plan.now) c.loop-t.invariant c.loop-t-test.true c.put_run_at-next.auto.out
+    c.put_run_at-next.ensures
 
 pub shape_of-out : goal.shape_of-out
 shape_of-out c = c.loop-t.invariant.long

@@ -8,11 +8,13 @@ use Rattle.rooms.proofs.desk.next_unfinished.Goals as goal
 
 pub loop-left-init : goal.loop-left-init
 loop-left-init c =
-    (subst (λ (k : ℕ). k < c.args.n) (sym c.number_used-at.ensures) (used_below _ _ c.requires.0), search_starts _ _ _ _ c.number_used-at.ensures)
+    let at_says = c.number_used-at.ensures in
+    (subst (λ (k : ℕ). k < c.args.n) (sym at_says) (used_below _ _ c.requires.0), search_starts _ _ _ _ at_says)
 
 pub returns-then-is_unfinished : goal.returns-then-is_unfinished
 returns-then-is_unfinished c =
-    sym (c.loop-left.invariant.1 ∙ search_found _ _ c.loop-left.left c.loop-left.at c.loop-left-test.true (sym c.is_unfinished.ensures ∙ c.if-is_unfinished.true))
+    sym (c.loop-left.invariant.1 ∙ search_found _ _ c.loop-left.left c.loop-left.at c.loop-left-test.true
+    (sym c.is_unfinished.ensures ∙ c.if-is_unfinished.true))
 
 pub loop-left-preserved : goal.loop-left-preserved
 loop-left-preserved c =

@@ -26,7 +26,8 @@ returns-then-at-n c =
     let took =
     answer_took _ _ c.args.number c.args.lists.now c.if-n-eq0.false c.if-n-gt-MOST_ROOMS.false c.if-lists-n.false
     c.next_unfinished-at.result c.next_unfinished-at.ensures c.if-at-n.true in
-    takes_room _ _ _ _ (λ i. (c.slice_known-1.given i).fits) c.next_unfinished-at.result took _ _ c.room_round-out.result _ c.room_round-out.ensures
+    takes_room _ _ _ _ (λ i. (c.slice_known-1.given i).fits) c.next_unfinished-at.result took _ _ c.room_round-out.result _
+    c.room_round-out.ensures
     (share_lent c.args.lists.now c.next_unfinished-at.result) c.number_after-next.ensures
 
 pub returns : goal.returns

@@ -8,8 +8,10 @@ use Rattle.shares.proofs.front.read_front.Goals as goal
 
 pub slice_bounds-read-end : goal.slice_bounds-read-end
 slice_bounds-read-end c =
-    let bytes : Bytes c.args.share.now = λ i. (c.shared_slice_known-1.given i).fits in
-    sym (length-take-le c.read_end-end.result c.args.share.now (reader_end c.args.share.now c.read-whole.result c.read_end-end.result bytes c.read-whole.ensures c.read_end-end.ensures).inside)
+    let end = c.read_end-end.result in
+    let share = c.args.share.now in
+    let bytes : Bytes share = λ i. (c.shared_slice_known-1.given i).fits in
+    sym (length-take-le end share (reader_end share c.read-whole.result end bytes c.read-whole.ensures c.read_end-end.ensures).inside)
 
 pub returns : goal.returns
 returns c =

@@ -27,11 +27,14 @@ returns-in_default-verdict c =
 
 pub returns : goal.returns
 returns c =
-    let says : AnswersSearch (windows_of c.settle-narrowed.result.list)
-    (search_within overload_of c.args.limit (whole_in c.args.list) (windows_of c.settle-narrowed.result.list)) c.search_windows-searched.result =
-    rw (← c.whole_places-whole.ensures, ← c.unchecked_windows.ensures.windows) c.search_windows-searched.ensures.says in
-    finds_searched c.args.list c.args.limit c.args.plan.now c.settle-narrowed.result
-    (narrows_so c.args.list (length c.args.plan.now) c.plan_checks-checks.result c.plan_checks-checks.ensures c.in-Accepted.is c.settle-narrowed.result
+    let searched = c.search_windows-searched.result in
+    let whole_says = c.whole_places-whole.ensures in
+    let narrowed = c.settle-narrowed.result in
+    let says : AnswersSearch (windows_of narrowed.list)
+    (search_within overload_of c.args.limit (whole_in c.args.list) (windows_of narrowed.list)) searched =
+    rw (← whole_says, ← c.unchecked_windows.ensures.windows) c.search_windows-searched.ensures.says in
+    finds_searched c.args.list c.args.limit c.args.plan.now narrowed
+    (narrows_so c.args.list (length c.args.plan.now) c.plan_checks-checks.result c.plan_checks-checks.ensures c.in-Accepted.is narrowed
     c.settle-narrowed.ensures)
-    c.in-Accepted-verdict.is c.search_windows-searched.result says _ c.store_found.ensures c.starts_said.result
-    (c.starts_said.ensures ∙ λ i. starts_said (c.whole_places-whole.ensures i) c.search_windows-searched.result)
+    c.in-Accepted-verdict.is searched says _ c.store_found.ensures c.starts_said.result
+    (c.starts_said.ensures ∙ λ i. starts_said (whole_says i) searched)

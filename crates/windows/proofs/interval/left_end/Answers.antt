@@ -10,11 +10,20 @@ loop-sum-init c =
 
 pub walk_down-sum-requires : goal.walk_down-sum-requires
 walk_down-sum-requires c =
-    record { count_le_most_entries = c.loop-sum.invariant.few; latest_release_first = c.loop-sum.invariant.order; passed_lt_count = c.loop-sum-test.true; kept_bound = c.loop-sum.invariant.so_far.small; additions_le_passed = additions_few _ _ _ _ c.loop-sum.invariant.so_far }
+    let holds = c.loop-sum.invariant in
+    record {
+      count_le_most_entries =
+          holds.few;
+      latest_release_first = holds.order;
+      passed_lt_count = c.loop-sum-test.true;
+      kept_bound = holds.so_far.small;
+      additions_le_passed = additions_few _ _ _ _ holds.so_far;
+    }
 
 pub returns-then-is_overloaded : goal.returns-then-is_overloaded
 returns-then-is_overloaded c =
-    left_shown _ _ _ _ _ c.start_anew-sum.ensures _ c.loop-sum.invariant _ c.loop-sum-test.true c.walk_down-sum.ensures _ c.is_overloaded.ensures
+    left_shown _ _ _ _ _ c.start_anew-sum.ensures _ c.loop-sum.invariant _ c.loop-sum-test.true c.walk_down-sum.ensures _
+    c.is_overloaded.ensures
     c.if-is_overloaded.true
 
 pub loop-sum-preserved : goal.loop-sum-preserved

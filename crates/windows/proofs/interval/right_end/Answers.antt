@@ -9,7 +9,14 @@ loop-i-init c = right_start _ _ c.requires.count_le_most_entries c.requires.late
 
 pub smaller_right-shown-requires : goal.smaller_right-shown-requires
 smaller_right-shown-requires c =
-    record { count_le_most_entries = c.loop-i.invariant.few; latest_release_first = c.loop-i.invariant.order; i_lt_count = c.loop-i-test.true; finds_right = c.loop-i.invariant.shown }
+    let holds = c.loop-i.invariant in
+    record {
+      count_le_most_entries =
+          holds.few;
+      latest_release_first = holds.order;
+      i_lt_count = c.loop-i-test.true;
+      finds_right = holds.shown;
+    }
 
 pub loop-i-preserved : goal.loop-i-preserved
 loop-i-preserved c = right_next _ _ _ _ c.loop-i.invariant c.loop-i-test.true _ c.smaller_right-shown.ensures

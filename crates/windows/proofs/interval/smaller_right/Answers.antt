@@ -10,7 +10,13 @@ returns-then-ends_by c =
 
 pub left_end-left-requires : goal.left_end-left-requires
 left_end-left-requires c =
-    record { count_le_most_entries = c.requires.count_le_most_entries; latest_release_first = c.requires.latest_release_first; additions_bound = additions_most _ _ _ c.requires.finds_right (omega (arith, c.requires.count_le_most_entries, c.requires.i_lt_count)) c.requires.count_le_most_entries }
+    record {
+      count_le_most_entries =
+          c.requires.count_le_most_entries;
+      latest_release_first = c.requires.latest_release_first;
+      additions_bound = additions_most _ _ _
+          c.requires.finds_right (omega (arith, c.requires.count_le_most_entries, c.requires.i_lt_count)) c.requires.count_le_most_entries;
+    }
 
 pub returns-then-left : goal.returns-then-left
 returns-then-left c =

@@ -6,7 +6,8 @@ use Rattle.windows.proofs.interval.unchecked_overload.Goals as goal
 
 pub right_end-shown-requires : goal.right_end-shown-requires
 right_end-shown-requires c =
-    record { count_le_most_entries = omega (arith, c.places_held-count.ensures); latest_release_first = rw c.places_held-count.ensures c.largest_first-order.ensures.order }
+    let count_says = c.places_held-count.ensures in
+    record { count_le_most_entries = omega (arith, count_says); latest_release_first = rw count_says c.largest_first-order.ensures.order }
 
 pub returns-then-shown : goal.returns-then-shown
 returns-then-shown c =

@@ -16,7 +16,8 @@ bounds-r-place c =
 
 pub loop-sum-init : goal.loop-sum-init
 loop-sum-init c =
-    walking_start _ _ _ c.args.from c.requires.count_le_most_entries c.requires.latest_release_first c.requires.passed_lt_count c.requires.kept_bound c.requires.additions_le_passed
+    walking_start _ _ _ c.args.from c.requires.count_le_most_entries c.requires.latest_release_first c.requires.passed_lt_count
+    c.requires.kept_bound c.requires.additions_le_passed
 
 pub offset_bounds-r-i : goal.offset_bounds-r-i
 offset_bounds-r-i c =
