@@ -14,8 +14,7 @@ use flat::{BOUNDS, ENTRY_NUMBERS, day_fault, day_in, entry_of, flat_fault, list_
 use list::types::{Entry, Refusal, Verdict};
 
 // Makes a fresh day of the list value that `fields` says. Accepted: `day` is the day; else it keeps its values.
-#[unsafe(no_mangle)]
-pub extern "C" fn dock_fresh(fields: &[u32], day: &mut [u32]) -> Answer
+pub fn dock_fresh(fields: &[u32], day: &mut [u32]) -> Answer
     ensures { FreshCall fields.now day.old result day.new }
 {
     let given = list_in(fields);
@@ -73,8 +72,7 @@ fn entry_given(row: &[u32]) -> Entry
 
 // Asks for one more entry on the day that `day` says. Accepted: the values are the moves, the number of broken entries and the day's stamp,
 // and `plan`, `narrowed` and `bounds` are those of the longer list, as planning it leaves them. Refused: each keeps its values.
-#[unsafe(no_mangle)]
-pub extern "C" fn dock_ask(
+pub fn dock_ask(
     day: &[u32],
     entry: &[u32],
     plan: &mut [u8],
@@ -110,8 +108,7 @@ fn give_day(answer: CommitAnswer, day: &mut [u32])
 
 // Commits one more entry to the day that `day` says. Accepted: the values and what is lent are those of an ask, but the third value is the
 // stamp that the day then has, and `day` is the longer day. Refused: each keeps its values.
-#[unsafe(no_mangle)]
-pub extern "C" fn dock_commit(
+pub fn dock_commit(
     day: &mut [u32],
     entry: &[u32],
     stamp: u64,

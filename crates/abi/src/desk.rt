@@ -9,13 +9,7 @@ use room_rows::turn_numbers;
 // number of its refusal or 0, and the next number; `carried` has what its refusal carries. Nothing unfinished: the values are the number of
 // rooms, 0 and the number as it was used. Then, and refused, all that is lent keeps its values. A count of numbers that three does not
 // divide is refused as 100.
-#[unsafe(no_mangle)]
-pub extern "C" fn dock_turn(
-    rooms: &mut [u32],
-    lists: &mut [u8],
-    number: u64,
-    carried: &mut [u64; 3],
-) -> Answer
+pub fn dock_turn(rooms: &mut [u32], lists: &mut [u8], number: u64, carried: &mut [u64; 3]) -> Answer
     ensures { TurnCall rooms.old lists.old number carried.old result
         rooms.new lists.new carried.new }
 {

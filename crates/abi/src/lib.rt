@@ -5,7 +5,7 @@
 // room_rows). `bytes`, `out`, `plan` and `lists`, and the rows `fields`, `narrowed`, `day`, `entry` and `rooms`, come with their lengths; a
 // row of another length is refused as 100 before all else, those given before the one lent. What a call cannot check are the pointers and
 // that they have the lengths told: `bounds` has 128 numbers, `starts` 64, `values` and `carried` 3, and no two of what is lent overlap.
-// Uses all crates but order, edges, shares and dock.
+// The crate abi_c exports them. Uses all crates but order, tables, edges, shares, abi_c and dock.
 #![tactic(auto)]
 
 mod days;
@@ -23,11 +23,14 @@ ghost use Rattle.abi.specs.Calls.{EarlyCall, LateCall, ReportCall, LineCall};
 ghost use Rattle.abi.specs.Internal.{GivesPlanned};
 
 use codes::RefusalCode;
+pub use days::{dock_ask, dock_commit, dock_fresh};
+pub use desk::dock_turn;
 use flat::{BOUNDS, flat_fault, joined, list_beside, list_in, put_flat};
 use list::types::{Refusal, Verdict, WriteAnswer};
 use narrow::types::NarrowAnswer;
 use planner::types::PlanAnswer;
 use planner::{plan_day, show_early, show_late};
+pub use search::dock_unbroken;
 
 // What a call answers: 0 or a refusal's number, and three values, 0 where there are fewer.
 #[repr(C)]
@@ -74,8 +77,7 @@ fn count_as(answer: WriteAnswer) -> Answer
 }
 
 // Reads a list. Accepted: `fields` is the list; else it keeps its values.
-#[unsafe(no_mangle)]
-pub extern "C" fn dock_read(bytes: &[u8], fields: &mut [u32]) -> Answer
+pub fn dock_read(bytes: &[u8], fields: &mut [u32]) -> Answer
     ensures { ReadCall bytes.now fields.old result fields.new }
 {
     let fault = flat_fault(fields.len());
@@ -92,8 +94,7 @@ pub extern "C" fn dock_read(bytes: &[u8], fields: &mut [u32]) -> Answer
 }
 
 // Writes the list value that `fields` says. Accepted: the first value is the number of bytes written; else `out` keeps its bytes.
-#[unsafe(no_mangle)]
-pub extern "C" fn dock_write(fields: &[u32], out: &mut [u8]) -> Answer
+pub fn dock_write(fields: &[u32], out: &mut [u8]) -> Answer
     ensures { WriteCall fields.now out.old result out.new }
 {
     let given = list_in(fields);
@@ -106,8 +107,7 @@ pub extern "C" fn dock_write(fields: &[u32], out: &mut [u8]) -> Answer
 }
 
 // Tests the list value that `fields` says for an overloaded interval.
-#[unsafe(no_mangle)]
-pub extern "C" fn dock_overload(fields: &[u32]) -> Answer
+pub fn dock_overload(fields: &[u32]) -> Answer
     ensures { OverloadCall fields.now result }
 {
     let given = list_in(fields);
@@ -119,8 +119,7 @@ pub extern "C" fn dock_overload(fields: &[u32]) -> Answer
 }
 
 // Fills `plan` with Jackson's schedule of the list value that `fields` says, its windows as given. Refused: `plan` keeps its bytes.
-#[unsafe(no_mangle)]
-pub extern "C" fn dock_schedule(fields: &[u32], plan: &mut [u8]) -> Answer
+pub fn dock_schedule(fields: &[u32], plan: &mut [u8]) -> Answer
     ensures { ScheduleCall fields.now plan.old result plan.new }
 {
     let given = list_in(fields);
@@ -156,8 +155,7 @@ pub(crate) fn give_narrowed(
 }
 
 // Narrows the list value that `fields` says until its windows are settled.
-#[unsafe(no_mangle)]
-pub extern "C" fn dock_settle(fields: &[u32], narrowed: &mut [u32]) -> Answer
+pub fn dock_settle(fields: &[u32], narrowed: &mut [u32]) -> Answer
     ensures { SettleCall fields.now narrowed.old result narrowed.new }
 {
     let given = list_beside(fields, narrowed.len());
@@ -202,8 +200,7 @@ pub(crate) fn give_planned(
 // Plans the list value that `fields` says. Accepted: the values are the moves and the number of broken entries, `narrowed` is the settled
 // list, `bounds` the least ends of the 64 places and then their greatest starts, and `plan` begins with the plan. Refused: each keeps
 // its values.
-#[unsafe(no_mangle)]
-pub extern "C" fn dock_plan(
+pub fn dock_plan(
     fields: &[u32],
     plan: &mut [u8],
     narrowed: &mut [u32],
@@ -223,13 +220,7 @@ pub extern "C" fn dock_plan(
 
 // Shows the early plan of a place of the list value that `fields` says. Accepted: the values are the moves and the place's least end,
 // `narrowed` is the settled list, and `plan` begins with the plan. Refused: each keeps its values.
-#[unsafe(no_mangle)]
-pub extern "C" fn dock_early(
-    fields: &[u32],
-    place: u64,
-    plan: &mut [u8],
-    narrowed: &mut [u32],
-) -> Answer
+pub fn dock_early(fields: &[u32], place: u64, plan: &mut [u8], narrowed: &mut [u32]) -> Answer
     ensures { EarlyCall fields.now place plan.old narrowed.old result
         plan.new narrowed.new }
 {
@@ -243,13 +234,7 @@ pub extern "C" fn dock_early(
 }
 
 // Shows the late plan, with the place's greatest start.
-#[unsafe(no_mangle)]
-pub extern "C" fn dock_late(
-    fields: &[u32],
-    place: u64,
-    plan: &mut [u8],
-    narrowed: &mut [u32],
-) -> Answer
+pub fn dock_late(fields: &[u32], place: u64, plan: &mut [u8], narrowed: &mut [u32]) -> Answer
     ensures { LateCall fields.now place plan.old narrowed.old result
         plan.new narrowed.new }
 {
@@ -264,8 +249,7 @@ pub extern "C" fn dock_late(
 
 // Stores the text of the day that `bytes` say at the start of `out`. Accepted: the first value is its number of bytes; else, a list that is
 // turned back or 12, `out` keeps its bytes. REPORT_BYTES of the crate report are enough for every text.
-#[unsafe(no_mangle)]
-pub extern "C" fn dock_report(bytes: &[u8], out: &mut [u8]) -> Answer
+pub fn dock_report(bytes: &[u8], out: &mut [u8]) -> Answer
     ensures { ReportCall bytes.now out.old result out.new }
 {
     let answer = report::report(bytes, out);
@@ -274,8 +258,7 @@ pub extern "C" fn dock_report(bytes: &[u8], out: &mut [u8]) -> Answer
 
 // Stores the line that the program prints for a refusal, whatever its number and values, likewise. REFUSAL_BYTES of the crate report are
 // enough for every line.
-#[unsafe(no_mangle)]
-pub extern "C" fn dock_refusal_line(number: u64, values: &[u64; 3], out: &mut [u8]) -> Answer
+pub fn dock_refusal_line(number: u64, values: &[u64; 3], out: &mut [u8]) -> Answer
     ensures { LineCall number values.now out.old result out.new }
 {
     let code = RefusalCode {

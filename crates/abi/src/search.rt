@@ -24,8 +24,7 @@ fn give_starts(answer: UnbrokenAnswer, starts: &mut [u32; ENTRIES])
 // Looks for an unbroken day of the list value that `fields` says, in at most `limit` trials. Accepted: the values are the moves, how the
 // search ended (1 found, 2 none exists, 3 all trials spent) and the trials made, and `narrowed` is the settled list. Found: `plan` begins
 // with the plan and `starts` are those of the whole entries, 0 for the others; else both keep their values. Refused: each keeps its values.
-#[unsafe(no_mangle)]
-pub extern "C" fn dock_unbroken(
+pub fn dock_unbroken(
     fields: &[u32],
     limit: u32,
     plan: &mut [u8],

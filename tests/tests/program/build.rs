@@ -4,12 +4,12 @@ use crate::folder::Folder;
 use std::fs;
 use std::process::{Command, Output};
 
-/// A folder with the script, the crates `low`, `abi` above it and `dock`, and this program `rt`.
+/// A folder with the script, the crates `low`, `abi_c` above it and `dock`, and this program `rt`.
 fn beside_rt(name: &str, rt: &str) -> Folder {
-    let folder = Folder::with(name, &["tools", "crates/low", "crates/abi/out", "crates/dock/out"]);
+    let folder = Folder::with(name, &["tools", "crates/low", "crates/abi_c/out", "crates/dock/out"]);
     folder.copy("tools/build");
     folder.copy("tools/below");
-    fs::write(folder.join("crates.txt"), "# lowest first\nlow:\nabi staticlib: low\ndock: low\n")
+    fs::write(folder.join("crates.txt"), "# lowest first\nlow:\nabi_c staticlib: low\ndock: low\n")
         .expect("crates");
     folder.program("rt", rt);
     folder
@@ -24,7 +24,7 @@ fn run(folder: &Folder, arguments: &[&str]) -> (Output, String) {
 }
 
 /// Names the crate that it stands in and makes both results.
-const MAKES: &str = "echo \"$* in ${PWD##*/}\"; mkdir -p out; echo made >out/libabi.a; echo made >out/dock";
+const MAKES: &str = "echo \"$* in ${PWD##*/}\"; mkdir -p out; echo made >out/libabi_c.a; echo made >out/dock";
 
 #[test]
 fn each_crate_is_proved_from_below_and_the_results_are_put_in_their_places() {
@@ -32,7 +32,7 @@ fn each_crate_is_proved_from_below_and_the_results_are_put_in_their_places() {
     let (output, said) = run(&folder, &[]);
     assert!(output.status.success(), "{said}");
     let lines: Vec<&str> = said.lines().map(|line| line.split(" (").next().expect("a part")).collect();
-    let library = ["lib in low", "build: low proved", "lib in abi", "build: abi proved"];
+    let library = ["lib in low", "build: low proved", "lib in abi_c", "build: abi_c proved"];
     let program = ["lib in low", "build: low proved", "run in dock", "build: dock proved"];
     assert_eq!(lines, [library, program].concat());
     for made in ["target/staticlib/libabi.a", "target/bin/dock"] {
@@ -58,7 +58,7 @@ fn one_of_the_two_is_built_alone() {
 fn a_crate_in_which_nothing_has_changed_is_passed_over() {
     let unchanged = "echo 'rt: nothing has changed since the last proved build, by out/dock.stamp'";
     let folder = beside_rt("build-unchanged", &format!("[ \"$1\" = lib ] || {unchanged}"));
-    fs::write(folder.join("crates/abi/out/libabi.a"), "").expect("a library");
+    fs::write(folder.join("crates/abi_c/out/libabi_c.a"), "").expect("a library");
     fs::write(folder.join("crates/dock/out/dock"), "").expect("a program");
     let (output, said) = run(&folder, &[]);
     assert!(output.status.success());
