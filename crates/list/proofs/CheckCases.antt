@@ -1,21 +1,17 @@
 -- The value check, case by case: what code knows at the header, at each entry, after the last, and of entries that clash.
 -- Assumes nothing.
-use mathlib.Core.Path.{◌≡◌}
+use mathlib.Core.Path.{◌≡◌, refl}
 use mathlib.Core.List.{[], ◌∷◌}
 use Prim.Native.Nat.{ℕ, ◌+◌, ◌≤◌, ◌<◌}
 use borrow.Author.Tests.{eq-eqb, ne_eqb, lt-ltb, le-ltb, le-leb}
 use lib.ListN.{length, get_or, drop}
-use Rattle.base.specs.Outcomes.{Outcome, answered, and_then, code, refused}
-use Rattle.list.specs.Refusals.{verdict_of}
+use Rattle.base.specs.Outcomes.{Code, Outcome, answered, and_then, code, refused}
 use Rattle.list.specs.Entries.{entry_fault}
 use Rattle.list.specs.DayLists.{entries_of}
 use Rattle.list.specs.Checks.{header_fault, opening_fault, entries_fault, values_fault}
 use Rattle.list.specs.declared.types.Entry.{Entry}
 use Rattle.list.specs.declared.types.Frame.{Frame}
 use Rattle.list.specs.declared.types.DayList.{DayList}
-use Rattle.list.specs.declared.types.Refusal.{Refusal}
-use Rattle.list.specs.declared.types.Verdict.{Verdict}
-use Rattle.list.specs.declared.types.Verdict.TheVariants.{Accepted, Refused}
 use Rattle.base.proofs.Walk.{walk_next, walk_done}
 
 -- rows 2 and 3, each from the tests that led to it
@@ -62,31 +58,25 @@ module _ (l : DayList) where
   fault_from i = entries_fault l.frame i (drop i (entries_of l))
 
   -- the header is turned back, or the opening minute is, or the entries decide
-  module _ (v : Verdict) (w : verdict_of v ≡ header_fault 0 l.frame.h l.n) where
-    pub values_header : (x : Refusal) → v ≡ Refused x → verdict_of v ≡ values_fault l
+  pub values_header : {k : Code} → refused k ≡ header_fault 0 l.frame.h l.n → refused k ≡ values_fault l
+  unfolding values_fault
+  values_header e = rw (← e) refl
+
+  module _ (w : answered tt ≡ header_fault 0 l.frame.h l.n) where
+    pub values_opening : {k : Code} → refused k ≡ opening_fault 0 l.frame → refused k ≡ values_fault l
     unfolding values_fault
-    values_header x a = rw (← w, a)
+    values_opening e = rw (← w, ← e) refl
 
-    module _ (a : v ≡ Accepted) (u : Verdict) (q : verdict_of u ≡ opening_fault 0 l.frame) where
-      pub values_opening : (x : Refusal) → u ≡ Refused x → verdict_of u ≡ values_fault l
-      unfolding values_fault
-      values_opening x b = rw (← w, a, ← q, b)
+    pub values_entries : answered tt ≡ opening_fault 0 l.frame → values_fault l ≡ fault_from 0
+    unfolding values_fault
+    values_entries e = rw (← w, ← e) refl
 
-      pub values_entries : u ≡ Accepted → values_fault l ≡ fault_from 0
-      unfolding values_fault
-      values_entries b = rw (← w, a, ← q, b)
-
-  module _ (enough : l.n ≤ length l.entries) (i : ℕ) (e₀ : Entry) (v : Verdict)
-      (w : verdict_of v ≡ entry_fault l.frame i (get_or l.entries i e₀)) (h : i < l.n) where
-    turn : fault_from i ≡ and_then (verdict_of v) (λ _. fault_from (i + 1))
+  module _ (enough : l.n ≤ length l.entries) (i : ℕ) (e₀ : Entry) {o : Outcome (Unit {0})}
+      (w : o ≡ entry_fault l.frame i (get_or l.entries i e₀)) (h : i < l.n) where
+    -- the entry at place i decides, or those after it
+    pub values_turn : fault_from i ≡ and_then o (λ _. fault_from (i + 1))
     unfolding entries_fault
-    turn = rw (walk_next l.entries l.n enough i e₀ h, w)
-
-    pub values_refused : (x : Refusal) → v ≡ Refused x → verdict_of v ≡ fault_from i
-    values_refused x a = rw (turn, a)
-
-    pub values_next : v ≡ Accepted → fault_from i ≡ fault_from (i + 1)
-    values_next a = rw (turn, a)
+    values_turn = rw (walk_next l.entries l.n enough i e₀ h, w)
 
   pub values_done : (enough : l.n ≤ length l.entries) (i : ℕ) → l.n ≤ i → fault_from i ≡ answered tt
   unfolding entries_fault

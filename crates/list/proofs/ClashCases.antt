@@ -3,22 +3,19 @@
 use mathlib.Core.Path.{◌≡◌, refl, sym}
 use mathlib.Core.Bool.{Bool, true, false}
 use mathlib.Core.List.{[], ◌∷◌}
-use Prim.Native.Nat.{ℕ, ◌<◌, ◌≤◌}
+use Prim.Native.Nat.{ℕ, ◌<◌, ◌≤◌, min}
 use native.Mathlib.Omega.{arith}
 use borrow.Author.Tests.{lt-ltb, le-ltb}
 use lib.ListN.{length, get_or, length-take}
 use lib.Seq.{get_or-take}
-use Rattle.base.specs.Outcomes.{code, refused, answered}
+use Rattle.base.specs.Outcomes.{Code, code, refused, answered}
 use Rattle.base.proofs.Searches.{Passed, passed_found, passed_all}
-use Rattle.list.specs.Refusals.{verdict_of}
 use Rattle.list.specs.DayLists.{blank, entries_of}
 use Rattle.list.specs.Clashes.{clash, clashes_earlier, first_clash}
 use Rattle.list.specs.Checks.{values_fault, check_of}
 use Rattle.list.specs.declared.types.Entry.{Entry}
 use Rattle.list.specs.declared.types.DayList.{DayList}
-use Rattle.list.specs.declared.types.Refusal.{Refusal}
-use Rattle.list.specs.declared.types.Verdict.{Verdict}
-use Rattle.list.specs.declared.types.Verdict.TheVariants.{Accepted, Refused}
+use Rattle.list.proofs.Columns.{held_count}
 
 module _ (l : DayList) where
   -- an entry that counts, as code reads it
@@ -48,26 +45,33 @@ module _ (l : DayList) where
     earlier_none i so h = rw (passed_all place earlier_test i so h) (sym (le-ltb place place (omega arith)))
 
   -- the entries, place by place
-  module _ (count place : ℕ) (all : length (entries_of l) ≡ count) (so : Passed count (clashes_earlier (entries_of l)) place) where
-    pub clash_found : true ≡ clashes_earlier (entries_of l) place → place ≡ first_clash (entries_of l)
-    unfolding first_clash
-    clash_found e = rw all (sym (passed_found count (clashes_earlier (entries_of l)) place so (sym e)))
+  module _ (long : length l.entries ≡ 64) {count : ℕ} (held : count ≡ min l.n 64) (place : ℕ) where
+    all : length (entries_of l) ≡ count
+    all = held_count l long count held
 
-    pub clash_none : count ≤ place → count ≡ first_clash (entries_of l)
-    unfolding first_clash
-    clash_none h = rw all (sym (passed_all count (clashes_earlier (entries_of l)) place so h))
+    pub clash_asked : place < count → place < length (entries_of l)
+    clash_asked h = rw all h
 
-  -- row 14
-  module _ (v : Verdict) (values : verdict_of v ≡ values_fault l) where
-    pub check_values : (x : Refusal) → v ≡ Refused x → verdict_of v ≡ check_of l
-    unfolding check_of
-    check_values x a = rw (← values, a)
+    module _ (so : Passed count (clashes_earlier (entries_of l)) place) where
+      pub clash_found : true ≡ clashes_earlier (entries_of l) place → place ≡ first_clash (entries_of l)
+      unfolding first_clash
+      clash_found e = rw all (sym (passed_found count (clashes_earlier (entries_of l)) place so (sym e)))
 
-    module _ (place count : ℕ) (passes : v ≡ Accepted) (is : place ≡ first_clash (entries_of l)) (all : length (entries_of l) ≡ count) where
+      pub clash_none : count ≤ place → count ≡ first_clash (entries_of l)
+      unfolding first_clash
+      clash_none h = rw all (sym (passed_all count (clashes_earlier (entries_of l)) place so h))
+
+    -- row 14, after the values
+    module _ (passes : answered tt ≡ values_fault l) (is : place ≡ first_clash (entries_of l)) where
       pub check_clash : place < count → refused (code 14 (place ∷ [])) ≡ check_of l
       unfolding check_of
-      check_clash h = rw (← values, passes, ← is, all, lt-ltb place count h) refl
+      check_clash h = rw (← passes, ← is, all, lt-ltb place count h) refl
 
       pub check_apart : count ≤ place → answered tt ≡ check_of l
       unfolding check_of
-      check_apart h = rw (← values, passes, ← is, all, le-ltb place count h) refl
+      check_apart h = rw (← passes, ← is, all, le-ltb place count h) refl
+
+  -- the values decide
+  pub check_values : {k : Code} → refused k ≡ values_fault l → refused k ≡ check_of l
+  unfolding check_of
+  check_values e = rw (← e) refl

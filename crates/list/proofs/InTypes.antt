@@ -6,14 +6,14 @@ use native.Mathlib.Omega.{arith}
 use lib.ListN.{get_or}
 use mir.Val.{Val}
 use denote.Array.{each}
+use denote.Builtin.{u32}
 use denote.Shadow.{shadow}
 use Rattle.list.specs.DayLists.{blank}
 use Rattle.list.specs.Machine.{SealFits, MinutesFit}
-use Rattle.list.specs.declared.types.Seal.{Seal}
-use Rattle.list.specs.declared.types.Seal.TheVariants.{Missing, Number}
+use Rattle.std.specs.Prelude.{None, Option, Some}
+use Rattle.std.specs.contracts.option.Option.{the_field}
 use Rattle.list.specs.declared.types.Entry.{Entry}
 use Rattle.list.specs.contracts.types.Entry.{the_row}
-use Rattle.list.specs.contracts.types.Seal.{the_field as seal_field}
 
 -- each entry's values are of their types
 abbrev pub Owned : List Entry → List Val → Type 0
@@ -25,9 +25,9 @@ each_serial (e ∷ es) [] s i = absurd s
 each_serial (e ∷ es) (u ∷ us) s zero = s.0.1.1.0.1
 each_serial (e ∷ es) (u ∷ us) s (suc i) = each_serial es us s.1 i
 
-seal_fits : (x : Seal) (vs : List Val) → shadow (seal_field.row.own_val (seal_field.into x) vs) → SealFits x
-seal_fits Missing vs s = tt
-seal_fits (Number x) vs s = s.1.1.1.1.0.1
+seal_fits : (x : Option ℕ) (vs : List Val) → shadow ((the_field u32).row.own_val ((the_field u32).into x) vs) → SealFits x
+seal_fits None vs s = tt
+seal_fits (Some x) vs s = s.1.1.1.1.0.1
 
 pub each_seal : (es : List Entry) (us : List Val) → Owned es us → (i : ℕ) → SealFits (get_or es i blank).seal
 each_seal [] us s i = tt

@@ -1,7 +1,6 @@
 -- List values: what counts in one, and what stands where nothing counts.
-use Rattle.std.specs.Prelude.{ℕ, ◌-◌, ◌≡◌, Bool, true, false, cond, List, [], ◌++◌, map, length, take, replicate, get_or, ltb}
+use Rattle.std.specs.Prelude.{ℕ, ◌-◌, ◌≡◌, Bool, true, false, cond, List, [], ◌++◌, map, length, take, replicate, get_or, ltb, None}
 use Rattle.base.specs.Counting.{list_of}
-use Rattle.list.specs.declared.types.Seal.TheVariants.{Missing}
 use Rattle.list.specs.declared.types.Kind.{Kind}
 use Rattle.list.specs.declared.types.Kind.TheVariants.{Pause, Whole}
 use Rattle.list.specs.declared.types.Entry.{Entry}
@@ -21,7 +20,7 @@ entries_of l = take l.n l.entries
 
 -- what stands at every place from n on in a list that is answered
 abbrev pub blank : Entry
-blank = record { serial = 0; seal = Missing; r = 0; d = 0; p = 0; kind = Pause }
+blank = record { serial = 0; seal = None; r = 0; d = 0; p = 0; kind = Pause }
 
 -- "the entry is whole (unpausable)"
 abbrev pub is_whole : Kind → Bool
@@ -68,7 +67,7 @@ pub record SameBox (e f : Entry) : Type 0 where
 
 -- what the value check reads of an entry: not its seal and not its kind
 abbrev pub checked_fields : Entry → Entry
-checked_fields e = record { serial = e.serial; seal = Missing; r = e.r; d = e.d; p = e.p; kind = Pause }
+checked_fields e = record { serial = e.serial; seal = None; r = e.r; d = e.d; p = e.p; kind = Pause }
 
 -- two lists with the same H, opening minute and n, and of each entry the same serial, r, d and p: seals and kinds are not compared
 pub record SameSerials (a b : DayList) : Type 0 where

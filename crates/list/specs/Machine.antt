@@ -1,9 +1,7 @@
 -- What the machine's types say of every byte slice and of every list value; the theorems on writing and reading, and on rows of numbers,
 -- speak of these.
-use Rattle.std.specs.Prelude.{ℕ, ◌<◌, ◌^◌, ◌≡◌, List, length, get_or}
+use Rattle.std.specs.Prelude.{ℕ, ◌<◌, ◌^◌, ◌≡◌, List, length, get_or, None, Option, Some}
 use Rattle.list.specs.DayLists.{most_entries, blank}
-use Rattle.list.specs.declared.types.Seal.{Seal}
-use Rattle.list.specs.declared.types.Seal.TheVariants.{Missing, Number}
 use Rattle.list.specs.declared.types.Entry.{Entry}
 use Rattle.list.specs.declared.types.DayList.{DayList}
 
@@ -12,9 +10,9 @@ abbrev pub Bytes : List ℕ → Type 0
 Bytes bs = (i : ℕ) → get_or bs i 0 < 256
 
 -- the seal's number, if it is one, has 32 bits
-abbrev pub SealFits : Seal → Type 0
-SealFits Missing = Unit {0}
-SealFits (Number x) = x < 2 ^ 32
+abbrev pub SealFits : Option ℕ → Type 0
+SealFits None = Unit {0}
+SealFits (Some x) = x < 2 ^ 32
 
 -- an entry's minutes have 16 bits
 pub record MinutesFit (e : Entry) : Type 0 where

@@ -1,18 +1,12 @@
 -- The number and the carried values of each case of an answer, as "Where a list is turned back" has them, and document 02 from 14 on; 100
 -- is in neither.
-use Rattle.std.specs.Prelude.{ℕ, [], ◌∷◌}
+use Rattle.std.specs.Prelude.{[], ◌∷◌, Result, Ok, Err}
 use Rattle.base.specs.Outcomes.{Code, code, Outcome, answered, refused}
 use Rattle.list.specs.declared.types.Refusal.{Refusal}
 use Rattle.list.specs.declared.types.Refusal.TheVariants.{BytesMissing, BadDayLength, TooManyEntries, BadMapByte, DefaultWritten}
 use Rattle.list.specs.declared.types.Refusal.TheVariants.{NoMinutes, BadWindow, BytesLeftOver, Overloaded, NoPlace, PlanBufferShort}
 use Rattle.list.specs.declared.types.Refusal.TheVariants.{ListBufferShort, UnknownPlace, SerialClash, BadOpening}
 use Rattle.list.specs.declared.types.Refusal.TheVariants.{BeforeOpening, StaleStamp, DayFull, RoomCount, BadFlatLength}
-use Rattle.list.specs.declared.types.Verdict.{Verdict}
-use Rattle.list.specs.declared.types.Verdict.TheVariants.{Accepted, Refused}
-use Rattle.list.specs.declared.types.DayList.{DayList}
-use Rattle.list.specs.declared.types.ReadAnswer.{ReadAnswer}
-use Rattle.list.specs.declared.types.WriteAnswer.{WriteAnswer}
-use Rattle.list.specs.declared.types.WriteAnswer.TheVariants.{Written, NotWritten}
 
 abbrev pub code_of : Refusal → Code
 code_of (BytesMissing len) = code 1 (len ∷ [])
@@ -36,20 +30,7 @@ code_of (DayFull stamp) = code 18 (stamp ∷ [])
 code_of (RoomCount rooms) = code 19 (rooms ∷ [])
 code_of (BadFlatLength numbers) = code 100 (numbers ∷ [])
 
--- a verdict with what stands beside Accepted
-abbrev pub outcome_of : {A : Type 0} → Verdict → A → Outcome A
-outcome_of Accepted a = answered a
-outcome_of (Refused x) a = refused (code_of x)
-
--- a test's answer
-abbrev pub verdict_of : Verdict → Outcome (Unit {0})
-verdict_of v = outcome_of v tt
-
--- a reader's answer
-abbrev pub read_answer_of : ReadAnswer → Outcome DayList
-read_answer_of a = outcome_of a.verdict a.list
-
--- a writer's answer: the number of bytes written
-abbrev pub write_answer_of : WriteAnswer → Outcome ℕ
-write_answer_of (Written n) = answered n
-write_answer_of (NotWritten x) = refused (code_of x)
+-- a call's answer: what it was asked for, or a refusal
+abbrev pub outcome_of : {A : Type 0} → Result A Refusal → Outcome A
+outcome_of (Ok a) = answered a
+outcome_of (Err x) = refused (code_of x)

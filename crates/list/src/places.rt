@@ -8,32 +8,23 @@ use crate::types::{DayList, ENTRIES, Kind};
 pub fn places_held(n: u8) -> usize
     ensures { result ≡ min n most_entries }
 {
-    let count = n as usize;
-    if count < ENTRIES { count } else { ENTRIES }
+    usize::from(n).min(ENTRIES)
 }
 
 // Whether an entry of this kind is whole.
 pub fn is_whole(kind: Kind) -> bool
     ensures { result ≡ is_whole kind }
 {
-    match kind {
-        Kind::Pause => false,
-        Kind::Whole => true,
-    }
+    matches!(kind, Kind::Whole)
 }
 
 // Marks the places of the whole entries.
 pub fn whole_places(list: DayList) -> [bool; ENTRIES]
     ensures { marked result ≡ whole_in list }
 {
-    let count = places_held(list.n);
     let mut marks = [false; ENTRIES];
-    let mut i: usize = 0;
-    while i < count {
-        let e = list.entries[i];
-        let kind = e.kind;
-        marks[i] = is_whole(kind);
-        i += 1;
+    for i in 0..places_held(list.n) {
+        marks[i] = is_whole(list.entries[i].kind);
     }
     marks
 }

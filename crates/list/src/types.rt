@@ -6,25 +6,19 @@ pub const ENTRIES: usize = 64;
 // The minutes of the longest day.
 pub const LONGEST_DAY: u16 = 1440;
 
-// "A seal is either missing or a number, and it travels inside its entry."
-#[derive(Clone, Copy)]
-pub enum Seal {
-    Missing,
-    Number(u32),
-}
-
 // Document 01's kinds: a pause entry may be interrupted (preempted); a whole entry is unpausable, its work is wanted in one piece.
-#[derive(Clone, Copy)]
+#[derive(Clone, Copy, Debug, PartialEq, Eq)]
 pub enum Kind {
     Pause,
     Whole,
 }
 
-// One box: its serial and seal, its window [r, d) of minutes, and the p minutes of work that it needs.
+// One box: its serial; its seal, which "is either missing or a number, and it travels inside its entry"; its window [r, d) of minutes, and
+// the p minutes of work that it needs.
 #[derive(Clone, Copy)]
 pub struct Entry {
     pub serial: u32,
-    pub seal: Seal,
+    pub seal: Option<u32>,
     pub r: u16,
     pub d: u16,
     pub p: u16,
@@ -48,7 +42,7 @@ pub struct DayList {
 
 // The refusals of every call of the planner, a case for each number of "Where a list is turned back" and of document 02's requests, and
 // 100. specs/Refusals.antt has each case's number and the values that it carries.
-#[derive(Clone, Copy)]
+#[derive(Clone, Copy, Debug, PartialEq, Eq)]
 pub enum Refusal {
     // 1: bytes are missing; the input's length.
     BytesMissing(usize),
@@ -91,25 +85,4 @@ pub enum Refusal {
     // 100, which no document has: a row of numbers for or from another language has too few or too many; how many it should have, and for
     // rooms the largest multiple of three below.
     BadFlatLength(usize),
-}
-
-// What a test of a list answers.
-#[derive(Clone, Copy)]
-pub enum Verdict {
-    Accepted,
-    Refused(Refusal),
-}
-
-// What reading answers: the list beside Accepted, and the empty list of specs/DayLists.antt beside a refusal.
-#[derive(Clone, Copy)]
-pub struct ReadAnswer {
-    pub verdict: Verdict,
-    pub list: DayList,
-}
-
-// What writing to a lent buffer answers: how many bytes were stored, or why none was.
-#[derive(Clone, Copy)]
-pub enum WriteAnswer {
-    Written(usize),
-    NotWritten(Refusal),
 }

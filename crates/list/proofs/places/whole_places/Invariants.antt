@@ -1,11 +1,8 @@
--- The loop's invariant is `Marked`, the measure what is left of the places.
+-- The loop's invariant is `Marked`.
 -- Assumes nothing.
-use Prim.Native.Nat.{◌-◌}
+use Prim.Native.Nat.{min}
 use Rattle.list.proofs.PlaceCases.{Marked}
 use Rattle.list.proofs.places.whole_places.Given as goal
 
 abbrev pub invariant-loop-i : goal.invariant-loop-i
-invariant-loop-i l = Marked l.list.entries l.count l.marks l.i
-
-abbrev pub decreases-loop-i : goal.decreases-loop-i
-decreases-loop-i l = l.count - l.i
+invariant-loop-i l = Marked l.list.entries (min l.list.n 64) l.marks l.i

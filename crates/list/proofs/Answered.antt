@@ -1,32 +1,27 @@
--- What a verdict tells of the outcome that it says; number and values tell one verdict, and one answer of a writer.
+-- What an answer tells of the outcome that it says; number and values tell one refusal, and an outcome one answer.
 -- Assumes nothing.
 use mathlib.Core.Path.{◌≡◌, refl, sym, ap, ◌∙◌}
 use mathlib.Core.Bool.{cond}
 use lib.Dec.{eqb}
 use lib.ListN.{get_or}
-use Rattle.base.specs.Outcomes.{Code, Outcome, answered, refused}
-use Rattle.list.specs.Refusals.{code_of, outcome_of, verdict_of, write_answer_of}
+use Rattle.base.specs.Outcomes.{Code, Outcome, refused}
+use Rattle.list.specs.Refusals.{code_of, outcome_of}
 use Rattle.list.specs.declared.types.Refusal.{Refusal}
 use Rattle.list.specs.declared.types.Refusal.TheVariants.{BytesMissing, BadDayLength, TooManyEntries, BadMapByte, DefaultWritten}
 use Rattle.list.specs.declared.types.Refusal.TheVariants.{NoMinutes, BadWindow, BytesLeftOver, Overloaded, NoPlace, PlanBufferShort}
 use Rattle.list.specs.declared.types.Refusal.TheVariants.{ListBufferShort, UnknownPlace, SerialClash, BadOpening}
 use Rattle.list.specs.declared.types.Refusal.TheVariants.{BeforeOpening, StaleStamp, DayFull, RoomCount, BadFlatLength}
-use Rattle.list.specs.declared.types.Verdict.{Verdict}
-use Rattle.list.specs.declared.types.Verdict.TheVariants.{Accepted, Refused}
-use Rattle.list.specs.declared.types.WriteAnswer.{WriteAnswer}
-use Rattle.list.specs.declared.types.WriteAnswer.TheVariants.{Written, NotWritten}
+use Rattle.std.specs.Prelude.{Err, IsErrAnd, Ok, Result}
 use Rattle.base.proofs.Inversion.{answered_refused, refused_same}
 
--- what a verdict, with what stands beside it, tells of the outcome that it says
-pub by_verdict : {A : Type 0} {o : Outcome A} {v t : Verdict} (a : A) → outcome_of v a ≡ o → v ≡ t → o ≡ outcome_of t a
-by_verdict a says e = sym says ∙ ap (λ (u : Verdict). outcome_of u a) e
+-- what an answer that is known tells of the outcome that it says
+pub by_answer : {A : Type 0} {o : Outcome A} {v t : Result A Refusal} → outcome_of v ≡ o → v ≡ t → o ≡ outcome_of t
+by_answer says e = sym says ∙ ap outcome_of e
 
--- so of a test
-pub by_accepted : {o : Outcome (Unit {0})} {v : Verdict} → verdict_of v ≡ o → v ≡ Accepted → o ≡ answered tt
-by_accepted = by_verdict tt
-
-pub by_refused : {o : Outcome (Unit {0})} {v : Verdict} {x : Refusal} → verdict_of v ≡ o → v ≡ Refused x → o ≡ refused (code_of x)
-by_refused = by_verdict tt
+-- a `?` hands on the refusal that it met
+pub handed_on : {A : Type 0} (r : Result A Refusal) (x : Refusal) → IsErrAnd r (λ (y : Refusal). y ≡ x) → outcome_of r ≡ refused (code_of x)
+handed_on (Ok a) x p = absurd p
+handed_on (Err y) x p = ap (λ (z : Refusal). refused (code_of z)) p
 
 -- the refusal with these number and values
 abbrev refusal_of : Code → Refusal
@@ -79,14 +74,9 @@ refusal_is (BadFlatLength x) = refl
 one_refusal : (j k : Refusal) → code_of j ≡ code_of k → j ≡ k
 one_refusal j k e = sym (refusal_is j) ∙ ap refusal_of e ∙ refusal_is k
 
-pub one_verdict : {A : Type 0} (u v : Verdict) (x y : A) → outcome_of u x ≡ outcome_of v y → u ≡ v
-one_verdict Accepted Accepted x y e = refl
-one_verdict Accepted (Refused k) x y e = absurd (answered_refused refl e)
-one_verdict (Refused j) Accepted x y e = absurd (answered_refused refl (sym e))
-one_verdict (Refused j) (Refused k) x y e = ap Refused (one_refusal j k (refused_same refl e))
-
-pub one_write : (a b : WriteAnswer) → write_answer_of a ≡ write_answer_of b → a ≡ b
-one_write (Written m) (Written n) e = let same : m ≡ n = cc e in ap Written same
-one_write (Written m) (NotWritten k) e = absurd (answered_refused refl e)
-one_write (NotWritten j) (Written n) e = absurd (answered_refused refl (sym e))
-one_write (NotWritten j) (NotWritten k) e = ap NotWritten (one_refusal j k (refused_same refl e))
+-- so an outcome is that of one answer
+pub one_answer : {A : Type 0} (u v : Result A Refusal) → outcome_of u ≡ outcome_of v → u ≡ v
+one_answer (Ok a) (Ok b) e = let same : a ≡ b = cc e in ap Ok same
+one_answer (Ok a) (Err k) e = absurd (answered_refused refl e)
+one_answer (Err j) (Ok b) e = absurd (answered_refused refl (sym e))
+one_answer (Err j) (Err k) e = ap Err (one_refusal j k (refused_same refl e))
