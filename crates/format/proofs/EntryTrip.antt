@@ -18,13 +18,10 @@ use Rattle.format.specs.EntryFields.{default_r, default_d, seal_of, entry_at, en
 use Rattle.format.specs.Forms.{sealed, fields_in, seal_bytes, minute_bytes, entry_bytes}
 use Rattle.format.specs.Laws.{PlaceIn}
 use Rattle.list.specs.Machine.{Bytes, SealFits}
-use Rattle.list.specs.declared.types.Seal.{Seal}
-use Rattle.list.specs.declared.types.Seal.TheVariants.{Missing, Number}
+use Rattle.std.specs.Prelude.{None, Option, Some}
 use Rattle.list.specs.declared.types.Entry.{Entry}
 use Rattle.list.specs.declared.types.Frame.{Frame}
-use Rattle.list.specs.declared.types.Verdict.TheVariants.{Accepted}
 use Rattle.format.specs.declared.map.Fields.{Fields}
-use Rattle.format.specs.declared.map.MapAnswer.TheVariants.{Follow}
 use Rattle.format.proofs.Places.{p_place_small}
 use Rattle.format.proofs.FieldTrip.{past_field, u16_read, u32_read, u32_small, byte_stands, u16_stands, u32_stands}
 use Rattle.format.proofs.FieldTrip.{minute_read, written_again, minute_stands}
@@ -55,9 +52,9 @@ unfolding entry_bytes
 form_before_lem f e rest = simp append_assoc
 
 module _ (bs : List ℕ) (i : ℕ) (tail : List ℕ) where
-  seal_read : (s : Seal) → SealFits s → drop i bs ≡ seal_bytes s ++ tail → s ≡ seal_of (sealed s) (u32_at bs i)
-  seal_read Missing h e = refl
-  seal_read (Number x) h e = ap Number (sym (u32_read bs i x tail h e))
+  seal_read : (s : Option ℕ) → SealFits s → drop i bs ≡ seal_bytes s ++ tail → s ≡ seal_of (sealed s) (u32_at bs i)
+  seal_read None h e = refl
+  seal_read (Some x) h e = ap Some (sym (u32_read bs i x tail h e))
 
 entry_back : (f : Frame) (e : Entry) (rest : List ℕ) → f.h < 65536 → EntryFits e → Sound f e
     → e ≡ entry_at f (fields_in f e) (form_before f e rest)
@@ -84,8 +81,8 @@ entry_reads_back f at e rest h fits s =
     let long : size_of m ≤ length bs = omega (arith, size, length-append (entry_bytes f e) rest, ap length (form_before_lem f e rest)) in
     let back = entry_back f e rest h fits s in
     rw form_before_lem (sym
-    (fields_taken f at m bs e Accepted back long (simp not-and_self) (sym (faultless f at e s)) _ size refl
-    ∙ entry_legal f at bs (omega arith) (Follow m) (map_back m) m refl))
+    (fields_taken f at m bs e back long (simp not-and_self) (sym (faultless f at e s)) _ size
+    ∙ entry_legal f at bs (omega arith) (map_back m at)))
 
 sealed_again : (w : Bool) (x : ℕ) → sealed (seal_of w x) ≡ w
 sealed_again true x = refl

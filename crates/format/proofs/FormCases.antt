@@ -10,17 +10,16 @@ use Rattle.format.specs.LittleEndian.{u16_bytes, u32_bytes}
 use Rattle.format.specs.Maps.{map_of, size_of}
 use Rattle.format.specs.Forms.{sealed, fields_in, seal_bytes, minute_bytes, times_bytes, entry_bytes}
 use Rattle.base.specs.Storing.{Wrote}
-use Rattle.list.specs.declared.types.Seal.{Seal}
-use Rattle.list.specs.declared.types.Seal.TheVariants.{Missing, Number}
+use Rattle.std.specs.Prelude.{None, Option, Some}
 use Rattle.list.specs.declared.types.Entry.{Entry}
 use Rattle.list.specs.declared.types.Frame.{Frame}
 use Rattle.format.specs.declared.map.Fields.{Fields}
 use Rattle.format.proofs.Places.{p_place_small}
 use Rattle.base.proofs.Stores.{wrote_one, wrote_then}
 
-pub seal_length : (s : Seal) → length (seal_bytes s) ≡ cond (sealed s) 4 0
-seal_length Missing = refl
-seal_length (Number x) = refl
+pub seal_length : (s : Option ℕ) → length (seal_bytes s) ≡ cond (sealed s) 4 0
+seal_length None = refl
+seal_length (Some x) = refl
 
 pub minute_length : (follows : Bool) (x : ℕ) → length (minute_bytes follows x) ≡ cond follows 2 0
 minute_length true x = refl

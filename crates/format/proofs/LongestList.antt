@@ -13,7 +13,7 @@ use Rattle.list.specs.DayLists.{entries_of, blank, day_list}
 use Rattle.list.specs.Clashes.{Apart}
 use Rattle.list.specs.Checks.{WellFormed, header_fault, opening_fault, entries_fault, values_fault}
 use Rattle.format.specs.Writing.{bytes_of_entries, bytes_of, longest_list}
-use Rattle.list.specs.declared.types.Seal.TheVariants.{Number}
+use Rattle.std.specs.Prelude.{Some}
 use Rattle.list.specs.declared.types.Kind.TheVariants.{Pause}
 use Rattle.list.specs.declared.types.Entry.{Entry}
 use Rattle.list.specs.declared.types.DayList.{DayList}
@@ -27,7 +27,7 @@ longest l w = list_short l (form_fits l w)
 -- k entries that write all their fields, no two of one serial
 full_entries : ℕ → List Entry
 full_entries zero = []
-full_entries (suc k) = record { serial = k; seal = Number 0; r = 2; d = 3; p = 1; kind = Pause } ∷ full_entries k
+full_entries (suc k) = record { serial = k; seal = Some 0; r = 2; d = 3; p = 1; kind = Pause } ∷ full_entries k
 
 full_length : (k : ℕ) → length (full_entries k) ≡ k
 unfolding full_entries

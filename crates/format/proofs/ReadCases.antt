@@ -12,24 +12,16 @@ use lib.Dec.{ltb}
 use lib.ListN.{length, take, drop, set, replicate, length-take, length-drop, length-set}
 use lib.Seq.{take_all, take-suc-set, drop-drop}
 use Rattle.base.specs.Outcomes.{Code, code, Outcome, answered, refused, row, first_of, and_then}
-use Rattle.list.specs.Refusals.{code_of, verdict_of}
 use Rattle.format.specs.LittleEndian.{u16_at}
-use Rattle.format.specs.EntryFields.{entry_of, entry_answer_of}
-use Rattle.list.specs.DayLists.{blank, day_list, empty_list, entries_of}
+use Rattle.format.specs.EntryFields.{entry_of}
+use Rattle.list.specs.DayLists.{blank, day_list, entries_of}
 use Rattle.list.specs.Clashes.{first_clash}
 use Rattle.list.specs.Checks.{header_fault, opening_fault}
 use Rattle.format.specs.Headers.{opening_written, count_of, frame_of, entries_place, zero_written}
-use Rattle.format.specs.Reading.{entries_from, body_of, opened_of, decode_of, map_place, read_of, list_or}
-use Rattle.format.specs.Internal.{ReadsAs}
+use Rattle.format.specs.Reading.{entries_from, body_of, opened_of, decode_of, map_place, read_of}
 use Rattle.list.specs.declared.types.Entry.{Entry}
 use Rattle.list.specs.declared.types.Frame.{Frame}
 use Rattle.list.specs.declared.types.DayList.{DayList}
-use Rattle.list.specs.declared.types.Refusal.{Refusal}
-use Rattle.list.specs.declared.types.Verdict.{Verdict}
-use Rattle.list.specs.declared.types.Verdict.TheVariants.{Accepted, Refused}
-use Rattle.list.specs.declared.types.ReadAnswer.{ReadAnswer}
-use Rattle.format.specs.declared.entry.EntryAnswer.{EntryAnswer}
-use Rattle.format.specs.declared.entry.EntryAnswer.TheVariants.{Taken, NotTaken}
 use Rattle.format.proofs.EntryTrip.{TakenEntry, entry_says}
 use Rattle.list.proofs.Sound.{opening_passes}
 use Rattle.list.proofs.Filling.{blank_after, filled_list}
@@ -75,24 +67,19 @@ start f n bs from h =
 rest_lent : (bs : List ℕ) (at : ℕ) → take (length bs - at) (drop at bs) ≡ drop at bs
 rest_lent bs at = take_all (length bs - at) (drop at bs) (omega (arith, length-drop at bs))
 
--- the next entry, as code reads it
-abbrev pub ReadHere : Frame → ℕ → List ℕ → EntryAnswer → Type 0
-ReadHere f at bs a = entry_answer_of a ≡ entry_of f at (take (length bs - at) (drop at bs))
+-- what code reads of the next entry
+abbrev pub Here : Frame → ℕ → List ℕ → Outcome (Entry × ℕ) → Type 0
+Here f at bs o = o ≡ entry_of f at (take (length bs - at) (drop at bs))
 
-taken_here : (f : Frame) (at : ℕ) (bs : List ℕ) (a : EntryAnswer) (e : Entry) (size : ℕ) → ReadHere f at bs a → a ≡ Taken e size
-    → entry_of f at (drop at bs) ≡ answered (e, size)
-taken_here f at bs a e size q t = rw (t, rest_lent bs at) at (sym q)
-
-refused_here : (f : Frame) (at : ℕ) (bs : List ℕ) (a : EntryAnswer) (x : Refusal) → ReadHere f at bs a → a ≡ NotTaken x
-    → entry_of f at (drop at bs) ≡ refused (code_of x)
-refused_here f at bs a x q t = rw (t, rest_lent bs at) at (sym q)
+read_here : (f : Frame) (at : ℕ) (bs : List ℕ) (o : Outcome (Entry × ℕ)) → Here f at bs o → entry_of f at (drop at bs) ≡ o
+read_here f at bs o q = rw (rest_lent bs at) at (sym q)
 
 -- an entry that was taken lies inside the input
-pub size_here : (f : Frame) (at : ℕ) (bs : List ℕ) (a : EntryAnswer) (e : Entry) (size : ℕ) → at ≤ length bs → ReadHere f at bs a
-    → a ≡ Taken e size → at + size ≤ length bs
-size_here f at bs a e size h q t =
+pub size_here : (f : Frame) (at : ℕ) (bs : List ℕ) {e : Entry} {size : ℕ} → at ≤ length bs → Here f at bs (answered (e, size))
+    → at + size ≤ length bs
+size_here f at bs {e} {size} h q =
     let rest = drop at bs in
-    let taken : TakenEntry f rest (e, size) = rw (taken_here f at bs a e size q t) at (entry_says f at rest _ refl) in
+    let taken : TakenEntry f rest (e, size) = rw (read_here f at bs _ q) at (entry_says f at rest _ refl) in
     omega (arith, taken.within, length-drop at bs)
 
 module _ {f : Frame} {n : ℕ} {bs : List ℕ} {from : ℕ} {entries : List Entry} {at i : ℕ} (s : SoFar f n bs from entries at i) where
@@ -100,16 +87,14 @@ module _ {f : Frame} {n : ℕ} {bs : List ℕ} {from : ℕ} {entries : List Entr
   unfolding entries_from
   turn h = let q : n - i ≡ suc (n - (i + 1)) = omega arith in s.rest ∙ rw q
 
-  pub entry_refused : (a : EntryAnswer) (x : Refusal) → i < n → ReadHere f at bs a → a ≡ NotTaken x
-      → entries_from f n from (drop from bs) ≡ refused (code_of x)
-  entry_refused a x h q t = rw (turn h, refused_here f at bs a x q t)
+  pub entry_refused : {k : Code} → i < n → Here f at bs (refused k) → entries_from f n from (drop from bs) ≡ refused k
+  entry_refused h q = rw (turn h, read_here f at bs _ q)
 
-  pub next : (a : EntryAnswer) (e : Entry) (size : ℕ) → n ≤ 64 → i < n → ReadHere f at bs a → a ≡ Taken e size
-      → SoFar f n bs from (set entries i e) (at + size) (i + 1)
-  next a e size room h q t =
+  pub next : (e : Entry) (size : ℕ) → n ≤ 64 → i < n → Here f at bs (answered (e, size)) → SoFar f n bs from (set entries i e) (at + size) (i + 1)
+  next e size room h q =
       record {
         passed = omega arith;
-        inside = size_here f at bs a e size s.inside q t;
+        inside = size_here f at bs s.inside q;
         long = length-set entries i e ∙ s.long;
         unused = blank_after entries i e (omega arith) s.unused;
         rest = turn h ∙ rest_after;
@@ -121,7 +106,7 @@ module _ {f : Frame} {n : ℕ} {bs : List ℕ} {from : ℕ} {entries : List Entr
       rest_after : before (take i entries) (one_more f (n - (i + 1)) at (drop at bs))
           ≡ before (take (i + 1) (set entries i e)) (entries_from f (n - (i + 1)) (at + size) (drop (at + size) bs))
       rest_after =
-          rw (taken_here f at bs a e size q t, taken, ← drop-drop size at bs)
+          rw (read_here f at bs _ q, taken, ← drop-drop size at bs)
           (before_one (take i entries) e (entries_from f (n - (i + 1)) (at + size) (drop size (drop at bs))))
 
   pub done : n ≤ i → entries_from f n from (drop from bs) ≡ answered (take i entries, at)
@@ -155,30 +140,20 @@ module _ (bs : List ℕ) (f : Frame) (n from : ℕ) (p : f ≡ frame_of bs) (q :
       → body_of bs ≡ answered (day_list f es)
   body_done es end e h = rw (body, e) (simp (le-ltb _ _ h))
 
--- an answer made of a refusal, and one made of a list
-pub reads_refused : (o : Outcome DayList) (a : ReadAnswer) (x : Refusal) → a ≡ record { verdict = Refused x; list = empty_list }
-    → o ≡ refused (code_of x) → ReadsAs o a
-reads_refused o a x p q = record { outcome = rw (p, q); beside = rw (p, q) }
-
-pub reads_list : (o : Outcome DayList) (l : DayList) → o ≡ answered l → ReadsAs o (record { verdict = Accepted; list = l })
-reads_list o l q = record { outcome = sym q; beside = rw q }
-
 -- the header: rows 1 to 3
 module _ (bs : List ℕ) where
   pub decode_short : length bs < 3 → decode_of bs ≡ refused (code 1 (length bs ∷ []))
   unfolding decode_of
   decode_short h = simp (lt-ltb _ _ h)
 
-  module _ (v : Verdict) (h : 3 ≤ length bs) (w : verdict_of v ≡ header_fault 2 (frame_of bs).h (count_of bs)) where
-    header : decode_of bs ≡ and_then (verdict_of v) (λ _. opened_of bs)
+  module _ (long : 3 ≤ length bs) (h : ℕ) (is : h ≡ u16_at bs 0) where
+    pub decode_header : {k : Code} → refused k ≡ header_fault 2 h (count_of bs) → refused k ≡ decode_of bs
     unfolding decode_of
-    header = rw w (simp (le-ltb _ _ h))
+    decode_header w = simp (le-ltb _ _ long, ← is, sym w)
 
-    pub decode_header : (x : Refusal) → v ≡ Refused x → decode_of bs ≡ refused (code_of x)
-    decode_header x a = rw (header, a)
-
-    pub decode_opened : v ≡ Accepted → decode_of bs ≡ opened_of bs
-    decode_opened a = rw (header, a)
+    pub decode_opened : answered tt ≡ header_fault 2 h (count_of bs) → opened_of bs ≡ decode_of bs
+    unfolding decode_of
+    decode_opened w = simp (le-ltb _ _ long, ← is, sym w)
 
   -- the rows of an opening minute
   pub opened_short : length bs < entries_place bs → opened_of bs ≡ refused (code 1 (length bs ∷ []))
@@ -190,16 +165,14 @@ module _ (bs : List ℕ) where
     unfolding opened_of
     opened_zero z = simp (le-ltb _ _ h, z)
 
-    module _ (kept : zero_written bs ≡ false) (f : Frame) (p : f ≡ frame_of bs) (v : Verdict) (w : verdict_of v ≡ opening_fault 3 f) where
-      opening : opened_of bs ≡ and_then (verdict_of v) (λ _. body_of bs)
+    module _ (kept : zero_written bs ≡ false) (f : Frame) (p : f ≡ frame_of bs) where
+      pub opened_refused : {k : Code} → refused k ≡ opening_fault 3 f → refused k ≡ opened_of bs
       unfolding opened_of
-      opening = rw w (rw p (simp (le-ltb _ _ h, kept)))
+      opened_refused w = rw (← p) (simp (le-ltb _ _ h, kept, sym w))
 
-      pub opened_refused : (x : Refusal) → v ≡ Refused x → opened_of bs ≡ refused (code_of x)
-      opened_refused x a = rw (opening, a)
-
-      pub opened_body : v ≡ Accepted → opened_of bs ≡ body_of bs
-      opened_body a = rw (opening, a)
+      pub opened_body : answered tt ≡ opening_fault 3 f → opened_of bs ≡ body_of bs
+      unfolding opened_of
+      opened_body w = rw (← p) (simp (le-ltb _ _ h, kept, sym w))
 
 -- the opening minute, as code reads it: written,
 module _ (bs : List ℕ) (w : opening_written bs ≡ true) where
@@ -226,28 +199,20 @@ module _ (bs : List ℕ) (w : opening_written bs ≡ false) where
   pub opened_unwritten : 3 ≤ length bs → (h : ℕ) → h ≡ u16_at bs 0 → 0 < h → opened_of bs ≡ body_of bs
   opened_unwritten long h p some =
       let f : Frame = record { h = h; opening = 0 } in
-      opened_body bs (rw (← unwritten_place) long) (rw w refl) f (unwritten_frame h p) Accepted (sym (opening_passes 3 f some)) refl
+      opened_body bs (rw (← unwritten_place) long) (rw w refl) f (unwritten_frame h p) (sym (opening_passes 3 f some))
 
 -- row 14, or the list
-module _ (bs : List ℕ) (a : ReadAnswer) (decoded : ReadsAs (decode_of bs) a) where
-  as_decoded : read_of bs ≡ decode_of bs → ReadsAs (read_of bs) a
-  as_decoded e = record { outcome = decoded.outcome ∙ sym e; beside = decoded.beside ∙ ap list_or (sym e) }
-
-  pub read_decoded : (x : Refusal) → a.verdict ≡ Refused x → ReadsAs (read_of bs) a
+module _ (bs : List ℕ) where
+  pub read_decoded : {k : Code} → refused k ≡ decode_of bs → refused k ≡ read_of bs
   unfolding read_of
-  read_decoded x v =
-      let is : decode_of bs ≡ refused (code_of x) = sym decoded.outcome ∙ rw v refl in
-      as_decoded (rw is refl)
+  read_decoded e = rw (← e) refl
 
-  module _ (v : a.verdict ≡ Accepted) where
-    pub is_decoded : decode_of bs ≡ answered a.list
-    is_decoded = sym decoded.outcome ∙ rw v refl
+  module _ (l : DayList) (decoded : answered l ≡ decode_of bs) (entry count : ℕ) (is : entry ≡ first_clash (entries_of l))
+      (all : length (entries_of l) ≡ count) where
+    pub read_clash : entry < count → refused (code 14 (map_place bs entry ∷ [])) ≡ read_of bs
+    unfolding read_of
+    read_clash h = rw (← decoded, ← is, all, lt-ltb entry count h) refl
 
-    module _ (entry count : ℕ) (is : entry ≡ first_clash (entries_of a.list)) (all : length (entries_of a.list) ≡ count) where
-      pub read_clash : entry < count → read_of bs ≡ refused (code 14 (map_place bs entry ∷ []))
-      unfolding read_of
-      read_clash h = rw (is_decoded, ← is, all, lt-ltb entry count h) refl
-
-      pub read_list : count ≤ entry → ReadsAs (read_of bs) a
-      unfolding read_of
-      read_list h = as_decoded (rw (is_decoded, ← is, all, le-ltb entry count h) refl)
+    pub read_list : count ≤ entry → answered l ≡ read_of bs
+    unfolding read_of
+    read_list h = rw (← decoded, ← is, all, le-ltb entry count h) refl

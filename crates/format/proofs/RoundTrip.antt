@@ -16,8 +16,8 @@ use Rattle.list.specs.Checks.{WellFormed, header_fault, check_of}
 use Rattle.format.specs.Headers.{header_size, entries_place, opens_later, header_bytes}
 use Rattle.format.specs.Reading.{entries_from, decode_of, read_of}
 use Rattle.format.specs.Writing.{bytes_of_entries, bytes_of, write_of, buffer_after}
+use Rattle.list.specs.declared.types.Frame.{Frame}
 use Rattle.list.specs.declared.types.DayList.{DayList}
-use Rattle.list.specs.declared.types.Verdict.TheVariants.{Accepted}
 use Rattle.base.proofs.Inversion.{Says, by_row, by_step, Anything}
 use Rattle.list.proofs.Alike.{same_checked}
 use Rattle.list.proofs.ClashFacts.{apart_told}
@@ -56,10 +56,9 @@ module _ (l : DayList) (t : Typed l) (w : WellFormed l) where
       header_back f l.n body small (omega (arith, small, sound.opening)) (omega (arith, sound.header.room)) in
       let long : length bs ≡ header_size (opens_later f) + length body = length-append (header_bytes f l.n) body ∙ rw header_length in
       let read = ap (entries_from f l.n (entries_place bs)) back.after ∙ entries_back (entries_place bs) in
-      decode_opened bs Accepted (omega (arith, long))
-      (sym (header_passes 2 f.h l.n sound.header) ∙ (λ j. header_fault 2 (back.frame j).h (back.count j))) refl
-      ∙ opened_body bs (omega (arith, long, back.place)) back.kept f back.frame Accepted
-      (sym (opening_passes 3 f sound.opening)) refl
+      sym (decode_opened bs (omega (arith, long)) f.h (ap (λ (g : Frame). g.h) back.frame)
+      (sym (header_passes 2 f.h l.n sound.header) ∙ ap (header_fault 2 f.h) back.count))
+      ∙ opened_body bs (omega (arith, long, back.place)) back.kept f back.frame (sym (opening_passes 3 f sound.opening))
       ∙ body_done bs f l.n (entries_place bs) back.frame back.count refl (entries_of l) _ read (omega (arith, long, back.place))
 
   pub bytes_read_back : read_of (bytes_of l) ≡ answered (day_list l.frame (entries_of l))

@@ -1,17 +1,12 @@
 -- One entry: what its bytes say, and when they are turned back.
-use Rattle.std.specs.Prelude.{ℕ, ◌+◌, Bool, true, false, cond, ◌&&◌, ◌||◌, List, [], ◌∷◌, length, get_or, eqb, ltb}
-use Rattle.base.specs.Outcomes.{Outcome, answered, refused, Row, row, first_of, and_then}
-use Rattle.list.specs.Refusals.{code_of}
+use Rattle.std.specs.Prelude.{ℕ, ◌+◌, Bool, true, false, cond, ◌&&◌, ◌||◌, List, [], ◌∷◌, Option, Some, None, length, get_or, eqb, ltb}
+use Rattle.base.specs.Outcomes.{Outcome, answered, Row, row, first_of, and_then}
 use Rattle.format.specs.LittleEndian.{u16_at, u32_at}
 use Rattle.list.specs.Entries.{entry_fault}
 use Rattle.format.specs.Maps.{map_fields, r_place, d_place, p_place, size_of}
-use Rattle.list.specs.declared.types.Seal.{Seal}
-use Rattle.list.specs.declared.types.Seal.TheVariants.{Missing, Number}
 use Rattle.list.specs.declared.types.Entry.{Entry}
 use Rattle.list.specs.declared.types.Frame.{Frame}
 use Rattle.format.specs.declared.map.Fields.{Fields}
-use Rattle.format.specs.declared.entry.EntryAnswer.{EntryAnswer}
-use Rattle.format.specs.declared.entry.EntryAnswer.TheVariants.{Taken, NotTaken}
 
 -- "earliest minute r ..: missing means 0", and document 02: "A missing r means the opening minute"
 abbrev pub default_r : Frame → ℕ
@@ -22,9 +17,9 @@ abbrev pub default_d : Frame → ℕ
 default_d f = f.h
 
 -- "A seal is either missing or a number"
-abbrev pub seal_of : Bool → ℕ → Seal
-seal_of true x = Number x
-seal_of false x = Missing
+abbrev pub seal_of : Bool → ℕ → Option ℕ
+seal_of true x = Some x
+seal_of false x = None
 
 -- the entry that bytes with these fields say, its map byte first
 unfoldable pub entry_at : Frame → Fields → List ℕ → Entry
@@ -57,8 +52,3 @@ fields_entry f at m bs =
 unfoldable pub entry_of : Frame → ℕ → List ℕ → Outcome (Entry × ℕ)
 entry_of f at bs =
     first_of (row 1 (eqb (length bs) 0) (at + length bs) ∷ []) (and_then (map_fields at (get_or bs 0 0)) (λ m. fields_entry f at m bs))
-
--- the answer of reading one entry
-abbrev pub entry_answer_of : EntryAnswer → Outcome (Entry × ℕ)
-entry_answer_of (Taken e size) = answered (e, size)
-entry_answer_of (NotTaken x) = refused (code_of x)

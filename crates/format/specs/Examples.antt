@@ -1,9 +1,8 @@
 -- The table's order of rows, days that have a serial twice, and rooms that open after midnight, as one statement;
 -- `read_examples` of proofs/Examples.antt proves it.
-use Rattle.std.specs.Prelude.{ℕ, ◌+◌, ◌≡◌, List, [], ◌∷◌, ◌++◌}
+use Rattle.std.specs.Prelude.{ℕ, ◌+◌, ◌≡◌, List, [], ◌∷◌, ◌++◌, None, Some}
 use Rattle.base.specs.Outcomes.{code, answered, refused}
 use Rattle.list.specs.DayLists.{day_list}
-use Rattle.list.specs.declared.types.Seal.TheVariants.{Missing, Number}
 use Rattle.list.specs.declared.types.Kind.TheVariants.{Pause, Whole}
 use Rattle.list.specs.declared.types.Entry.{Entry}
 use Rattle.format.specs.Reading.{read_of}
@@ -40,7 +39,7 @@ touching_bytes =
     ++ (0x15 ∷ 0xF5 ∷ 0x01 ∷ 0x00 ∷ 0x00 ∷ 0x04 ∷ 0x00 ∷ 0x01 ∷ 0x00 ∷ []))
 
 abbrev pub serial501 : ℕ → ℕ → Entry
-serial501 r d = record { serial = 501; seal = Missing; r = r; d = d; p = 1; kind = Pause }
+serial501 r d = record { serial = 501; seal = None; r = r; d = d; p = 1; kind = Pause }
 
 -- H 10, and this opening minute, in two bytes
 abbrev pub opens_at : ℕ → ℕ → List ℕ
@@ -58,7 +57,7 @@ pub record ReadExamples : Type 0 where
   -- "in bit order", "lowest byte first"
   pub all_fields_lem : read_of (ten_minutes 1 ++ all_fields)
       ≡ answered (day_list (record { h = 10; opening = 0 })
-      (record { serial = 0x04030201; seal = Number 0x08070605; r = 1; d = 8; p = 2; kind = Whole } ∷ []))
+      (record { serial = 0x04030201; seal = Some 0x08070605; r = 1; d = 8; p = 2; kind = Whole } ∷ []))
   -- the header: 1, then 2, then 3; H 1,440 and 1,441
   pub no_header : read_of (0x00 ∷ 0x00 ∷ []) ≡ refused (code 1 (2 ∷ []))
   pub day_first : read_of (0x00 ∷ 0x00 ∷ 0x41 ∷ []) ≡ refused (code 2 (0 ∷ []))

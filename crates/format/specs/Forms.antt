@@ -1,26 +1,24 @@
 -- An entry's one form: "so a list has one form".
-use Rattle.std.specs.Prelude.{ℕ, Bool, true, false, cond, not, List, [], ◌∷◌, ◌++◌, eqb}
+use Rattle.std.specs.Prelude.{ℕ, Bool, true, false, cond, not, List, [], ◌∷◌, ◌++◌, eqb, None, Option, Some}
 use Rattle.format.specs.LittleEndian.{u16_bytes, u32_bytes}
 use Rattle.format.specs.Maps.{map_of}
 use Rattle.format.specs.EntryFields.{default_r, default_d}
-use Rattle.list.specs.declared.types.Seal.{Seal}
-use Rattle.list.specs.declared.types.Seal.TheVariants.{Missing, Number}
 use Rattle.list.specs.declared.types.Entry.{Entry}
 use Rattle.list.specs.declared.types.Frame.{Frame}
 use Rattle.format.specs.declared.map.Fields.{Fields}
 
 -- a seal that is a number
-abbrev pub sealed : Seal → Bool
-sealed Missing = false
-sealed (Number x) = true
+abbrev pub sealed : Option ℕ → Bool
+sealed None = false
+sealed (Some x) = true
 
 -- the fields of an entry's one form: those that are neither missing nor at their default
 abbrev pub fields_in : Frame → Entry → Fields
 fields_in f e = record { seal = sealed e.seal; r = not (eqb e.r (default_r f)); d = not (eqb e.d (default_d f)); kind = e.kind }
 
-abbrev pub seal_bytes : Seal → List ℕ
-seal_bytes Missing = []
-seal_bytes (Number x) = u32_bytes x
+abbrev pub seal_bytes : Option ℕ → List ℕ
+seal_bytes None = []
+seal_bytes (Some x) = u32_bytes x
 
 -- a minute's bytes, if its field follows
 abbrev pub minute_bytes : Bool → ℕ → List ℕ

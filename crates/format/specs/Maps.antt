@@ -1,11 +1,9 @@
 -- The map byte: "The map byte alone decides which fields follow and how long they are."
 use Rattle.std.specs.Prelude.{ℕ, ◌+◌, ◌/◌, ◌%◌, ◌^◌, Bool, true, false, cond, not, ◌&&◌, [], ◌∷◌, eqb}
-use Rattle.base.specs.Outcomes.{code, Outcome, answered, refused, row, first_of}
+use Rattle.base.specs.Outcomes.{Outcome, answered, row, first_of}
 use Rattle.list.specs.declared.types.Kind.{Kind}
 use Rattle.list.specs.declared.types.Kind.TheVariants.{Pause, Whole}
 use Rattle.format.specs.declared.map.Fields.{Fields}
-use Rattle.format.specs.declared.map.MapAnswer.{MapAnswer}
-use Rattle.format.specs.declared.map.MapAnswer.TheVariants.{Breaks, Follow}
 
 -- bit k of b stands
 abbrev pub bit : ℕ → ℕ → Bool
@@ -27,11 +25,6 @@ fields_of b = record { seal = bit 1 b; r = bit 2 b; d = bit 3 b; kind = kind_of 
 -- row 4, which carries the map byte's place, or the fields that follow
 abbrev pub map_fields : ℕ → ℕ → Outcome Fields
 map_fields at b = first_of (row 4 (not (legal_map b)) at ∷ []) (answered (fields_of b))
-
--- the answer to a map byte at a place
-abbrev pub map_answer_of : ℕ → MapAnswer → Outcome Fields
-map_answer_of at Breaks = refused (code 4 (at ∷ []))
-map_answer_of at (Follow m) = answered m
 
 -- Where a field starts, counted from the map byte: "then come only the fields whose bit stands, in bit order".
 -- The serial is at 1, and the seal, where it stands, at 5.

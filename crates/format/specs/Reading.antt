@@ -3,7 +3,7 @@ use Rattle.std.specs.Prelude.{ℕ, zero, suc, ◌+◌, List, [], ◌∷◌, leng
 use Rattle.base.specs.Outcomes.{Outcome, answered, refused, row, first_of, and_then}
 use Rattle.format.specs.EntryFields.{entry_of}
 use Rattle.format.specs.Headers.{frame_of, count_of, entries_place, opening_rows}
-use Rattle.list.specs.DayLists.{day_list, empty_list, entries_of}
+use Rattle.list.specs.DayLists.{day_list, entries_of}
 use Rattle.list.specs.Clashes.{clash_row}
 use Rattle.list.specs.Checks.{header_fault, opening_fault}
 use Rattle.list.specs.declared.types.Entry.{Entry}
@@ -49,8 +49,3 @@ map_place bs entry = place_after (entries_read bs entry)
 -- carries its map's place".
 unfoldable pub read_of : List ℕ → Outcome DayList
 read_of bs = and_then (decode_of bs) (λ l. first_of (clash_row (map_place bs) (entries_of l) ∷ []) (answered l))
-
--- the list that stands in an answer: the one read, or the empty one beside a refusal
-abbrev pub list_or : Outcome DayList → DayList
-list_or (answered l) = l
-list_or (refused k) = empty_list

@@ -7,14 +7,14 @@ ghost use Rattle.format.specs.Headers.{header_size, opens_later, count_byte, hea
 
 use crate::bytes::put_u16;
 use crate::form::put_minute;
-use crate::map::plus_if;
+use crate::map::{bit, plus_if};
 use list::types::Frame;
 
 // Whether a count byte says that the opening minute follows.
 pub(crate) fn says_opening(count: u8) -> bool
     ensures { result ≡ bit 7 count }
 {
-    count / 128 % 2 == 1
+    bit(7, count)
 }
 
 // Whether the room opens after midnight, so that its opening minute is written.

@@ -1,8 +1,9 @@
 // The map byte, which alone decides which fields follow and how long they are.
-ghost use Rattle.std.specs.Prelude.{◌≡◌, cond, ℕ, ◌+◌, ◌<◌, ◌^◌};
-ghost use Rattle.format.specs.Maps.{kind_of, bit, map_fields, map_answer_of, map_of, r_place, d_place, p_place, size_of};
+ghost use Rattle.std.specs.Prelude.{◌≡◌, cond, ◌+◌, ◌<◌, ◌^◌};
+ghost use Rattle.list.specs.Refusals.{outcome_of};
+ghost use Rattle.format.specs.Maps.{kind_of, bit, legal_map, map_fields, map_of, r_place, d_place, p_place, size_of};
 
-use list::types::Kind;
+use list::types::{Kind, Refusal};
 
 // What a map byte says: which of the fields that may be missing follow, and the kind.
 #[derive(Clone, Copy)]
@@ -13,52 +14,40 @@ pub struct Fields {
     pub kind: Kind,
 }
 
-#[derive(Clone, Copy)]
-pub enum MapAnswer {
-    Breaks,
-    Follow(Fields),
+// Bit k of a byte.
+pub(crate) fn bit(k: u32, byte: u8) -> bool
+    requires { k < 8 }
+    ensures { result ≡ bit k byte }
+{
+    byte >> k & 1 == 1
 }
 
-// The fields that follow a legal map byte: bits 0 and 4 stand, bits 6 and 7 are clear; the second byte of a pair says whole.
-pub(crate) fn map_answer(map: u8) -> MapAnswer
-    ensures { (at : ℕ) → map_answer_of at result ≡ map_fields at map }
+// Whether bits 0 and 4 stand and bits 6 and 7 are clear.
+fn legal_map(map: u8) -> bool
+    ensures { result ≡ legal_map map }
 {
-    match map {
-        0..=16 => MapAnswer::Breaks,
-        17 | 49 => follow(map, false, false, false),
-        19 | 51 => follow(map, true, false, false),
-        21 | 53 => follow(map, false, true, false),
-        23 | 55 => follow(map, true, true, false),
-        25 | 57 => follow(map, false, false, true),
-        27 | 59 => follow(map, true, false, true),
-        29 | 61 => follow(map, false, true, true),
-        31 | 63 => follow(map, true, true, true),
-        32..=48 => MapAnswer::Breaks,
-        64..=255 => MapAnswer::Breaks,
-        _ => MapAnswer::Breaks,
+    bit(0, map) && bit(4, map) && !bit(6, map) && !bit(7, map)
+}
+
+// The fields that follow a legal map byte, or row 4, which carries the place given.
+pub(crate) fn map_fields(at: usize, map: u8) -> Result<Fields, Refusal>
+    ensures { outcome_of result ≡ map_fields at map }
+{
+    if !legal_map(map) {
+        return Err(Refusal::BadMapByte(at));
     }
-}
-
-fn kind_of(map: u8) -> Kind
-    ensures { result ≡ kind_of (bit 5 map) }
-{
-    if map / 32 % 2 == 1 {
-        Kind::Whole
-    } else {
-        Kind::Pause
-    }
-}
-
-fn follow(map: u8, seal: bool, r: bool, d: bool) -> MapAnswer
-    ensures { result ≡ MapAnswer.Follow (record { seal = seal; r = r; d = d; kind = kind_of (bit 5 map) }) }
-{
-    let kind = kind_of(map);
-    MapAnswer::Follow(Fields {
-        seal: seal,
-        r: r,
-        d: d,
-        kind: kind,
+    Ok(Fields {
+        seal: bit(1, map),
+        r: bit(2, map),
+        d: bit(3, map),
+        kind: kind_of(bit(5, map)),
     })
+}
+
+fn kind_of(whole: bool) -> Kind
+    ensures { result ≡ kind_of whole }
+{
+    if whole { Kind::Whole } else { Kind::Pause }
 }
 
 // x, with y added where a field follows.
@@ -73,9 +62,8 @@ pub(crate) fn plus_if(x: usize, follows: bool, y: usize) -> usize
 pub(crate) fn map_of(m: Fields) -> u8
     ensures { result ≡ map_of m }
 {
-    let kind = m.kind;
     let bits = plus_if(plus_if(plus_if(17, m.seal, 2), m.r, 4), m.d, 8);
-    match kind {
+    match m.kind {
         Kind::Pause => bits as u8,
         Kind::Whole => (bits + 32) as u8,
     }

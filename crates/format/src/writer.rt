@@ -8,37 +8,28 @@ ghost use Rattle.list.specs.DayLists.{most_entries};
 use crate::form::{list_size, put_entry};
 use crate::header::put_header;
 use list::check;
-use list::types::{DayList, Refusal, Verdict, WriteAnswer};
+use list::types::{DayList, Refusal};
 
 // A list's one form, at the start of the buffer.
 fn put_list(list: DayList, out: &mut [u8])
     requires { (list.n ≤ most_entries) × (length (bytes_of list) ≤ length out.old) }
     ensures { out.new ≡ sets out.old 0 (bytes_of list) }
 {
-    let n = list.n as usize;
-    let frame = list.frame;
-    let mut at = put_header(out, frame, list.n);
-    let mut i: usize = 0;
-    while i < n {
-        at = put_entry(out, at, frame, list.entries[i]);
-        i += 1;
+    let mut at = put_header(out, list.frame, list.n);
+    for i in 0..usize::from(list.n) {
+        at = put_entry(out, at, list.frame, list.entries[i]);
     }
 }
 
-// The value checks, then 12, else the one form.
-pub fn write(list: DayList, out: &mut [u8]) -> WriteAnswer
+// The value checks, then 12, else the one form. Answers how many bytes were stored.
+pub fn write(list: DayList, out: &mut [u8]) -> Result<usize, Refusal>
     ensures { Writes list out.old result out.new }
 {
-    let verdict = check(list);
-    match verdict {
-        Verdict::Accepted => {
-            let size = list_size(list);
-            if out.len() < size {
-                return WriteAnswer::NotWritten(Refusal::ListBufferShort(size));
-            }
-            put_list(list, out);
-            WriteAnswer::Written(size)
-        }
-        Verdict::Refused(x) => WriteAnswer::NotWritten(x),
+    check(list)?;
+    let size = list_size(list);
+    if out.len() < size {
+        return Err(Refusal::ListBufferShort(size));
     }
+    put_list(list, out);
+    Ok(size)
 }

@@ -2,6 +2,7 @@
 -- Assumes nothing.
 use mathlib.Core.Path.{sym, ◌∙◌}
 use native.Mathlib.Omega.{arith}
+use Rattle.list.proofs.Answered.{handed_on}
 use Rattle.format.proofs.EntryCases.{fields_short, fields_default, fields_taken, fields_refused}
 use Rattle.format.proofs.entry.read_fields.Goals as goal
 
@@ -14,16 +15,15 @@ returns-then-default_written c =
     fields_default c.args.frame c.args.at c.args.m c.args.rest.now _ c.entry_at-e.ensures
     (omega (arith, c.if-rest-size.false, c.size_of-size.ensures)) (sym c.default_written.ensures ∙ c.if-default_written.true)
 
-pub returns-in-Accepted : goal.returns-in-Accepted
-returns-in-Accepted c =
-    fields_taken c.args.frame c.args.at c.args.m c.args.rest.now _ c.entry_fault-fault.result c.entry_at-e.ensures
-    (omega (arith, c.if-rest-size.false, c.size_of-size.ensures))
-    (sym c.default_written.ensures ∙ c.if-default_written.false)
-    c.entry_fault-fault.ensures _ c.size_of-size.ensures c.in-Accepted.is
+pub returns-in_err-entry_fault : goal.returns-in_err-entry_fault
+returns-in_err-entry_fault c =
+    handed_on _ _ c.from_residual.ensures.1
+    ∙ fields_refused c.args.frame c.args.at c.args.m c.args.rest.now _ c.entry_at-e.ensures
+    (omega (arith, c.if-rest-size.false, c.size_of-size.ensures)) (sym c.default_written.ensures ∙ c.if-default_written.false)
+    c.in_err-entry_fault.ensures
 
-pub returns-in-Refused : goal.returns-in-Refused
-returns-in-Refused c =
-    fields_refused c.args.frame c.args.at c.args.m c.args.rest.now _ c.entry_fault-fault.result c.entry_at-e.ensures
-    (omega (arith, c.if-rest-size.false, c.size_of-size.ensures))
-    (sym c.default_written.ensures ∙ c.if-default_written.false)
-    c.entry_fault-fault.ensures _ c.in-Refused.is
+pub returns : goal.returns
+returns c =
+    fields_taken c.args.frame c.args.at c.args.m c.args.rest.now _ c.entry_at-e.ensures
+    (omega (arith, c.if-rest-size.false, c.size_of-size.ensures)) (sym c.default_written.ensures ∙ c.if-default_written.false)
+    c.in_ok-entry_fault.ensures _ c.size_of-size.ensures
