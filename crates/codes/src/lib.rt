@@ -33,7 +33,7 @@ fn with_interval(a: u16, b: u16, work: u32) -> RefusalCode
 {
     RefusalCode {
         number: 9,
-        values: [a as u64, b as u64, work as u64],
+        values: [u64::from(a), u64::from(b), u64::from(work)],
     }
 }
 
@@ -58,8 +58,8 @@ pub fn numbers_of(x: Refusal) -> RefusalCode
         Refusal::SerialClash(at) => with_one(14, at),
         Refusal::BadOpening(at) => with_one(15, at),
         Refusal::BeforeOpening(at) => with_one(16, at),
-        Refusal::StaleStamp(stamp) => with_one(17, stamp as usize),
-        Refusal::DayFull(stamp) => with_one(18, stamp as usize),
+        Refusal::StaleStamp(stamp) => with_one(17, usize::from(stamp)),
+        Refusal::DayFull(stamp) => with_one(18, usize::from(stamp)),
         Refusal::RoomCount(rooms) => with_one(19, rooms),
         Refusal::BadFlatLength(numbers) => with_one(100, numbers),
     }

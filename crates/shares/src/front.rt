@@ -4,20 +4,16 @@ ghost use Rattle.list.specs.Refusals.{outcome_of};
 ghost use Rattle.shares.specs.Calls.{ReadsFront};
 ghost use Rattle.shares.specs.Internal.{read_end};
 
-use list::types::Refusal;
+use list::types::{DayList, Refusal};
 
 // Where the bytes end that the reader is to be given: at the first byte left over, which row 8 carries, or at the end.
-fn read_end(verdict: Result<(), Refusal>, len: usize) -> usize
-    ensures { result ≡ read_end (outcome_of verdict) len }
+fn read_end(answer: Result<DayList, Refusal>, len: usize) -> usize
+    ensures { result ≡ read_end (outcome_of answer) len }
 {
-    let Err(x) = verdict else {
-        return len;
-    };
-    let code = codes::numbers_of(x);
-    if code.number == 8 {
-        return code.values[0] as usize;
+    match answer {
+        Err(Refusal::BytesLeftOver(at)) => at,
+        _ => len,
     }
-    len
 }
 
 // The list at the front of a share, or why it does not read. There is no second reader: where row 8 tells that bytes are left over, the
@@ -25,8 +21,6 @@ fn read_end(verdict: Result<(), Refusal>, len: usize) -> usize
 pub fn read_front(share: &[u8]) -> Result<DayList, Refusal>
     ensures { ReadsFront share.now result }
 {
-    let whole = format::read(share);
-    let verdict = whole.verdict;
-    let end = read_end(verdict, share.len());
+    let end = read_end(format::read(share), share.len());
     format::read(&share[..end])
 }
