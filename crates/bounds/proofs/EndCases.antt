@@ -15,7 +15,6 @@ use Rattle.windows.specs.Mirrors.{MirrorOf, mirror}
 use Rattle.windows.specs.Intervals.{overload_of}
 use Rattle.windows.specs.declared.types.WindowSet.{WindowSet}
 use Rattle.list.proofs.ByPlace.{by_place_lem, by_place_same}
-use Rattle.base.proofs.Sums.{same_cases}
 use Rattle.base.specs.Outcomes.{accepts}
 use Rattle.base.proofs.Inversion.{accepted_answered}
 use Rattle.windows.proofs.Room.{passes_formed}
@@ -55,17 +54,6 @@ module _ (whole : ℕ → Bool) (w : Windows) (formed : Formed w) (k : ℕ) (pla
       go : (t : Bool) → whole k ≡ t → cond t (w.r k + w.p k) (cond planned closed (w.d k)) ≡ least_end overload_of whole w k
       go true is = sym (least_end_whole overload_of whole w k is)
       go false is = pause is planned refl
-
--- whether all entries are whole, as code asks it: the first i are
-pub record WholeBelow (whole : ℕ → Bool) (i : ℕ) : Type 0 where
-  pub each : (j : ℕ) → j < i → whole j ≡ true
-
-module _ (whole : ℕ → Bool) where
-  pub whole_none : WholeBelow whole 0
-  whole_none = record { each = λ j l. absurd (omega (arith, l)) }
-
-  pub whole_next : (i : ℕ) → WholeBelow whole i → whole i ≡ true → WholeBelow whole (i + 1)
-  whole_next i so is = record { each = λ j l. same_cases j i (λ e _. rw e is) (λ ne _. so.each j (omega (arith, l, ne))) }
 
 -- if all are whole, there is no pause entry
 pub no_pause : {n : ℕ} (whole : ℕ → Bool) {b : Bool} → AllWhole n whole b → b ≡ true → (k : ℕ) → k < n → whole k ≡ false → ⊥

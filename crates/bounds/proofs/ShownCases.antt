@@ -2,12 +2,13 @@
 -- Assumes nothing.
 use mathlib.Core.Path.{◌≡◌, refl, sym, ap, ◌∙◌}
 use mathlib.Core.Bool.{Bool}
-use mathlib.Core.List.{List, ◌++◌}
-use Prim.Native.Nat.{ℕ, suc, ◌+◌, ◌-◌, ◌<◌, ◌≤◌}
+use mathlib.Core.List.{List, ◌++◌, reverse}
+use Prim.Native.Nat.{ℕ, suc, ◌-◌, ◌<◌, ◌≤◌}
 use native.Mathlib.Omega.{arith}
 use borrow.Author.Tests.{lt-ltb, le-ltb, le-leb, lt-leb}
-use lib.ListN.{length, get_or, set, drop, length-set, get_or-append}
-use lib.Seq.{get_or-set_same, get_or-set_other, get_or-append-add, get_or-drop, ext_get_or, length-take-le, length_front, drop_at}
+use lib.ListN.{length, get_or, take, drop, get_or-append}
+use lib.Seq.{ext_get_or, length-take-le, drop_at}
+use Rattle.std.proofs.lemmas.List.{get_or-reverse, get_or-take, length-reverse}
 use Rattle.base.specs.Outcomes.{answered, refused}
 use Rattle.list.specs.Refusals.{code_of, verdict_of}
 use Rattle.list.specs.declared.types.Refusal.{Refusal}
@@ -21,10 +22,9 @@ use Rattle.windows.specs.Mirrors.{mirror, mirror_bytes, MirrorOf}
 use Rattle.windows.specs.Intervals.{overload_of}
 use Rattle.windows.specs.declared.types.WindowSet.{WindowSet}
 use Rattle.jackson.specs.Calls.{FillsWindows}
-use Rattle.base.proofs.Sums.{le_or_lt, same_cases}
 use Rattle.base.proofs.Listed.{list_same, list_length}
 use Rattle.windows.proofs.Room.{passes_formed}
-use Rattle.windows.proofs.PlanFacts.{place_read, mirror_at}
+use Rattle.windows.proofs.PlanFacts.{mirror_at}
 use Rattle.jackson.proofs.Schedules.{schedule_long}
 use Rattle.jackson.proofs.StoredPlans.{filled_with}
 use Rattle.narrow.proofs.OverloadPlanner.{overload_planner}
@@ -126,97 +126,18 @@ module _ (x : Shown) (whole : Bool) (s : WindowSet) (k : ℕ) (old : List ℕ) (
           rw (room_passed, lt-leb _ k known, le-ltb (length old) s.h h) refl in
           record { outcome = rw passed refl; bound = rw passed stores.bound; buffer = rw passed stores.buffer }
 
--- the minutes before first and from end on, of h, have the places of the mirror; the others, and the bytes after h, are as they were
-pub record Turned (h : ℕ) (old new : List ℕ) (first end : ℕ) : Type 0 where
-  pub room : h ≤ length old
-  pub rest : first + end ≡ h
-  pub long : length new ≡ length old
-  pub mirrored : (t : ℕ) → t < h → (first ≤ t → end ≤ t) → places_in new t ≡ places_in old (h - suc t)
-  pub kept : (t : ℕ) → first ≤ t → (t < h → t < end) → places_in new t ≡ places_in old t
+-- the first h bytes the other way round are their mirror
+pub mirror_reversed : (h : ℕ) (bytes : List ℕ) → h ≤ length bytes → reverse (take h bytes) ≡ mirror_bytes h bytes
+mirror_reversed h bytes room = ext_get_or idle _ _ (length-reverse (take h bytes) ∙ taken ∙ sym (list_length h _)) same
+  where
+    taken : length (take h bytes) ≡ h
+    taken = length-take-le h bytes room
 
-module _ (h : ℕ) (old : List ℕ) where
-  pub turn_start : h ≤ length old → Turned h old old 0 h
-  turn_start room =
-      record {
-        room = room;
-        rest = omega arith;
-        long = refl;
-        mirrored = λ t below e. absurd (omega (arith, e (omega arith)));
-        kept = λ t _ _. refl;
-      }
-
-  module _ (new : List ℕ) (first end : ℕ) (so : Turned h old new first end) where
-    module _ (below : first < end) where
-      abbrev last : ℕ
-      last = end - 1
-
-      first_in : first < length new
-      first_in = omega (arith, so.rest, so.long, so.room)
-
-      pub last_in : last < length new
-      last_in = omega (arith, so.rest, so.long, so.room)
-
-      -- two minutes exchange their places
-      abbrev swapped : List ℕ
-      swapped = set (set new first (get_or new last 0)) last (get_or new first 0)
-
-      at_last : places_in swapped last ≡ places_in old first
-      at_last =
-          get_or-set_same (set new first _) last _ idle (rw (length-set new first (get_or new last 0)) last_in)
-          ∙ place_read new first first_in
-          ∙ so.kept first (omega arith) (λ _. below)
-
-      at_first : (first ≡ last → ⊥) → places_in swapped first ≡ places_in old last
-      at_first other =
-          get_or-set_other (set new first _) last first _ idle other
-          ∙ get_or-set_same new first _ idle first_in
-          ∙ place_read new last last_in
-          ∙ so.kept last (omega arith) (λ _. omega arith)
-
-      at_other : (t : ℕ) → (t ≡ last → ⊥) → (t ≡ first → ⊥) → places_in swapped t ≡ places_in new t
-      at_other t e q = get_or-set_other (set new first _) last t _ idle e ∙ get_or-set_other new first t _ idle q
-
-      pub turn_next : Turned h old swapped (first + 1) last
-      turn_next =
-          record {
-            room = so.room;
-            rest = omega (arith, so.rest);
-            long =
-                length-set (set new first (get_or new last 0)) last (get_or new first 0) ∙ length-set new first (get_or new last 0) ∙
-                so.long;
-            mirrored =
-                λ t in_day turned. same_cases t last
-                (λ e _. let z : h - suc t ≡ first = omega (arith, so.rest) in rw (z, e) at_last)
-                (λ e _. same_cases t first
-                (λ q _. let z : h - suc t ≡ last = omega (arith, so.rest) in rw (z, q) (at_first (λ x. e (q ∙ x))))
-                (λ q _. at_other t e q ∙ so.mirrored t in_day (λ l. omega (arith, turned (omega (arith, q)), e))));
-            kept =
-                λ t l within.
-                at_other t (λ e. absurd (omega (arith, within (omega (arith, so.rest))))) (λ q. absurd (omega arith))
-                ∙ so.kept t (omega arith) (λ in_day. omega (arith, within in_day));
-          }
-
-    pub turn_done : end ≤ first → new ≡ mirror_bytes h old ++ drop h old
-    turn_done over =
-        ext_get_or idle new (mirror_bytes h old ++ drop h old)
-        (so.long ∙ sym (length_front old (mirror_bytes h old) h (long ∙ sym (length-take-le h old so.room))))
-        (λ t _. le_or_lt h t (after t) (before t))
-      where
-        long : length (mirror_bytes h old) ≡ h
-        long = list_length h _
-
-        before : (t : ℕ) → t < h → places_in new t ≡ places_in (mirror_bytes h old ++ drop h old) t
-        before t l =
-            so.mirrored t l (λ a. omega arith)
-            ∙ sym (get_or-append (mirror_bytes h old) (drop h old) idle t (omega (arith, long)) ∙ mirror_at h old t l)
-
-        after : (t : ℕ) → h ≤ t → places_in new t ≡ places_in (mirror_bytes h old ++ drop h old) t
-        after t l =
-            let there : length (mirror_bytes h old) + (t - h) ≡ t = omega (arith, long) in
-            let back : h + (t - h) ≡ t = omega arith in
-            so.kept t (omega (arith, so.rest)) (λ b. absurd (omega arith))
-            ∙ sym
-            (ap (places_in (mirror_bytes h old ++ drop h old)) (sym there)
-            ∙ get_or-append-add (mirror_bytes h old) (drop h old) (t - h) idle
-            ∙ get_or-drop h old (t - h) idle
-            ∙ ap (places_in old) back)
+    same : (t : ℕ) → t < length (reverse (take h bytes)) → get_or (reverse (take h bytes)) t idle ≡ places_in (mirror_bytes h bytes) t
+    same t l =
+        let below : t < h = omega (arith, length-reverse (take h bytes), taken) in
+        let at : length (take h bytes) - 1 - t ≡ h - suc t = omega (arith, taken) in
+        get_or-reverse (take h bytes) t idle (omega (arith, taken))
+        ∙ ap (λ (i : ℕ). get_or (take h bytes) i idle) at
+        ∙ get_or-take h bytes (h - suc t) idle (omega arith)
+        ∙ sym (mirror_at h bytes t below)

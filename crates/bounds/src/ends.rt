@@ -21,12 +21,12 @@ fn end_by_kind(whole: bool, planned: bool, r: u16, d: u16, p: u16, closed: u32) 
     ensures { result ≡ cond whole (r + p) (cond planned closed d) }
 {
     if whole {
-        return r + p;
+        r + p
+    } else if planned {
+        closed as u16
+    } else {
+        d
     }
-    if !planned {
-        return d;
-    }
-    closed as u16
 }
 
 // The least end of entry k.
@@ -51,24 +51,14 @@ fn all_whole(count: usize, whole: [bool; ENTRIES]) -> bool
     requires { count ≤ most_entries }
     ensures { AllWhole count (marked whole) result }
 {
-    let mut i: usize = 0;
-    while i < count {
-        if !whole[i] {
-            return false;
-        }
-        i += 1;
-    }
-    true
+    whole[..count].iter().all(|w| *w)
 }
 
 // Whether there is a plan, if there is a pause entry: of whole ones the bounds do not ask.
 fn pauses_planned(whole: [bool; ENTRIES], windows: WindowSet) -> bool
     ensures { PausesPlanned (marked whole) (windows_in windows) result }
 {
-    if all_whole(places_held(windows.n), whole) {
-        return true;
-    }
-    is_accepted(unchecked_overload(windows))
+    all_whole(places_held(windows.n), whole) || is_accepted(unchecked_overload(windows))
 }
 
 // The least ends of pause entries in closed form, if there are any.
@@ -91,8 +81,7 @@ fn least_ends(whole: [bool; ENTRIES], windows: WindowSet, planned: bool) -> [u16
     let closed = pause_ends(whole, windows);
     let mut ends = zeros();
     let count = places_held(windows.n);
-    let mut i: usize = 0;
-    while i < count {
+    for i in 0..count {
         ends[i] = end_by_kind(
             whole[i],
             planned,
@@ -101,7 +90,6 @@ fn least_ends(whole: [bool; ENTRIES], windows: WindowSet, planned: bool) -> [u16
             windows.p[i],
             closed[i],
         );
-        i += 1;
     }
     ends
 }
@@ -116,10 +104,8 @@ fn greatest_starts(whole: [bool; ENTRIES], windows: WindowSet, planned: bool) ->
     let ends = least_ends(whole, mirrored(windows), planned);
     let mut starts = zeros();
     let count = places_held(windows.n);
-    let mut i: usize = 0;
-    while i < count {
+    for i in 0..count {
         starts[i] = h - ends[i];
-        i += 1;
     }
     starts
 }

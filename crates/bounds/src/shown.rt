@@ -33,15 +33,7 @@ fn mirror_plan(h: usize, plan: &mut [u8])
     requires { h ≤ length plan.old }
     ensures { plan.new ≡ mirror_bytes h plan.old ++ drop h plan.old }
 {
-    let mut first: usize = 0;
-    let mut end = h;
-    while first < end {
-        end -= 1;
-        let place = plan[first];
-        plan[first] = plan[end];
-        plan[end] = place;
-        first += 1;
-    }
+    plan[..h].reverse();
 }
 
 // Stores the plan of entry k that is shown, and answers its bound. The late plan is the mirror of the early one in the mirror.
@@ -54,7 +46,7 @@ fn store_shown(shown: Shown, windows: WindowSet, k: usize, whole: bool, plan: &m
         Shown::Early => store_early(windows, k, whole, plan),
         Shown::Late => {
             let end = store_early(mirrored(windows), k, whole, plan);
-            mirror_plan(windows.h as usize, plan);
+            mirror_plan(usize::from(windows.h), plan);
             windows.h - end
         }
     }
@@ -90,7 +82,7 @@ pub fn store_plan(
     if places_held(windows.n) <= k {
         return no_bound(Refusal::UnknownPlace(k));
     }
-    let h = windows.h as usize;
+    let h = usize::from(windows.h);
     if plan.len() < h {
         return no_bound(Refusal::PlanBufferShort(h));
     }

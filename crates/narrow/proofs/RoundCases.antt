@@ -48,12 +48,6 @@ pub jumps_least : (s : WindowSet) (k : ℕ) → Visitable s k → (f : Found) �
 jumps_least s k ready f finds =
     found_least (windows_in s) ready.formed k ready.place f (finds.law ready.formed ready.planned ready.place)
 
-pub moved_none : (x y : ℕ) → x ≡ y → 0 ≡ moved x y
-moved_none x y e = rw (eq-eqb x y e)
-
-pub moved_once : (x y : ℕ) → (x ≡ y → ⊥) → 1 ≡ moved x y
-moved_once x y e = rw (ne_eqb x y e)
-
 pub moved_one : (x y : ℕ) → moved x y ≤ 1
 moved_one x y = same_cases x y (λ e _. rw (eq-eqb x y e) (omega arith)) (λ e _. rw (ne_eqb x y e) (omega arith))
 

@@ -107,11 +107,6 @@ module _ (whole : ℕ → Bool) (s : WindowSet) (moves : ℕ) (ready : Countable
       })
 
   module _ (now : WindowsAnswer) (k : ℕ) (v : Visited whole (narrowed_by s moves) now k) where
-    pub visited_all : (windows_in s).n ≤ k → narrowed_of now ≡ round overload_of whole (narrowed_by s moves)
-    visited_all h =
-        let z : (windows_in s).n ≡ k = omega (arith, v.passed) in
-        rw v.accepted (sym (ap (λ (j : ℕ). visits overload_of whole j (narrowed_by s moves)) z ∙ v.so))
-
     module _ (h : k < (windows_in s).n) where
       cost : Costs whole (narrowed_by s moves) (narrowed_by now.windows now.moves)
       cost = visits_cost overload_of whole (narrowed_by s moves) ready.formed k (omega arith) _ v.so

@@ -15,10 +15,7 @@ use windows::unchecked_windows;
 fn entry_with(e: Entry, r: u16, d: u16) -> Entry
     ensures { result ≡ entry_with e r d }
 {
-    let mut next = e;
-    next.r = r;
-    next.d = d;
-    next
+    Entry { r, d, ..e }
 }
 
 // The list with these windows. Places from n on are blank.
@@ -28,15 +25,13 @@ fn list_with(list: DayList, windows: WindowSet) -> DayList
     let empty = list::empty_list();
     let mut entries = empty.entries;
     let count = places_held(list.n);
-    let mut i: usize = 0;
-    while i < count {
+    for i in 0..count {
         entries[i] = entry_with(list.entries[i], windows.r[i], windows.d[i]);
-        i += 1;
     }
     DayList {
         frame: list.frame,
         n: count as u8,
-        entries: entries,
+        entries,
     }
 }
 

@@ -22,7 +22,7 @@ use windows::{mirrored, room_fault, unchecked_overload};
 fn moved_from(before: u16, after: u16) -> u32
     ensures { result ≡ moved before after }
 {
-    if before == after { 0 } else { 1 }
+    u32::from(before != after)
 }
 
 // The answer where a search for entry k found no minute.
@@ -95,13 +95,8 @@ fn visit(whole: bool, windows: WindowSet, moves: u32, k: usize) -> WindowsAnswer
 fn would_move(whole: bool, r: u16, from: u16, p: u16, end: u32, late: u32) -> bool
     ensures { result ≡ would_move whole r from p end late }
 {
-    if !whole {
-        return false;
-    }
-    if end != r as u32 + p as u32 {
-        return true;
-    }
-    late != from as u32 + p as u32
+    let p = u32::from(p);
+    whole && (end != u32::from(r) + p || late != u32::from(from) + p)
 }
 
 // The first place that a visit would move, or n if there is none.
@@ -112,8 +107,7 @@ fn first_moved(whole: [bool; ENTRIES], windows: WindowSet) -> usize
     let mirror = mirrored(windows);
     let late = closed_ends(mirror);
     let count = places_held(windows.n);
-    let mut k: usize = 0;
-    while k < count {
+    for k in 0..count {
         if would_move(
             whole[k],
             windows.r[k],
@@ -124,9 +118,8 @@ fn first_moved(whole: [bool; ENTRIES], windows: WindowSet) -> usize
         ) {
             return k;
         }
-        k += 1;
     }
-    k
+    count
 }
 
 // One round: visits the entries from place 0 up. Those before the first that would move are passed over.
@@ -140,14 +133,12 @@ fn one_round(whole: [bool; ENTRIES], windows: WindowSet, moves: u32) -> WindowsA
         moves: moves,
     };
     let count = places_held(windows.n);
-    let mut k = first_moved(whole, windows);
-    while k < count {
+    for k in first_moved(whole, windows)..count {
         now = visit(whole[k], now.windows, now.moves, k);
         let verdict = now.verdict;
         let Verdict::Accepted = verdict else {
             return now;
         };
-        k += 1;
     }
     now
 }
@@ -159,12 +150,10 @@ fn unplanned_round(whole: [bool; ENTRIES], windows: WindowSet) -> WindowsAnswer
     ensures { narrowed_of result ≡ round overload_of (marked whole) (narrowed_by windows 0) }
 {
     let count = places_held(windows.n);
-    let mut k: usize = 0;
-    while k < count {
+    for k in 0..count {
         if whole[k] {
             return refused_at(windows, 0, k);
         }
-        k += 1;
     }
     WindowsAnswer {
         verdict: Verdict::Accepted,

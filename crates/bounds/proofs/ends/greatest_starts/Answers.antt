@@ -1,10 +1,8 @@
--- The loop's invariant is `Placed`, the measure what is left of the places.
+-- The loop's invariant is `Placed`.
 -- Assumes nothing.
 use mathlib.Core.Path.{refl, ◌∙◌}
-use Prim.Native.Nat.{◌<◌}
 use native.Mathlib.Omega.{arith}
 use Rattle.list.specs.DayLists.{marked}
-use Rattle.windows.specs.Windows.{windows_in}
 use Rattle.list.proofs.ByPlace.{placed_none, placed_next, placed_all}
 use Rattle.bounds.proofs.EndCases.{formed_in_mirror, planned_in_mirror, mirror_end_in_day}
 use Rattle.bounds.proofs.EndCases.{starts_by_mirror}
@@ -23,8 +21,7 @@ loop-i-init c = placed_none _ _ _ (omega (arith, c.places_held-count.ensures)) c
 
 pub overflow_sub-starts : goal.overflow_sub-starts
 overflow_sub-starts c =
-    let place : c.loop-i.i < (windows_in c.args.windows).n =
-    omega (arith, c.loop-i-test.true, c.places_held-count.ensures) in
+    let place = rw c.places_held-count.ensures at c.loop-i-test.true in
     mirror_end_in_day c.args.windows c.requires.formed c.mirrored.result c.mirrored.ensures (marked c.args.whole)
     c.least_ends-ends.result
     c.least_ends-ends.ensures _ place

@@ -1,4 +1,4 @@
--- The loop's invariant is `Placed`, the measure what is left of the places.
+-- The loop's invariant is `Placed`.
 -- Assumes nothing.
 use Prim.Native.Nat.{◌-◌}
 use lib.ListN.{get_or}
@@ -7,6 +7,3 @@ use Rattle.bounds.proofs.ends.greatest_starts.Given as goal
 
 abbrev pub invariant-loop-i : goal.invariant-loop-i
 invariant-loop-i l = Placed (λ j. l.h - get_or l.ends j 0) l.count l.starts l.i
-
-abbrev pub decreases-loop-i : goal.decreases-loop-i
-decreases-loop-i l = l.count - l.i

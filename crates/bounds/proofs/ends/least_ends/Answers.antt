@@ -1,8 +1,8 @@
--- The loop's invariant is `Placed`, the measure what is left of the places.
+-- The loop's invariant is `Placed`.
 -- Assumes nothing.
 use borrow.Author.Rules.{rules}
 use mathlib.Core.Path.{◌∙◌}
-use Prim.Native.Nat.{◌<◌, ◌≤◌}
+use Prim.Native.Nat.{◌<◌}
 use native.Mathlib.Omega.{arith}
 use Rattle.list.specs.DayLists.{marked}
 use Rattle.list.proofs.ByPlace.{placed_none, placed_next, placed_all}
@@ -17,26 +17,22 @@ pub end_by_kind-requires : goal.end_by_kind-requires
 end_by_kind-requires c =
     let windows = c.args.windows in
     let short : windows.h < 65536 = search rules in
-    let place : c.loop-i.i < (windows_in windows).n = omega (arith, c.loop-i-test.true, c.places_held-count.ensures) in
-    let at = place in
+    let place = rw c.places_held-count.ensures at c.loop-i-test.true in
     let whole = marked c.args.whole in record {
-      p_bound = omega (arith, c.requires.formed.room _ at, c.requires.formed.in_day _ at, short);
+      p_bound = omega (arith, c.requires.formed.room _ place, c.requires.formed.in_day _ place, short);
       closed_bound =
-          closed_small whole (windows_in windows) c.requires.formed _ at c.args.planned _ (c.requires.pauses_planned _ at)
-          (c.pause_ends-closed.ensures _ at)
+          closed_small whole (windows_in windows) c.requires.formed _ place c.args.planned _ (c.requires.pauses_planned _ place)
+          (c.pause_ends-closed.ensures _ place)
           (omega (arith, short));
     }
 
 pub loop-i-preserved : goal.loop-i-preserved
 loop-i-preserved c =
-    let place : c.loop-i.i < (windows_in c.args.windows).n = omega (arith, c.loop-i-test.true, c.places_held-count.ensures) in
-    let at = place in
-    placed_next _ _ _ _ _ c.loop-i.invariant at
+    let place = rw c.places_held-count.ensures at c.loop-i-test.true in
+    placed_next _ _ _ _ _ c.loop-i.invariant place
     (c.end_by_kind.ensures
-    ∙ end_least (marked c.args.whole) (windows_in c.args.windows) c.requires.formed c.loop-i.i at c.args.planned _
-    (c.requires.pauses_planned c.loop-i.i at) (c.pause_ends-closed.ensures c.loop-i.i at))
+    ∙ end_least (marked c.args.whole) (windows_in c.args.windows) c.requires.formed c.loop-i.i place c.args.planned _
+    (c.requires.pauses_planned c.loop-i.i place) (c.pause_ends-closed.ensures c.loop-i.i place))
 
 pub returns : goal.returns
-returns c =
-    let past : (windows_in c.args.windows).n ≤ c.loop-i.i = omega (arith, c.loop-i-test.false, c.places_held-count.ensures) in
-    placed_all _ _ _ _ c.loop-i.invariant past
+returns c = placed_all _ _ _ _ c.loop-i.invariant (rw c.places_held-count.ensures at c.loop-i-test.false)

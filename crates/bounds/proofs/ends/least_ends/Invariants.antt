@@ -1,6 +1,5 @@
--- The loop's invariant is `Placed`, the measure what is left of the places.
+-- The loop's invariant is `Placed`.
 -- Assumes nothing.
-use Prim.Native.Nat.{◌-◌}
 use Rattle.list.specs.DayLists.{marked}
 use Rattle.list.proofs.ByPlace.{Placed}
 use Rattle.windows.specs.Windows.{windows_in}
@@ -11,6 +10,3 @@ use Rattle.bounds.proofs.ends.least_ends.Given as goal
 abbrev pub invariant-loop-i : goal.invariant-loop-i
 invariant-loop-i l =
     Placed (least_end overload_of (marked l.whole) (windows_in l.windows)) (windows_in l.windows).n l.ends l.i
-
-abbrev pub decreases-loop-i : goal.decreases-loop-i
-decreases-loop-i l = l.count - l.i

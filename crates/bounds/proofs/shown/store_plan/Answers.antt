@@ -24,7 +24,7 @@ returns-then-plan-h c =
     let known : c.args.k < (windows_in c.args.windows).n = omega (arith, c.if-places_held-k.false, c.places_held.ensures) in
     no_buffer c.args.shown c.args.whole c.args.windows c.args.k c.args.plan.now c.room_fault-fault.result c.room_fault-fault.ensures
     c.in-Accepted.is
-    known c.if-plan-h.true _ c.no_bound-then-plan-h.ensures
+    known (rw c.from-h.ensures at c.if-plan-h.true) _ (rw c.from-h.ensures at c.no_bound-then-plan-h.ensures)
 
 pub store_shown-requires : goal.store_shown-requires
 store_shown-requires c =
@@ -32,11 +32,11 @@ store_shown-requires c =
     let formed = stored_formed c.args.shown c.args.whole c.args.windows c.args.k c.args.plan.now c.room_fault-fault.result
     c.room_fault-fault.ensures
     c.in-Accepted.is in
-    record { searchable = record { formed = formed; place = known }; h_in_bounds = omega (arith, c.if-plan-h.false) }
+    record { searchable = record { formed = formed; place = known }; h_in_bounds = omega (arith, c.if-plan-h.false, c.from-h.ensures) }
 
 pub returns : goal.returns
 returns c =
     let known : c.args.k < (windows_in c.args.windows).n = omega (arith, c.if-places_held-k.false, c.places_held.ensures) in
-    let room : c.args.windows.h ≤ length c.args.plan.now = omega (arith, c.if-plan-h.false) in
+    let room : c.args.windows.h ≤ length c.args.plan.now = omega (arith, c.if-plan-h.false, c.from-h.ensures) in
     plan_stored c.args.shown c.args.whole c.args.windows c.args.k c.args.plan.now c.room_fault-fault.result c.room_fault-fault.ensures
     c.in-Accepted.is (known) room _ _ c.store_shown.ensures

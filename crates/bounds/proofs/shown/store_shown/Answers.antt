@@ -27,4 +27,4 @@ pub returns-in-Late : goal.returns-in-Late
 returns-in-Late c =
     rw c.in-Late.is
     (stored_late c.requires.searchable.formed c.requires.searchable.place c.mirrored.ensures.windows c.store_early-end.ensures _
-    c.mirror_plan.ensures)
+    (rw c.from.ensures at c.mirror_plan.ensures))

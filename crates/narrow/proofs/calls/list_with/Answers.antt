@@ -1,4 +1,4 @@
--- The loop's invariant is `Filled`, the measure what is left of the places.
+-- The loop's invariant is `Filled`.
 -- Assumes nothing.
 use borrow.Author.Rules.{rules}
 use mathlib.Core.Path.{◌≡◌, ap}
@@ -20,9 +20,6 @@ loop-i-preserved c =
     let long : length c.args.list.entries ≡ 64 = search (rules, length_mapped) in
     filled_next c.args.list (windows_in c.args.windows) _ (long) c.loop-i.entries c.loop-i.i c.loop-i.invariant _ c.loop-i-test.true
     c.entry_with.ensures
-
-pub overflow_cast-result : goal.overflow_cast-result
-overflow_cast-result c = omega (arith, c.places_held-count.ensures)
 
 pub returns : goal.returns
 returns c =

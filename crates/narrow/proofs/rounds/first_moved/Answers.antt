@@ -1,15 +1,12 @@
--- The loop's invariant is that no place before k would move; the measure is what is left of the places.
+-- The loop's invariant is that no place before k would move.
 -- Assumes nothing.
+use mathlib.Core.Path.{◌≡◌, ◌∙◌}
 use Prim.Native.Nat.{◌<◌, ◌≤◌}
 use native.Mathlib.Omega.{arith}
-use Rattle.base.proofs.Searches.{passed_none}
 use Rattle.list.specs.DayLists.{marked}
 use Rattle.windows.specs.Windows.{windows_in}
 use Rattle.narrow.proofs.StayingPlaces.{move_found, move_passed, none_moved}
 use Rattle.narrow.proofs.rounds.first_moved.Goals as goal
-
-pub loop-k-init : goal.loop-k-init
-loop-k-init c = passed_none _ _
 
 pub returns-then-would_move : goal.returns-then-would_move
 returns-then-would_move c =
@@ -30,4 +27,6 @@ loop-k-preserved c =
 pub returns : goal.returns
 returns c =
     let past : (windows_in c.args.windows).n ≤ c.loop-k.k = omega (arith, c.loop-k-test.false, c.places_held-count.ensures) in
-    none_moved (marked c.args.whole) c.args.windows c.loop-k.k c.loop-k.invariant past
+    let at_end : c.places_held-count.result ≡ c.loop-k.k =
+    omega (arith, c.loop-k-test.false, c.places_held-count.ensures, c.loop-k.invariant.within) in
+    at_end ∙ none_moved (marked c.args.whole) c.args.windows c.loop-k.k c.loop-k.invariant past

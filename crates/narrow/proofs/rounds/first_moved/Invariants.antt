@@ -1,6 +1,5 @@
--- The loop's invariant is that no place before k would move; the measure is what is left of the places.
+-- The loop's invariant is that no place before k would move.
 -- Assumes nothing.
-use Prim.Native.Nat.{◌-◌}
 use Rattle.base.proofs.Searches.{Passed}
 use Rattle.list.specs.DayLists.{marked}
 use Rattle.windows.specs.Windows.{windows_in}
@@ -10,6 +9,3 @@ use Rattle.narrow.proofs.rounds.first_moved.Given as goal
 abbrev pub invariant-loop-k : goal.invariant-loop-k
 invariant-loop-k l =
     Passed (windows_in l.windows).n (moves_at (marked l.whole) (windows_in l.windows)) l.k
-
-abbrev pub decreases-loop-k : goal.decreases-loop-k
-decreases-loop-k l = l.count - l.k

@@ -1,10 +1,10 @@
--- The loop's invariant is `Visited`, the measure what is left of the places.
+-- The loop's invariant is `Visited`.
 -- Assumes nothing.
-use Prim.Native.Nat.{◌<◌, ◌≤◌}
+use Prim.Native.Nat.{◌<◌}
 use native.Mathlib.Omega.{arith}
 use Rattle.list.specs.DayLists.{marked}
 use Rattle.windows.specs.Windows.{windows_in}
-use Rattle.narrow.proofs.VisitCases.{visited_first, next_ready, next_few, visited_next, visited_stopped, visited_all}
+use Rattle.narrow.proofs.VisitCases.{visited_first, next_ready, next_few, visited_next, visited_stopped}
 use Rattle.narrow.proofs.rounds.one_round.Goals as goal
 
 pub loop-k-init : goal.loop-k-init
@@ -34,8 +34,3 @@ loop-k-preserved c =
     let place : c.loop-k.k < (windows_in c.args.windows).n = omega (arith, c.loop-k-test.true, c.places_held-count.ensures) in
     visited_next (marked c.args.whole) c.args.windows c.args.moves c.requires c.loop-k.now c.loop-k.k c.loop-k.invariant
     (place) c.visit-now.result c.visit-now.ensures c.in-Accepted.is
-
-pub returns : goal.returns
-returns c =
-    let past : (windows_in c.args.windows).n ≤ c.loop-k.k = omega (arith, c.loop-k-test.false, c.places_held-count.ensures) in
-    visited_all (marked c.args.whole) c.args.windows c.args.moves c.requires c.loop-k.now c.loop-k.k c.loop-k.invariant past
