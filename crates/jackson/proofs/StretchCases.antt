@@ -1,60 +1,15 @@
 -- Stretches in each case that the code meets.
 -- Assumes nothing.
 use mathlib.Core.Path.{◌≡◌, refl, sym, ap, ◌∙◌}
-use Prim.Native.Nat.{ℕ, ◌+◌, ◌-◌, ◌<◌, ◌≤◌, min}
-use native.Mathlib.Numerals.{add-one}
+use Prim.Native.Nat.{ℕ, ◌+◌, ◌-◌, ◌<◌, ◌≤◌}
 use native.Mathlib.Omega.{arith}
-use borrow.Author.Tests.{lt-ltb, le-ltb}
-use lib.ListN.{get_or}
 use Rattle.windows.specs.Windows.{windows_in}
-use Rattle.windows.specs.declared.types.WindowSet.{WindowSet}
 use Rattle.jackson.specs.Minutes.{state_in, chosen, later}
-use Rattle.jackson.specs.Stretches.{sooner, next_release, stretch_end, stretch_of, Stretches}
+use Rattle.jackson.specs.Stretches.{stretch_end, stretch_of, Stretches}
 use Rattle.jackson.specs.Internal.{after_minutes, IsAfterMinutes}
 use Rattle.jackson.specs.declared.types.Day.{Day}
 use Rattle.jackson.proofs.Schedules.{minute_on, minute_over}
-use Rattle.jackson.proofs.Stretches.{stretch_over, stretch_some, stretch_to, stretch_in_day, stretch_places, stretch_state}
-
--- the first of an r and an end
-module _ (t r end : ℕ) where
-  pub come_already : r ≤ t → end ≡ sooner t r end
-  come_already h = rw (le-ltb t r h) refl
-
-  pub comes_later : t < r → end ≤ r → end ≡ sooner t r end
-  comes_later g h = rw (lt-ltb t r g) (omega arith)
-
-  pub comes_sooner : t < r → r < end → r ≡ sooner t r end
-  comes_sooner g h = rw (lt-ltb t r g) (omega arith)
-
--- the first of i r's and an end
-pub record Released (r : ℕ → ℕ) (t end n first i : ℕ) : Type 0 where
-  pub held : n ≤ 64
-  pub passed : i ≤ n
-  pub is : first ≡ next_release i r t end
-
-module _ (r : ℕ → ℕ) (t end n : ℕ) where
-  pub release_start : n ≤ 64 → Released r t end n end 0
-  unfolding next_release
-  release_start h = record { held = h; passed = omega arith; is = refl }
-
-  module _ (first i : ℕ) (so : Released r t end n first i) where
-    pub release_next : (x : ℕ) → i < n → x ≡ sooner t (r i) first → Released r t end n x (i + 1)
-    unfolding next_release
-    release_next x h e = record { held = so.held; passed = omega (arith, h); is = rw add-one (e ∙ ap (sooner t (r i)) so.is) }
-
-    pub release_done : n ≤ i → first ≡ next_release n r t end
-    release_done h = let z : i ≡ n = omega (arith, so.passed) in rw (← z) so.is
-
--- the end of a stretch: n is how many places the arrays hold
-module _ (s : WindowSet) (n : ℕ) (holds : n ≡ min s.n 64) (t k x : ℕ) where
-  pub idle_end : n ≤ k → x ≡ next_release n (λ j. get_or s.r j 0) t s.h → x ≡ stretch_end (windows_in s) t k
-  unfolding stretch_end
-  idle_end h e = rw (← holds, le-ltb k n h) e
-
-  pub place_end : (y : ℕ) → k < n → y ≡ min (t + get_or s.p k 0) s.h → x ≡ next_release n (λ j. get_or s.r j 0) t y
-      → x ≡ stretch_end (windows_in s) t k
-  unfolding stretch_end
-  place_end y h f e = rw (← holds, lt-ltb k n h, ← f) e
+use Rattle.jackson.proofs.Stretches.{stretch_over, stretch_some, stretch_to, stretch_places, stretch_state}
 
 -- a stretch of a day past its end, and of one that goes on
 module _ (day : Day) where
@@ -72,9 +27,6 @@ module _ (day : Day) where
 
     pub end_later : day.t < x
     end_later = omega (arith, to, stretch_some (state_in day) (omega arith) on)
-
-    pub end_in_day : x ≤ day.windows.h
-    end_in_day = omega (arith, to, stretch_in_day (state_in day) (omega arith) on)
 
     pub stretches_on : (next : Day) → IsAfterMinutes day k (x - day.t) next
         → Stretches day (record { place = k; minutes = x - day.t; day = next })

@@ -1,14 +1,15 @@
 -- What private functions promise each other. No public promise cites these.
-use Rattle.std.specs.Prelude.{ℕ, zero, suc, ◌+◌, ◌-◌, ◌≤◌, ◌≡◌, cond, List, eqb, set}
+use Rattle.std.specs.Prelude.{ℕ, ◌+◌, ◌-◌, ◌≤◌, ◌≡◌, cond, eqb}
 use Rattle.base.specs.Counting.{better}
-use Rattle.windows.specs.Windows.{columns, with_left}
+use Rattle.windows.specs.Windows.{with_left, windows_in}
 use Rattle.windows.specs.Plans.{idle}
+use Rattle.windows.specs.declared.types.WindowSet.{WindowSet}
 use Rattle.jackson.specs.Minutes.{State, state_in, is_ready, comes_before, after}
 use Rattle.jackson.specs.declared.types.Day.{Day}
 
--- the state at minute t of n entries held in arrays, nobody having had the minute before
-abbrev pub state_at : ℕ → ℕ → List ℕ → List ℕ → List ℕ → State
-state_at n t r d left = record { windows = columns 0 n r d left; t = t; last = idle }
+-- the state at minute t of windows, nobody having had the minute before
+abbrev pub state_at : WindowSet → ℕ → State
+state_at windows t = record { windows = windows_in windows; t = t; last = idle }
 
 -- the better of place i and the best so far k, idle for none, in the search for the ready entry of earliest deadline
 abbrev pub better_ready : State → ℕ → ℕ → ℕ
@@ -32,8 +33,3 @@ pub record IsAfter (day : Day) (k : ℕ) (next : Day) : Type 0 where
 pub record Fillable (day : Day) (h bytes : ℕ) : Type 0 where
   pub room : h ≤ bytes
   pub rest : day.t + h ≡ day.windows.h
-
--- bytes in which x was stored m times from i on
-unfoldable pub stores : List ℕ → ℕ → ℕ → ℕ → List ℕ
-stores l i x zero = l
-stores l i x (suc m) = set (stores l i x m) (i + m) x

@@ -1,11 +1,11 @@
 // Starting a day and filling a plan buffer.
-ghost use Rattle.std.specs.Prelude.{◌≡◌, ◌++◌, ◌+◌, ◌≤◌, length, drop};
+ghost use Rattle.std.specs.Prelude.{◌≡◌, ◌++◌, length, drop};
 ghost use Rattle.base.specs.Counting.{list_of};
 ghost use Rattle.windows.specs.Windows.{windows_in};
 ghost use Rattle.windows.specs.Plans.{idle};
 ghost use Rattle.jackson.specs.Minutes.{state_in, place_at};
 ghost use Rattle.jackson.specs.Calls.{Starts, Fills, FillsWindows};
-ghost use Rattle.jackson.specs.Internal.{Fillable, stores};
+ghost use Rattle.jackson.specs.Internal.{Fillable};
 
 use crate::types::{Day, DayAnswer};
 use list::types::{DayList, Refusal, Verdict};
@@ -17,7 +17,7 @@ fn day_start(windows: WindowSet) -> Day
     ensures { result ≡ record { windows = windows; t = 0; last = idle } }
 {
     Day {
-        windows: windows,
+        windows,
         t: 0,
         last: 255,
     }
@@ -40,31 +40,19 @@ pub fn start_day(list: DayList) -> DayAnswer
     }
 }
 
-// Stores a place for so many minutes.
-fn store_stretch(place: u8, from: usize, minutes: usize, plan: &mut [u8])
-    requires { from + minutes ≤ length plan.old }
-    ensures { plan.new ≡ stores plan.old from place minutes }
-{
-    let mut i: usize = 0;
-    while i < minutes {
-        plan[from + i] = place;
-        i += 1;
-    }
-}
-
 // Stores the places of the h minutes that are left of the day, stretch by stretch.
 fn store_places(day: Day, h: usize, plan: &mut [u8])
     requires { Fillable day h (length plan.old) }
     ensures { plan.new ≡ list_of h (place_at (state_in day)) ++ drop h plan.old }
 {
     let mut today = day;
-    let mut i: usize = 0;
+    let mut i = 0;
     while i < h {
         let stretch = today.stretch();
-        let minutes = stretch.minutes as usize;
-        store_stretch(stretch.place, i, minutes, plan);
+        let end = i + usize::from(stretch.minutes);
+        plan[i..end].fill(stretch.place);
         today = stretch.day;
-        i += minutes;
+        i = end;
     }
 }
 

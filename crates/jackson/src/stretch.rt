@@ -1,64 +1,48 @@
 // Jackson's minutes by stretches, from one arrival or finish to the next.
-ghost use Rattle.std.specs.Prelude.{◌≡◌, ◌+◌, ◌<◌, ◌≤◌, min, get_or};
-ghost use Rattle.list.specs.DayLists.{most_entries};
+ghost use Rattle.std.specs.Prelude.{◌≡◌, ◌+◌, ◌<◌, ◌≤◌};
 ghost use Rattle.windows.specs.Windows.{windows_in};
-ghost use Rattle.jackson.specs.Stretches.{sooner, next_release, stretch_end, Stretches};
+ghost use Rattle.jackson.specs.Stretches.{sooner, next_release, finish, stretch_end, Stretches};
 
 use crate::minute::{advanced_by, choice};
 use crate::types::{Day, Stretch};
 use list::places_held;
-use list::types::ENTRIES;
 use windows::types::WindowSet;
 
 // The first of an r and an end; an r of at most t does not count.
 fn sooner_release(t: u16, r: u16, end: u16) -> u16
     ensures { result ≡ sooner t r end }
 {
-    if r <= t {
-        return end;
-    }
-    if end <= r {
-        return end;
-    }
-    r
+    if t < r { r.min(end) } else { end }
 }
 
 // The first of the r after t and an end.
-fn next_release(count: usize, t: u16, r: &[u16; ENTRIES], end: u16) -> u16
-    requires { count ≤ most_entries }
-    ensures { result ≡ next_release count (λ j. get_or r.now j 0) t end }
+fn next_release(windows: &WindowSet, t: u16, end: u16) -> u16
+    ensures { let w = windows_in windows.now in result ≡ next_release w.n w.r t end }
 {
     let mut first = end;
-    let mut i: usize = 0;
-    while i < count {
-        first = sooner_release(t, r[i], first);
-        i += 1;
+    for r in &windows.r[..places_held(windows.n)] {
+        first = sooner_release(t, *r, first);
     }
     first
 }
 
-// The first of t + left and the day's end.
-fn finish(h: u16, t: u16, left: u16) -> u16
-    requires { t < h }
-    ensures { result ≡ min (t + left) h }
+// The first of the finish of place k, if it has all minutes from t on, and the day's end.
+fn finish(windows: &WindowSet, t: u16, k: u8) -> u16
+    ensures { result ≡ finish (windows_in windows.now) t k }
 {
-    if left < h - t { t + left } else { h }
+    let place = usize::from(k);
+    if place < places_held(windows.n) {
+        t.saturating_add(windows.p[place]).min(windows.h)
+    } else {
+        windows.h
+    }
 }
 
 // The first of the next r after t, the finish of place k, and the day's end.
-fn stretch_end(windows: WindowSet, t: u16, k: u8) -> u16
-    requires { t < windows.h }
-    ensures { result ≡ stretch_end (windows_in windows) t k }
+fn stretch_end(windows: &WindowSet, t: u16, k: u8) -> u16
+    ensures { result ≡ stretch_end (windows_in windows.now) t k }
 {
-    let count = places_held(windows.n);
-    let h = windows.h;
-    let r = windows.r;
-    let left = windows.p;
-    let place = k as usize;
-    if count <= place {
-        return next_release(count, t, &r, h);
-    }
-    next_release(count, t, &r, finish(h, t, left[place]))
+    next_release(windows, t, finish(windows, t, k))
 }
 
 impl Day {
@@ -67,22 +51,19 @@ impl Day {
     pub fn stretch(self) -> Stretch
         ensures { Stretches self result }
     {
-        let t = self.t;
-        let windows = self.windows;
-        if windows.h <= t {
+        if self.windows.h <= self.t {
             return Stretch {
                 place: 255,
                 minutes: 0,
                 day: self,
             };
         }
-        let k = choice(windows, t, self.last);
-        let end = stretch_end(windows, t, k);
-        let minutes = end - t;
+        let place = choice(&self);
+        let minutes = stretch_end(&self.windows, self.t, place) - self.t;
         Stretch {
-            place: k,
-            minutes: minutes,
-            day: advanced_by(self, k, minutes),
+            place,
+            minutes,
+            day: advanced_by(self, place, minutes),
         }
     }
 }

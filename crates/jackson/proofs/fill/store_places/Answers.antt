@@ -3,21 +3,17 @@
 use borrow.Author.Rules.{rules}
 use mathlib.Core.Path.{refl}
 use native.Mathlib.Omega.{arith}
-use Rattle.jackson.proofs.FillCases.{store_start, store_next, store_done, store_long, turn_some, turn_fits}
+use Rattle.jackson.proofs.FillCases.{store_start, store_next, store_long, turn_some, turn_fits}
 use Rattle.jackson.proofs.fill.store_places.Goals as goal
 
 pub loop-i-init : goal.loop-i-init
 loop-i-init c = store_start _ _ _ _ c.requires refl
 
-pub store_stretch-requires : goal.store_stretch-requires
-store_stretch-requires c =
+pub slice_bounds-fill-end : goal.slice_bounds-fill-end
+slice_bounds-fill-end c =
     let fits = turn_fits _ _ _ _ _ _ c.loop-i.invariant c.loop-i-test.true _ c.stretch-stretch.ensures in
-    omega (arith, fits, c.loop-i.invariant.room, store_long _ _ _ _ _ _ c.loop-i.invariant)
-
-pub overflow_add-i : goal.overflow_add-i
-overflow_add-i c =
-    let fits = turn_fits _ _ _ _ _ _ c.loop-i.invariant c.loop-i-test.true _ c.stretch-stretch.ensures in
-    search (rules, fits)
+    let long = store_long _ _ _ _ _ _ c.loop-i.invariant in
+    search (rules, fits, long)
 
 pub loop-i-smaller : goal.loop-i-smaller
 loop-i-smaller c =
@@ -27,10 +23,5 @@ loop-i-smaller c =
 
 pub loop-i-preserved : goal.loop-i-preserved
 loop-i-preserved c =
-    store_next _ _ _ _ _ _ c.loop-i.invariant c.loop-i-test.true _ c.stretch-stretch.ensures _ c.store_stretch.ensures
-
-pub shape_of-plan : goal.shape_of-plan
-shape_of-plan c = store_long _ _ _ _ _ _ c.loop-i.invariant
-
-pub returns : goal.returns
-returns c = store_done _ _ _ _ _ _ c.loop-i.invariant c.loop-i-test.false
+    store_next _ _ _ _ _ _ c.loop-i.invariant c.loop-i-test.true _ c.stretch-stretch.ensures _ _ _ c.from.ensures (omega arith)
+    (c.fill.ensures.after (λ y e. e))

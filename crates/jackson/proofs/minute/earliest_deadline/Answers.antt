@@ -1,6 +1,5 @@
--- The scan finds the definition's place. The loop's invariant is the best so far, the measure what is left of the places.
+-- The scan finds the definition's place. The loop's invariant is the best so far.
 -- Assumes nothing.
-use borrow.Author.Rules.{rules}
 use native.Mathlib.Omega.{arith}
 use Rattle.windows.proofs.ScanCases.{search_start, search_next, search_done, search_found}
 use Rattle.jackson.specs.Internal.{state_at}
@@ -8,21 +7,16 @@ use Rattle.jackson.proofs.Choices.{comes_before_ranks}
 use Rattle.jackson.proofs.minute.earliest_deadline.Goals as goal
 
 pub loop-i-init : goal.loop-i-init
-loop-i-init c = search_start c.requires
+loop-i-init c = search_start (omega arith)
 
-pub better_ready-k-requires : goal.better_ready-k-requires
-better_ready-k-requires c =
-    let s = state_at c.args.count c.args.t c.args.r.now c.args.d.now c.args.left.now in record {
-      i_lt_most_entries = search rules;
-      k_lt_most_entries = λ h. omega (
-        arith,
-        c.loop-i.invariant.held,
-        search_found (comes_before_ranks s) (omega (arith, c.loop-i.invariant.held)) c.loop-i.invariant h,
-      );
-    }
+pub better_ready-k-requires-clause-k_lt_most_entries : goal.better_ready-k-requires-clause-k_lt_most_entries
+better_ready-k-requires-clause-k_lt_most_entries c =
+    λ h.
+    let s = state_at c.args.windows.now c.args.t in
+    omega (arith, search_found (comes_before_ranks s) (omega arith) c.loop-i.invariant h)
 
 pub loop-i-preserved : goal.loop-i-preserved
-loop-i-preserved c = search_next _ c.loop-i.invariant c.loop-i-test.true c.better_ready-k.ensures
+loop-i-preserved c = search_next _ c.loop-i.invariant (omega arith) c.better_ready-k.ensures
 
 pub returns : goal.returns
-returns c = search_done c.loop-i.invariant c.loop-i-test.false
+returns c = search_done c.loop-i.invariant (omega arith)

@@ -1,14 +1,15 @@
--- The loop finds the definition's next r. Its invariant is the first so far, the measure what is left of the places.
+-- The loop finds the definition's next r. Its invariant is the first so far.
 -- Assumes nothing.
-use Rattle.jackson.proofs.StretchCases.{release_start, release_next, release_done}
+use borrow.Author.Rules.{rules}
+use native.Mathlib.Omega.{arith}
+use Rattle.std.proofs.lemmas.Grind.{common_steps}
+use Rattle.jackson.specs.Stretches.{next_release}
 use Rattle.jackson.proofs.stretch.next_release.Goals as goal
 
-pub loop-i-init : goal.loop-i-init
-loop-i-init c = release_start _ _ _ _ c.requires
+pub loop-r-init : goal.loop-r-init
+unfolding next_release
+loop-r-init c = search rules
 
-pub loop-i-preserved : goal.loop-i-preserved
-loop-i-preserved c =
-    release_next _ _ _ _ _ _ c.loop-i.invariant _ c.loop-i-test.true c.sooner_release-first.ensures
-
-pub returns : goal.returns
-returns c = release_done _ _ _ _ _ _ c.loop-i.invariant c.loop-i-test.false
+pub loop-r-preserved : goal.loop-r-preserved
+unfolding next_release
+loop-r-preserved c = grind (arith, common_steps)

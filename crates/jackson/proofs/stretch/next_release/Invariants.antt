@@ -1,12 +1,9 @@
--- The loop finds the definition's next r. Its invariant is the first so far, the measure what is left of the places.
+-- The loop finds the definition's next r. Its invariant is the first so far.
 -- Assumes nothing.
-use Prim.Native.Nat.{ℕ, ◌-◌}
-use lib.ListN.{get_or}
-use Rattle.jackson.proofs.StretchCases.{Released}
+use mathlib.Core.Path.{◌≡◌}
+use Rattle.windows.specs.Windows.{windows_in}
+use Rattle.jackson.specs.Stretches.{next_release}
 use Rattle.jackson.proofs.stretch.next_release.Given as goal
 
-abbrev pub invariant-loop-i : goal.invariant-loop-i
-invariant-loop-i l = Released (λ (j : ℕ). get_or l.r j 0) l.t l.end l.count l.first l.i
-
-abbrev pub decreases-loop-i : goal.decreases-loop-i
-decreases-loop-i l = l.count - l.i
+abbrev pub invariant-loop-r : goal.invariant-loop-r
+invariant-loop-r l = l.first ≡ next_release l.r-index (windows_in l.windows).r l.t l.end
