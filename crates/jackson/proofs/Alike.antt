@@ -12,7 +12,7 @@ use Rattle.windows.specs.Windows.{Windows, windows_of, SameWindows}
 use Rattle.windows.specs.Intervals.{overload_of}
 use Rattle.windows.proofs.AlikeWindows.{alike_windows}
 use Rattle.jackson.specs.Minutes.{day_start, schedule}
-use Rattle.jackson.specs.Calls.{test_of, list_beside, buffer_row, fill_of, plan_after}
+use Rattle.jackson.specs.Calls.{test_of, buffer_row, fill_of, plan_after}
 
 -- Where the value check answers both alike, as it does if both pass (`both_pass`) or have the same opening minute and serials
 -- (`serials_checked`), the calls answer the same, and leave the same in a plan buffer.
@@ -37,16 +37,5 @@ module _ {a b : DayList} (s : SameWindows a b) (checked : check_of a ≡ check_o
       go (refused k) = refl
 
   -- and they start the same day
-  pub alike_started : day_start (windows_of (list_beside (check_of a) a)) ≡ day_start (windows_of (list_beside (check_of b) b))
-  alike_started = rw checked (ap day_start (go (check_of b)))
-    where
-      go : (o : Outcome (Unit {0})) → windows_of (list_beside o a) ≡ windows_of (list_beside o b)
-      go (answered t) = alike_windows s
-      go (refused k) = refl
-
-  pub alike_counted : (list_beside (check_of a) a).n ≡ (list_beside (check_of b) b).n
-  alike_counted = rw checked (go (check_of b))
-    where
-      go : (o : Outcome (Unit {0})) → (list_beside o a).n ≡ (list_beside o b).n
-      go (answered t) = s.n
-      go (refused k) = refl
+  pub alike_started : day_start (windows_of a) ≡ day_start (windows_of b)
+  alike_started = ap day_start (alike_windows s)

@@ -1,18 +1,16 @@
 -- What the public functions promise: the overload test, a day's minutes, starting a day, and filling a plan buffer.
-use Rattle.std.specs.Prelude.{ℕ, ◌<◌, ◌≤◌, ◌≡◌, List, [], ◌∷◌, ◌++◌, length, take, drop, ltb}
+use Rattle.std.specs.Prelude.{ℕ, ◌<◌, ◌≤◌, ◌≡◌, List, [], ◌∷◌, ◌++◌, length, take, drop, ltb, Result, Ok}
 use Rattle.base.specs.Outcomes.{Code, code, Outcome, answered, refused, Row, row, first_of, and_then}
-use Rattle.list.specs.Refusals.{verdict_of}
+use Rattle.list.specs.Refusals.{outcome_of}
 use Rattle.list.specs.Checks.{check_of, WellFormed}
-use Rattle.list.specs.DayLists.{empty_list}
 use Rattle.list.specs.declared.types.DayList.{DayList}
-use Rattle.list.specs.declared.types.Verdict.{Verdict}
+use Rattle.list.specs.declared.types.Refusal.{Refusal}
 use Rattle.windows.specs.Windows.{Windows, windows_of}
 use Rattle.windows.specs.Plans.{Plannable, places_in, PlanBytes}
 use Rattle.windows.specs.Intervals.{ShowsOverload, overload_of}
 use Rattle.jackson.specs.Minutes.{state_in, day_start, schedule, Takes, minute_of, FollowsJackson}
 use Rattle.jackson.specs.declared.types.Day.{Day}
 use Rattle.jackson.specs.declared.types.Minute.{Minute}
-use Rattle.jackson.specs.declared.types.DayAnswer.{DayAnswer}
 
 -- the value check, then row 9
 unfoldable pub test_of : DayList → Outcome (Unit {0})
@@ -30,9 +28,9 @@ pub record Decides (l : DayList) (o : Outcome (Unit {0})) : Type 0 where
   pub shown : (k : Code) → o ≡ refused k → k.number ≡ 9 → ShowsOverload (windows_of l) k
 
 -- what the overload test answers
-pub record Tests (l : DayList) (v : Verdict) : Type 0 where
-  pub outcome : verdict_of v ≡ test_of l
-  pub decides : Decides l (verdict_of v)
+pub record Tests (l : DayList) (v : Result (Unit {0}) Refusal) : Type 0 where
+  pub outcome : outcome_of v ≡ test_of l
+  pub decides : Decides l (outcome_of v)
 
 -- what a minute gives: the place chosen, which before the day's end is the one that the rule takes, together with the advanced day
 pub record Advances (day : Day) (m : Minute) : Type 0 where
@@ -41,16 +39,10 @@ pub record Advances (day : Day) (m : Minute) : Type 0 where
   pub next : state_in m.day ≡ (minute_of (state_in day)).next
   pub n : m.day.windows.n ≡ day.windows.n
 
--- the list whose day stands in an answer: the one given, or the empty one beside a refusal
-abbrev pub list_beside : Outcome (Unit {0}) → DayList → DayList
-list_beside (answered _) l = l
-list_beside (refused _) l = empty_list
-
--- what starting a day answers: the value check, and the day's first state
-pub record Starts (l : DayList) (a : DayAnswer) : Type 0 where
-  pub outcome : verdict_of a.verdict ≡ check_of l
-  pub beside : state_in a.day ≡ day_start (windows_of (list_beside (check_of l) l))
-  pub n : a.day.windows.n ≡ (list_beside (check_of l) l).n
+-- what starting a day answers: a refusal of the value check, or the day's first state
+pub record Starts (l : DayList) (a : Result Day Refusal) : Type 0 where
+  pub refuses : (k : Code) → check_of l ≡ refused k → outcome_of a ≡ refused k
+  pub starts : WellFormed l → (day : Day) × (a ≡ Ok day) × (state_in day ≡ day_start (windows_of l)) × (day.windows.n ≡ l.n)
 
 -- "plan buffer under H bytes": row 11, which carries H
 abbrev pub buffer_row : ℕ → ℕ → Row
@@ -72,18 +64,18 @@ plan_after (answered _) w old = schedule w ++ drop w.h old
 plan_after (refused _) w old = old
 
 -- what filling a plan buffer that held old answers, and what the buffer holds then
-pub record Fills (l : DayList) (old : List ℕ) (v : Verdict) (new : List ℕ) : Type 0 where
-  pub outcome : verdict_of v ≡ fill_of l (length old)
+pub record Fills (l : DayList) (old : List ℕ) (v : Result (Unit {0}) Refusal) (new : List ℕ) : Type 0 where
+  pub outcome : outcome_of v ≡ fill_of l (length old)
   pub buffer : new ≡ plan_after (fill_of l (length old)) (windows_of l) old
-  pub decides : Decides l (verdict_of v)
-  pub plan : verdict_of v ≡ answered tt → PlanBytes (windows_of l) (take l.frame.h new)
-  pub follows : verdict_of v ≡ answered tt → FollowsJackson (windows_of l) (places_in (take l.frame.h new))
+  pub decides : Decides l (outcome_of v)
+  pub plan : outcome_of v ≡ answered tt → PlanBytes (windows_of l) (take l.frame.h new)
+  pub follows : outcome_of v ≡ answered tt → FollowsJackson (windows_of l) (places_in (take l.frame.h new))
 
 -- row 11 alone, for windows that are not tested
 abbrev pub buffer_fault : ℕ → ℕ → Outcome (Unit {0})
 buffer_fault h room = first_of (buffer_row h room ∷ []) (answered tt)
 
 -- what filling a plan buffer that held old with the schedule of such windows answers, and what the buffer holds then
-pub record FillsWindows (w : Windows) (old : List ℕ) (v : Verdict) (new : List ℕ) : Type 0 where
-  pub outcome : verdict_of v ≡ buffer_fault w.h (length old)
+pub record FillsWindows (w : Windows) (old : List ℕ) (v : Result (Unit {0}) Refusal) (new : List ℕ) : Type 0 where
+  pub outcome : outcome_of v ≡ buffer_fault w.h (length old)
   pub buffer : new ≡ plan_after (buffer_fault w.h (length old)) w old

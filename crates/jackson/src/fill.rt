@@ -7,10 +7,10 @@ ghost use Rattle.jackson.specs.Minutes.{state_in, place_at};
 ghost use Rattle.jackson.specs.Calls.{Starts, Fills, FillsWindows};
 ghost use Rattle.jackson.specs.Internal.{Fillable};
 
-use crate::types::{Day, DayAnswer};
-use list::types::{DayList, Refusal, Verdict};
+use crate::types::Day;
+use list::types::{DayList, Refusal};
 use windows::types::WindowSet;
-use windows::{no_windows, unchecked_overload, unchecked_windows};
+use windows::{unchecked_overload, unchecked_windows};
 
 // A day's first state.
 fn day_start(windows: WindowSet) -> Day
@@ -24,20 +24,11 @@ fn day_start(windows: WindowSet) -> Day
 }
 
 // Starts the day of a list: the value check, then the day's first state.
-pub fn start_day(list: DayList) -> DayAnswer
+pub fn start_day(list: DayList) -> Result<Day, Refusal>
     ensures { Starts list result }
 {
-    let verdict = list::check(list);
-    let Verdict::Accepted = verdict else {
-        return DayAnswer {
-            verdict: verdict,
-            day: day_start(no_windows()),
-        };
-    };
-    DayAnswer {
-        verdict: verdict,
-        day: day_start(unchecked_windows(list)),
-    }
+    list::check(list)?;
+    Ok(day_start(unchecked_windows(list)))
 }
 
 // Stores the places of the h minutes that are left of the day, stretch by stretch.
@@ -57,35 +48,27 @@ fn store_places(day: Day, h: usize, plan: &mut [u8])
 }
 
 // Fills a plan buffer with Jackson's schedule of the windows as given: the value check, then rows 11 and 9.
-pub fn schedule(list: DayList, plan: &mut [u8]) -> Verdict
+pub fn schedule(list: DayList, plan: &mut [u8]) -> Result<(), Refusal>
     ensures { Fills list plan.old result plan.new }
 {
-    let started = start_day(list);
-    let verdict = started.verdict;
-    let Verdict::Accepted = verdict else {
-        return verdict;
-    };
-    let day = started.day;
+    let day = start_day(list)?;
     let h = list.frame.h as usize;
     if plan.len() < h {
-        return Verdict::Refused(Refusal::PlanBufferShort(h));
+        return Err(Refusal::PlanBufferShort(h));
     }
-    let test = unchecked_overload(day.windows);
-    let Verdict::Accepted = test else {
-        return test;
-    };
+    unchecked_overload(day.windows)?;
     store_places(day, h, plan);
-    Verdict::Accepted
+    Ok(())
 }
 
 // Fills a plan buffer with Jackson's schedule of windows, whatever they are: of the rows only 11 is tested.
-pub fn unchecked_schedule(windows: WindowSet, plan: &mut [u8]) -> Verdict
+pub fn unchecked_schedule(windows: WindowSet, plan: &mut [u8]) -> Result<(), Refusal>
     ensures { FillsWindows (windows_in windows) plan.old result plan.new }
 {
     let h = windows.h as usize;
     if plan.len() < h {
-        return Verdict::Refused(Refusal::PlanBufferShort(h));
+        return Err(Refusal::PlanBufferShort(h));
     }
     store_places(day_start(windows), h, plan);
-    Verdict::Accepted
+    Ok(())
 }

@@ -1,5 +1,4 @@
 // The values that a day is planned by.
-use list::types::Verdict;
 use windows::types::WindowSet;
 
 // A day in planning: its minute t, the entry that had the minute before, 255 for none, and the windows, where p is the minutes left.
@@ -22,12 +21,5 @@ pub struct Minute {
 pub struct Stretch {
     pub place: u8,
     pub minutes: u16,
-    pub day: Day,
-}
-
-// What starting a day answers: the day beside Accepted, and the empty list's day beside a refusal.
-#[derive(Clone, Copy)]
-pub struct DayAnswer {
-    pub verdict: Verdict,
     pub day: Day,
 }

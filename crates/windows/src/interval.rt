@@ -1,6 +1,6 @@
 // Overloaded intervals.
 ghost use Rattle.std.specs.Prelude.{◌≡◌, ◌&&◌, ◌+◌, ◌*◌, ◌-◌, ◌<◌, ◌≤◌, leb, ltb};
-ghost use Rattle.list.specs.Refusals.{verdict_of};
+ghost use Rattle.list.specs.Refusals.{outcome_of};
 ghost use Rattle.list.specs.DayLists.{most_entries};
 ghost use Rattle.windows.specs.Windows.{windows_in};
 ghost use Rattle.windows.specs.Intervals.{overload_of};
@@ -12,7 +12,7 @@ ghost use Rattle.windows.specs.Windows.{held_in};
 use crate::running_sum::{RunningSum, start_anew, walk_down};
 use crate::types::WindowSet;
 use list::places_held;
-use list::types::{ENTRIES, Refusal, Verdict};
+use list::types::{ENTRIES, Refusal};
 use order::largest_first;
 
 // Whether an overloaded interval is shown, and then its a, b and work; and the sum as the last walk left it.
@@ -152,8 +152,8 @@ fn right_end(
 }
 
 // Row 9 for windows, whatever they are: the overloaded interval with the smallest b, and with it the largest a, and its work.
-pub fn unchecked_overload(windows: WindowSet) -> Verdict
-    ensures { verdict_of result ≡ overload_of (windows_in windows) }
+pub fn unchecked_overload(windows: WindowSet) -> Result<(), Refusal>
+    ensures { outcome_of result ≡ overload_of (windows_in windows) }
 {
     let count = places_held(windows.n);
     let r = windows.r;
@@ -162,7 +162,7 @@ pub fn unchecked_overload(windows: WindowSet) -> Verdict
     let order = largest_first(windows.n, &r);
     let shown = right_end(count, &r, &d, &p, &order);
     if shown.overloaded {
-        return Verdict::Refused(Refusal::Overloaded(shown.a, shown.b, shown.work));
+        return Err(Refusal::Overloaded(shown.a, shown.b, shown.work));
     }
-    Verdict::Accepted
+    Ok(())
 }
