@@ -19,8 +19,7 @@ use Rattle.windows.proofs.ArrayCases.{set_put}
 use Rattle.windows.specs.RunningSums.{entered}
 use Rattle.windows.specs.Windows.{held_in}
 use Rattle.edges.specs.Starts.{jumped, raised, considers, passed, start_from}
-use Rattle.edges.specs.declared.types.Found.{Found}
-use Rattle.edges.specs.declared.types.Found.TheVariants.{Minute, NoMinute}
+use Rattle.std.specs.Prelude.{None, Option, Some}
 use Rattle.edges.specs.Starts.{others, start_by_jumps}
 use Rattle.edges.specs.Calls.{FindsStart}
 use Rattle.edges.specs.Internal.{ListsPlaces}
@@ -105,18 +104,18 @@ module _ (v : Windows) (o : ℕ → ℕ) (p : ℕ) (initial : Bool) (d s₀ : �
       let z : v.n - x ≡ v.n = omega (arith, end) in so.start_is ∙ ap (λ (y : ℕ). passed v o p initial d y s₀) z
 
 -- The search: from s on it finds what it finds from the first start on, and so many passes more may be made.
-pub record Searching (v : Windows) (o : ℕ → ℕ) (r d p : ℕ) (all : Found) (s : ℕ) : Type 0 where
+pub record Searching (v : Windows) (o : ℕ → ℕ) (r d p : ℕ) (all : Option ℕ) (s : ℕ) : Type 0 where
   pub fuel : ℕ
   pub enough : suc d - (s + p) < fuel
   pub same : start_from v o r d p fuel s ≡ all
 
-module _ (v : Windows) (o : ℕ → ℕ) (r d p : ℕ) (all : Found) (s : ℕ) (so : Searching v o r d p all s) where
+module _ (v : Windows) (o : ℕ → ℕ) (r d p : ℕ) (all : Option ℕ) (s : ℕ) (so : Searching v o r d p all s) where
   one_more : start_from v o r d p (suc (so.fuel - 1)) s ≡ all
   one_more = let z : so.fuel ≡ suc (so.fuel - 1) = omega (arith, so.enough) in rw z at so.same
 
   -- the window is used up, or not
   module _ (used : Bool) (test : used ≡ ltb d (s + p)) where
-    pub search_none : used ≡ true → NoMinute ≡ all
+    pub search_none : used ≡ true → None ≡ all
     unfolding start_from
     search_none e = rw (sym test ∙ e) at one_more
 
@@ -129,7 +128,7 @@ module _ (v : Windows) (o : ℕ → ℕ) (r d p : ℕ) (all : Found) (s : ℕ) (
         next_is : t ≡ passed v o p (eqb s r) d v.n s
         next_is = rw at at pass
 
-        pub search_found : t ≡ s → Minute s ≡ all
+        pub search_found : t ≡ s → Some s ≡ all
         unfolding start_from
         search_found e = rw (sym test ∙ left, eq-eqb _ s (sym next_is ∙ e)) at one_more
 
@@ -155,14 +154,14 @@ searching_first v o r d p s e = rw e (record { fuel = passes r d p; enough = ome
 
 -- The windows of the other entries, in arrays.
 module _ (t : WindowSet) (k count : ℕ) (held : count ≡ (windows_in t).n) where
-  abbrev found : List ℕ → Found
+  abbrev found : List ℕ → Option ℕ
   found xs =
       start_from (held_in count t.r t.d (set t.p k 0)) (value_at xs) (get_or t.r k 0) (get_or t.d k 0) (get_or t.p k 0)
       (passes (get_or t.r k 0) (get_or t.d k 0) (get_or t.p k 0))
       (get_or t.r k 0)
 
   -- a place that is n or more
-  pub none_found : count ≤ k → FindsStart (windows_in t) k NoMinute
+  pub none_found : count ≤ k → FindsStart (windows_in t) k None
   unfolding start_by_jumps
   none_found past =
       record {
@@ -188,7 +187,7 @@ module _ (t : WindowSet) (k count : ℕ) (held : count ≡ (windows_in t).n) whe
     unfolding start_by_jumps
     found_is = rw (others_held, lt-ltb k (windows_in t).n (omega (arith, place, held))) refl
 
-    pub start_found : (f : Found) → f ≡ found xs → FindsStart (windows_in t) k f
+    pub start_found : (f : Option ℕ) → f ≡ found xs → FindsStart (windows_in t) k f
     start_found f e =
         record {
           by_jumps =

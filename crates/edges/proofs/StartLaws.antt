@@ -18,7 +18,7 @@ use Rattle.jackson.proofs.Law.{plan_law}
 use Rattle.edges.specs.Starts.{others, considers, passed, start_from, start_by_jumps}
 use Rattle.windows.specs.FixedEntries.{IsLeastStart}
 use Rattle.edges.specs.Laws.{StartLaw}
-use Rattle.edges.specs.declared.types.Found.TheVariants.{Minute, NoMinute}
+use Rattle.std.specs.Prelude.{None, Some}
 use Rattle.edges.proofs.OtherWork.{others_fit, fit_with_own, plan_clears, clear_plan}
 use Rattle.edges.proofs.Jumps.{Barred, Quiet, Busy, passed_up, passed_barred, passed_quiet, quiet_clear, low_quiet}
 
@@ -98,11 +98,11 @@ module _ (w : Windows) (formed : Formed w) (k : ℕ) (place : k < w.n) where
       search_finds zero s from enough so = absurd (omega (arith, enough))
       search_finds (suc fuel) s from enough so =
           let rest = start_from (others w k) o (w.r k) (w.d k) (w.p k) fuel (next s) in
-          cond_cases (StartLaw w k) (ltb (w.d k) (s + w.p k)) NoMinute (cond (eqb (next s) s) (Minute s) rest)
+          cond_cases (StartLaw w k) (ltb (w.d k) (s + w.p k)) None (cond (eqb (next s) s) (Some s) rest)
           (λ used x l room. none_passed s so x l (omega (arith, room, ltb-true (w.d k) (s + w.p k) used)) room)
           (λ left.
           let room : s + w.p k ≤ w.d k = ltb-false (w.d k) (s + w.p k) left in
-          cond_cases (StartLaw w k) (eqb (next s) s) (Minute s) rest
+          cond_cases (StartLaw w k) (eqb (next s) s) (Some s) rest
           (λ e. found_least s from so room (eqb-true (next s) s e))
           (λ e.
           let up = passed_up (others w k) o (w.p k) (eqb s (w.r k)) (w.d k) w.n s in

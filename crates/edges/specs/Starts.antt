@@ -1,10 +1,8 @@
 -- The search for an entry's least start by edge-finding (source documents 002 and 004), over windows alone: it asks for no plan. That it
 -- finds the least start that has one is `StartLaw` of Laws.antt.
-use Rattle.std.specs.Prelude.{ℕ, zero, suc, ◌+◌, ◌-◌, min, Bool, true, cond, ◌&&◌, eqb, leb, ltb}
+use Rattle.std.specs.Prelude.{ℕ, zero, suc, ◌+◌, ◌-◌, min, Bool, true, cond, ◌&&◌, eqb, leb, ltb, None, Option, Some}
 use Rattle.windows.specs.Windows.{Windows, put}
 use Rattle.windows.specs.RunningSums.{entered}
-use Rattle.edges.specs.declared.types.Found.{Found}
-use Rattle.edges.specs.declared.types.Found.TheVariants.{Minute, NoMinute}
 
 -- the windows in which entry k needs no minutes: their work is that of the others. Work and intervals ask for no H.
 abbrev pub others : Windows → ℕ → Windows
@@ -40,15 +38,15 @@ passed v o p initial d (suc j) s =
 
 -- Passes from the start s on, until one changes nothing or the window [r, d) is used up. A pass that changes the start raises it by a
 -- minute at least, so one pass more than there are starts is enough.
-unfoldable pub start_from : Windows → (ℕ → ℕ) → ℕ → ℕ → ℕ → ℕ → ℕ → Found
-start_from v o r d p zero s = NoMinute
+unfoldable pub start_from : Windows → (ℕ → ℕ) → ℕ → ℕ → ℕ → ℕ → ℕ → Option ℕ
+start_from v o r d p zero s = None
 start_from v o r d p (suc fuel) s =
-    cond (ltb d (s + p)) NoMinute
+    cond (ltb d (s + p)) None
     (let t = passed v o p (eqb s r) d v.n s in
-    cond (eqb t s) (Minute s) (start_from v o r d p fuel t))
+    cond (eqb t s) (Some s) (start_from v o r d p fuel t))
 
 -- the search for entry k of the windows w, in this order of the places; a place that is n or more has no start
-unfoldable pub start_by_jumps : Windows → (ℕ → ℕ) → ℕ → Found
+unfoldable pub start_by_jumps : Windows → (ℕ → ℕ) → ℕ → Option ℕ
 start_by_jumps w o k =
     let fuel = suc (suc (w.d k) - (w.r k + w.p k)) in
-    cond (ltb k w.n) (start_from (others w k) o (w.r k) (w.d k) (w.p k) fuel (w.r k)) NoMinute
+    cond (ltb k w.n) (start_from (others w k) o (w.r k) (w.d k) (w.p k) fuel (w.r k)) None

@@ -8,7 +8,6 @@
 
 mod ends;
 mod starts;
-pub mod types;
 
 pub use ends::closed_ends;
 pub use starts::least_start;

@@ -150,12 +150,12 @@ fn is_used_up(d: u16, s: u32, p: u16) -> bool
 }
 
 // The least start of entry k, from its r up: "the search ends at the first start that has a plan". Starts that have none are jumped over.
-pub fn least_start(windows: WindowSet, k: usize) -> Found
+pub fn least_start(windows: WindowSet, k: usize) -> Option<u16>
     ensures { FindsStart (windows_in windows) k result }
 {
     let count = places_held(windows.n);
     if count <= k {
-        return Found::NoMinute;
+        return None;
     }
     let r = windows.r;
     let d = windows.d;
@@ -168,11 +168,11 @@ pub fn least_start(windows: WindowSet, k: usize) -> Found
     let mut s = wide(first);
     loop {
         if is_used_up(last, s, p) {
-            break Found::NoMinute;
+            break None;
         }
         let next = pass(count, &r, &d, &minutes, &order, p, is_at(s, first), last, s);
         if next == s {
-            break Found::Minute(s as u16);
+            break Some(s as u16);
         }
         s = next;
     }
