@@ -8,7 +8,6 @@ ghost use Rattle.edges.specs.Starts.{jumped, raised, considers, passed};
 ghost use Rattle.edges.specs.Calls.{FindsStart};
 ghost use Rattle.edges.specs.Internal.{ListsPlaces, Enters};
 
-use crate::types::Found;
 use list::places_held;
 use list::types::ENTRIES;
 use order::largest_first;

@@ -19,9 +19,12 @@ pub by_answer : {A : Type 0} {o : Outcome A} {v t : Result A Refusal} → outcom
 by_answer says e = sym says ∙ ap outcome_of e
 
 -- a `?` hands on the refusal that it met
+pub passed_on : {A : Type 0} (r : Result A Refusal) (x : Refusal) → IsErrAnd r (λ (y : Refusal). y ≡ x) → r ≡ Err x
+passed_on (Ok a) x p = absurd p
+passed_on (Err y) x p = ap Err p
+
 pub handed_on : {A : Type 0} (r : Result A Refusal) (x : Refusal) → IsErrAnd r (λ (y : Refusal). y ≡ x) → outcome_of r ≡ refused (code_of x)
-handed_on (Ok a) x p = absurd p
-handed_on (Err y) x p = ap (λ (z : Refusal). refused (code_of z)) p
+handed_on r x p = ap outcome_of (passed_on r x p)
 
 -- the refusal with these number and values
 abbrev refusal_of : Code → Refusal

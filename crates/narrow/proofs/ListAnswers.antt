@@ -3,21 +3,20 @@
 use mathlib.Core.Path.{◌≡◌, refl, sym, ap, ◌∙◌}
 use Prim.Native.Nat.{ℕ}
 use Rattle.base.specs.Outcomes.{Outcome, answered, refused, and_then}
-use Rattle.list.specs.Refusals.{code_of, verdict_of, outcome_of}
-use Rattle.list.specs.DayLists.{empty_list, whole_in}
+use Rattle.list.specs.DayLists.{whole_in}
 use Rattle.list.specs.Checks.{check_of, WellFormed}
 use Rattle.list.specs.declared.types.DayList.{DayList}
 use Rattle.list.specs.declared.types.Refusal.{Refusal}
-use Rattle.list.specs.declared.types.Verdict.{Verdict}
-use Rattle.list.specs.declared.types.Verdict.TheVariants.{Accepted, Refused}
-use Rattle.base.proofs.Inversion.{answered_refused, refused_same}
-use Rattle.windows.specs.Windows.{Windows, windows_of, Formed}
+use Rattle.std.specs.Prelude.{Err, Ok, Result}
+use Rattle.base.proofs.Inversion.{answered_same, answered_refused, refused_same}
+use Rattle.windows.specs.Windows.{windows_of, Formed}
 use Rattle.windows.specs.Intervals.{overload_of}
 use Rattle.windows.proofs.FormedLists.{list_formed}
 use Rattle.narrow.specs.Rounds.{Narrowed, unmoved, round, all_rounds, narrowing}
 use Rattle.narrow.specs.Laws.{RoundLaw, NarrowLaw}
-use Rattle.narrow.specs.Calls.{list_with, settle_of, round_of, listed, AnswersAs, HoldsAnswer, Settles, MakesRound}
-use Rattle.narrow.specs.declared.types.NarrowAnswer.{NarrowAnswer}
+use Rattle.narrow.specs.Calls.{list_with, settle_of, round_of, listed, narrow_answer_of, narrowed_in, AnswersAs, KeepsBoxes, HoldsAnswer}
+use Rattle.narrow.specs.Calls.{Settles, MakesRound}
+use Rattle.narrow.specs.declared.types.NarrowedList.{NarrowedList}
 use Rattle.narrow.proofs.StepsKeep.{Keeps}
 use Rattle.narrow.proofs.Costs.{round_cost, rounds_cost}
 use Rattle.narrow.proofs.NarrowLaws.{round_law, narrow_law}
@@ -29,47 +28,37 @@ settle_law : (l : DayList) → WellFormed l → NarrowLaw overload_of (whole_in 
 unfolding settle_of
 settle_law l formed = rw formed (narrow_law overload_planner (whole_in l) (windows_of l) (list_formed l formed))
 
--- Answers.
-module _ (l : DayList) (a : NarrowAnswer) where
-  -- a refusal
-  pub answers_refused : (o : Outcome Narrowed) (v : Verdict) (x : Refusal) → a ≡ record { verdict = v; list = empty_list; moves = 0 }
-      → v ≡ Refused x
-      → o ≡ refused (code_of x) → AnswersAs l o a
-  answers_refused o v x is e q = record { outcome = rw (is, q, e); beside = rw (is, q) }
+-- Windows that narrowing leaves are those of the list answered.
+module _ (l : DayList) (o : Outcome Narrowed) (keeps : (v : Narrowed) → o ≡ answered v → Keeps (windows_of l) v.windows × WellFormed l) where
+  list_is : (v : NarrowedList) (u : Narrowed) → narrow_answer_of (Ok v) ≡ listed l (answered u)
+      → (v.list ≡ list_with l u.windows) × (v.moves ≡ u.moves)
+  list_is v u e =
+      let z : ◌≡◌ {A = DayList × ℕ} (v.list, v.moves) (list_with l u.windows, u.moves) = answered_same refl e in
+      (ap (λ (x : DayList × ℕ). x.0) z, ap (λ (x : DayList × ℕ). x.1) z)
 
-  -- windows that narrowing leaves are those of the list answered
-  module _ (o : Outcome Narrowed) (keeps : (v : Narrowed) → o ≡ answered v → Keeps (windows_of l) v.windows × WellFormed l) where
-    -- the list answered, beside Accepted
-    list_is : (v : Narrowed) → o ≡ answered v → AnswersAs l o a → (a.list ≡ list_with l v.windows) × (a.moves ≡ v.moves)
-    list_is v e answers =
-        let z : ◌≡◌ {A = DayList × ℕ} (a.list, a.moves) (list_with l v.windows, v.moves) = rw e at answers.beside in
-        (ap (λ (x : DayList × ℕ). x.0) z, ap (λ (x : DayList × ℕ). x.1) z)
+  narrowed : (a : Result NarrowedList Refusal) (u : Outcome Narrowed) → narrow_answer_of a ≡ listed l u → o ≡ u → narrowed_in a ≡ u
+  narrowed (Ok v) (answered u) e q =
+      let z = list_is v u e in
+      λ i. answered (record { windows = (ap windows_of z.0 ∙ listed_windows l u.windows (keeps u q).0) i; moves = z.1 i })
+  narrowed (Ok v) (refused k) e q = absurd (answered_refused refl e)
+  narrowed (Err x) (answered u) e q = absurd (answered_refused refl (sym e))
+  narrowed (Err x) (refused k) e q = ap refused (refused_same refl e)
 
-    pub holds_answer : AnswersAs l o a → HoldsAnswer l o a
-    holds_answer answers =
-        record {
-          narrowed = narrowed a.verdict o answers.outcome refl;
-          frame = λ e. let z = some a.verdict o answers.outcome refl e in rw z.3 (listed_frame l z.0);
-          boxes = λ e. let z = some a.verdict o answers.outcome refl e in rw z.3 (listed_boxes l z.0 z.1);
-          kinds = λ e. let z = some a.verdict o answers.outcome refl e in rw z.3 (listed_whole l z.0 z.1);
-          formed = λ e. let z = some a.verdict o answers.outcome refl e in rw z.3 (listed_formed l z.0 z.1 z.2);
-        }
-      where
-        narrowed : (t : Verdict) (u : Outcome Narrowed) → outcome_of t (a.list, a.moves) ≡ listed l u → o ≡ u
-            → outcome_of t (record { windows = windows_of a.list; moves = a.moves }) ≡ u
-        narrowed Accepted (answered v) e q =
-            let z = list_is v q answers in
-            λ i. answered (record { windows = (ap windows_of z.0 ∙ listed_windows l v.windows (keeps v q).0) i; moves = z.1 i })
-        narrowed Accepted (refused k) e q = absurd (answered_refused (sym e) refl)
-        narrowed (Refused x) (answered v) e q = absurd (answered_refused e refl)
-        narrowed (Refused x) (refused k) e q = ap refused (refused_same refl e)
+  kept : (v : NarrowedList) (u : Outcome Narrowed) → narrow_answer_of (Ok v) ≡ listed l u → o ≡ u → KeepsBoxes l v.list
+  kept v (answered u) e q =
+      let z = keeps u q in
+      rw (list_is v u e).0
+      (record {
+        frame = listed_frame l u.windows;
+        boxes = listed_boxes l u.windows z.0;
+        kinds = listed_whole l u.windows z.0;
+        formed = listed_formed l u.windows z.0 z.1;
+      })
+  kept v (refused k) e q = absurd (answered_refused refl e)
 
-        -- beside Accepted stands the list with the windows of the outcome
-        some : (t : Verdict) (u : Outcome Narrowed) → outcome_of t (a.list, a.moves) ≡ listed l u → o ≡ u → t ≡ Accepted
-            → (v : Windows) × Keeps (windows_of l) v × WellFormed l × (a.list ≡ list_with l v)
-        some Accepted (answered v) e q _ = (v.windows, (keeps v q).0, (keeps v q).1, (list_is v q answers).0)
-        some Accepted (refused k) e q _ = absurd (answered_refused (sym e) refl)
-        some (Refused x) u e q f = absurd (answered_refused (ap verdict_of f) refl)
+  pub holds_answer : (a : Result NarrowedList Refusal) → AnswersAs l o a → HoldsAnswer l o a
+  holds_answer a answers =
+      record { narrowed = narrowed a o answers refl; keeps = λ v e. kept v o (ap narrow_answer_of (sym e) ∙ answers) refl }
 
 -- the outcome of a call whose value check was passed, and not
 module _ (l : DayList) (f : Outcome Narrowed) where
@@ -94,9 +83,9 @@ module _ (l : DayList) where
       go (answered t) formed q = (rounds_cost overload_of (whole_in l) (unmoved (windows_of l)) formed _ v q).keeps
       go (refused k) formed q = absurd (answered_refused q refl)
 
-  pub settles : (a : NarrowAnswer) → AnswersAs l (settle_of l) a → Settles l a
+  pub settles : (a : Result NarrowedList Refusal) → AnswersAs l (settle_of l) a → Settles l a
   settles a answers =
-      let holds = holds_answer l a (settle_of l) settle_keeps answers in
+      let holds = holds_answer l (settle_of l) settle_keeps a answers in
       record { answers = answers; holds = holds; law = λ formed. rw holds.narrowed (settle_law l formed) }
 
   -- What `make_round` answers.
@@ -110,7 +99,7 @@ module _ (l : DayList) where
   unfolding round_of
   list_round_law formed = rw formed (round_law overload_planner (whole_in l) (windows_of l) (list_formed l formed))
 
-  pub makes_round : (a : NarrowAnswer) → AnswersAs l (round_of l) a → MakesRound l a
+  pub makes_round : (a : Result NarrowedList Refusal) → AnswersAs l (round_of l) a → MakesRound l a
   makes_round a answers =
-      let holds = holds_answer l a (round_of l) round_keeps answers in
+      let holds = holds_answer l (round_of l) round_keeps a answers in
       record { answers = answers; holds = holds; law = λ formed. rw holds.narrowed (list_round_law formed) }

@@ -8,9 +8,6 @@ use native.Mathlib.Omega.{arith}
 use borrow.Author.Tests.{eq-eqb, ne_eqb}
 use lib.Dec.{eqb}
 use Rattle.base.specs.Outcomes.{Code, Outcome, answered, refused, and_then}
-use Rattle.list.specs.Refusals.{code_of}
-use Rattle.list.specs.declared.types.Refusal.{Refusal}
-use Rattle.list.specs.declared.types.Verdict.TheVariants.{Accepted, Refused}
 use Rattle.base.proofs.Inversion.{Says}
 use Rattle.windows.specs.Windows.{Windows, windows_in}
 use Rattle.windows.specs.Intervals.{overload_of}
@@ -19,10 +16,10 @@ use Rattle.base.proofs.Sums.{le_or_lt}
 use Rattle.narrow.specs.Searching.{Test}
 use Rattle.narrow.specs.Rounds.{Side, earliest, latest, Narrowed, step, counted, narrow_side, visit, visits, round, rounds, all_rounds}
 use Rattle.narrow.specs.Rounds.{slack}
-use Rattle.narrow.specs.Internal.{narrowed_by, Visitable, Countable}
+use Rattle.narrow.specs.Internal.{Visitable, Countable}
 use Rattle.narrow.specs.FastRounds.{first_moved}
-use Rattle.narrow.specs.Calls.{narrowed_of}
-use Rattle.narrow.specs.declared.types.WindowsAnswer.{WindowsAnswer}
+use Rattle.narrow.specs.Calls.{narrowed_by}
+use Rattle.narrow.specs.declared.types.NarrowedWindows.{NarrowedWindows}
 use Rattle.narrow.proofs.StepsKeep.{keeps_n}
 use Rattle.narrow.proofs.Costs.{Costs, side_cost, visits_cost, round_cost}
 use Rattle.narrow.proofs.OverloadPlanner.{overload_planner}
@@ -47,36 +44,31 @@ unfolding visit
 visit_passed s k whole pause = rw pause
 
 -- a whole one, after its first search
-module _ (s : WindowSet) (moves k : ℕ) (ready : Visitable s k) (whole : Bool) (is_whole : whole ≡ true) (a : WindowsAnswer)
-    (is : narrowed_of a ≡ narrow_side overload_of earliest k (narrowed_by s moves)) where
-  started : a.verdict ≡ Accepted → narrow_side overload_of earliest k (narrowed_by s moves) ≡ answered (narrowed_by a.windows a.moves)
-  started e = rw e at (sym is)
-
-  pub visit_stopped : (x : Refusal) → a.verdict ≡ Refused x → narrowed_of a ≡ visit overload_of (λ _. whole) k (narrowed_by s moves)
+module _ (s : NarrowedWindows) (k : ℕ) (ready : Visitable s.windows k) (whole : Bool) (is_whole : whole ≡ true) where
+  pub visit_stopped : {x : Code} → refused x ≡ narrow_side overload_of earliest k (narrowed_by s)
+      → refused x ≡ visit overload_of (λ _. whole) k (narrowed_by s)
   unfolding visit
-  visit_stopped x e =
-      let z : narrow_side overload_of earliest k (narrowed_by s moves) ≡ refused (code_of x) = rw e at (sym is) in
-      rw (is_whole, z, e)
+  visit_stopped e = rw (is_whole, ← e) refl
 
-  module _ (e : a.verdict ≡ Accepted) where
+  module _ (a : NarrowedWindows) (e : answered (narrowed_by a) ≡ narrow_side overload_of earliest k (narrowed_by s)) where
     pub visit_on : Visitable a.windows k
     visit_on =
-        let cost = side_cost overload_of (λ _. true) (narrowed_by s moves) ready.formed earliest k ready.place refl _ (started e) in
+        let cost = side_cost overload_of (λ _. true) (narrowed_by s) ready.formed earliest k ready.place refl _ (sym e) in
         record {
           formed = cost.keeps.formed;
           place = omega (arith, keeps_n cost.keeps, ready.place);
           planned =
-              side_planned overload_planner (λ _. true) earliest (narrowed_by s moves) ready.formed k ready.place refl
-              ready.planned _ (started e);
+              side_planned overload_planner (λ _. true) earliest (narrowed_by s) ready.formed k ready.place refl
+              ready.planned _ (sym e);
         }
 
-    pub visit_moves : a.moves ≤ moves + 2
-    visit_moves = rw (started e) at (side_moves overload_of earliest k (narrowed_by s moves))
+    pub visit_moves : a.moves ≤ s.moves + 2
+    visit_moves = rw (sym e) at (side_moves overload_of earliest k (narrowed_by s))
 
-    pub visit_ends : (b : WindowsAnswer) → narrowed_of b ≡ narrow_side overload_of latest k (narrowed_by a.windows a.moves)
-        → narrowed_of b ≡ visit overload_of (λ _. whole) k (narrowed_by s moves)
+    pub visit_ends : (o : Outcome Narrowed) → o ≡ narrow_side overload_of latest k (narrowed_by a)
+        → o ≡ visit overload_of (λ _. whole) k (narrowed_by s)
     unfolding visit
-    visit_ends b last = rw (is_whole, started e) last
+    visit_ends o last = rw (is_whole, ← e) last
 
 -- a refusal of earlier visits stays
 pub visits_stay : (test : Test) (whole : ℕ → Bool) (s : Narrowed) (x : Code) (k n : ℕ) → k ≤ n → visits test whole k s ≡ refused x
@@ -89,27 +81,29 @@ visits_stay test whole s x k (suc n) h e =
     (λ l. let z : k ≡ suc n = omega arith in rw z at e)
 
 -- the places below k were visited, with this result
-pub record Visited (whole : ℕ → Bool) (s : Narrowed) (now : WindowsAnswer) (k : ℕ) : Type 0 where
+pub record Visited (whole : ℕ → Bool) (s : Narrowed) (now : NarrowedWindows) (k : ℕ) : Type 0 where
   pub passed : k ≤ s.windows.n
-  pub accepted : now.verdict ≡ Accepted
-  pub so : visits overload_of whole k s ≡ answered (narrowed_by now.windows now.moves)
+  pub so : visits overload_of whole k s ≡ answered (narrowed_by now)
 
-module _ (whole : ℕ → Bool) (s : WindowSet) (moves : ℕ) (ready : Countable whole s moves) where
+module _ (whole : ℕ → Bool) (s : NarrowedWindows) (ready : Countable whole s) where
   -- the places before the first that would move are passed over
-  pub visited_first : (k : ℕ) → k ≡ first_moved whole (windows_in s)
-      → Visited whole (narrowed_by s moves) (record { verdict = Accepted; windows = s; moves = moves }) k
+  pub visited_first : (k : ℕ) → k ≡ first_moved whole (windows_in s.windows) → Visited whole (narrowed_by s) s k
   visited_first k is =
       rw is
       (record {
-        passed = moved_within whole (narrowed_by s moves) ready.formed ready.planned;
-        accepted = refl;
-        so = unmoved_visits whole (narrowed_by s moves) ready.formed ready.planned;
+        passed = moved_within whole (narrowed_by s) ready.formed ready.planned;
+        so = unmoved_visits whole (narrowed_by s) ready.formed ready.planned;
       })
 
-  module _ (now : WindowsAnswer) (k : ℕ) (v : Visited whole (narrowed_by s moves) now k) where
-    module _ (h : k < (windows_in s).n) where
-      cost : Costs whole (narrowed_by s moves) (narrowed_by now.windows now.moves)
-      cost = visits_cost overload_of whole (narrowed_by s moves) ready.formed k (omega arith) _ v.so
+  module _ (now : NarrowedWindows) (k : ℕ) (v : Visited whole (narrowed_by s) now k) where
+    pub visited_all : (windows_in s.windows).n ≤ k → answered (narrowed_by now) ≡ round overload_of whole (narrowed_by s)
+    visited_all h =
+        let z : (windows_in s.windows).n ≡ k = omega (arith, h, v.passed) in
+        sym (ap (λ (j : ℕ). visits overload_of whole j (narrowed_by s)) z ∙ v.so)
+
+    module _ (h : k < (windows_in s.windows).n) where
+      cost : Costs whole (narrowed_by s) (narrowed_by now)
+      cost = visits_cost overload_of whole (narrowed_by s) ready.formed k (omega arith) _ v.so
 
       -- the next place can be visited, and its moves be counted
       pub next_ready : Visitable now.windows k
@@ -117,67 +111,68 @@ module _ (whole : ℕ → Bool) (s : WindowSet) (moves : ℕ) (ready : Countable
           record {
             formed = cost.keeps.formed;
             place = omega (arith, keeps_n cost.keeps, h);
-            planned =
-                visits_planned overload_planner whole k (narrowed_by s moves) ready.formed (omega arith) ready.planned _ v.so;
+            planned = visits_planned overload_planner whole k (narrowed_by s) ready.formed (omega arith) ready.planned _ v.so;
           }
 
       pub next_few : now.moves < 4294967290
       next_few = omega (arith, cost.bounded, ready.few)
 
-      module _ (a : WindowsAnswer) (is : narrowed_of a ≡ visit overload_of (λ _. whole k) k (narrowed_by now.windows now.moves)) where
-        after : visits overload_of whole (k + 1) (narrowed_by s moves) ≡ narrowed_of a
-        unfolding visits visit
-        after = rw (add-one, v.so) (sym is)
+      after : (o : Outcome Narrowed) → o ≡ visit overload_of (λ _. whole k) k (narrowed_by now)
+          → visits overload_of whole (k + 1) (narrowed_by s) ≡ o
+      unfolding visits visit
+      after o is = rw (add-one, v.so) (sym is)
 
-        pub visited_next : a.verdict ≡ Accepted → Visited whole (narrowed_by s moves) a (k + 1)
-        visited_next e = record { passed = omega (arith, h); accepted = e; so = after ∙ rw e }
+      pub visited_next : (a : NarrowedWindows) → answered (narrowed_by a) ≡ visit overload_of (λ _. whole k) k (narrowed_by now)
+          → Visited whole (narrowed_by s) a (k + 1)
+      visited_next a is = record { passed = omega (arith, h); so = after _ is }
 
-        pub visited_stopped : (x : Refusal) → a.verdict ≡ Refused x → narrowed_of a ≡ round overload_of whole (narrowed_by s moves)
-        visited_stopped x e =
-            let z : visits overload_of whole (k + 1) (narrowed_by s moves) ≡ refused (code_of x) = after ∙ rw e in
-            rw e (sym (visits_stay overload_of whole (narrowed_by s moves) (code_of x) (k + 1) _ (omega (arith, h)) z))
+      pub visited_stopped : {x : Code} → refused x ≡ visit overload_of (λ _. whole k) k (narrowed_by now)
+          → refused x ≡ round overload_of whole (narrowed_by s)
+      visited_stopped {x} is =
+          sym (visits_stay overload_of whole (narrowed_by s) x (k + 1) _ (omega (arith, h)) (after _ is))
 
 -- the rounds from now on give what all rounds give; so many more may be made
-pub record Rounded (whole : ℕ → Bool) (given now : WindowSet) (moves : ℕ) : Type 0 where
-  pub ready : Countable whole now moves
+pub record Rounded (whole : ℕ → Bool) (given : WindowSet) (now : NarrowedWindows) : Type 0 where
+  pub ready : Countable whole now
   pub fuel : ℕ
-  pub enough : slack whole (windows_in now) < fuel
-  pub same : all_rounds overload_of whole (windows_in given) ≡ rounds overload_of whole fuel (narrowed_by now moves)
+  pub enough : slack whole (windows_in now.windows) < fuel
+  pub same : all_rounds overload_of whole (windows_in given) ≡ rounds overload_of whole fuel (narrowed_by now)
 
 -- what follows a round, when there were so many moves before it
 goes_on : (ℕ → Bool) → ℕ → ℕ → Narrowed → Outcome Narrowed
 goes_on whole moves fuel v = cond (eqb v.moves moves) (answered v) (rounds overload_of whole fuel v)
 
 module _ (whole : ℕ → Bool) (given : WindowSet) where
-  pub rounded_none : Countable whole given 0 → Rounded whole given given 0
+  pub rounded_none : Countable whole (record { windows = given; moves = 0 }) → Rounded whole given (record { windows = given; moves = 0 })
   rounded_none ready = record { ready = ready; fuel = suc (slack whole (windows_in given)); enough = omega arith; same = refl }
 
-  module _ (now : WindowSet) (moves : ℕ) (so : Rounded whole given now moves) (a : WindowsAnswer)
-      (is : narrowed_of a ≡ round overload_of whole (narrowed_by now moves)) where
-    one_more : all_rounds overload_of whole (windows_in given) ≡ and_then (narrowed_of a) (goes_on whole moves (so.fuel - 1))
+  module _ (now : NarrowedWindows) (so : Rounded whole given now) where
+    one_more : (o : Outcome Narrowed) → o ≡ round overload_of whole (narrowed_by now)
+        → all_rounds overload_of whole (windows_in given) ≡ and_then o (goes_on whole now.moves (so.fuel - 1))
     unfolding rounds goes_on
-    one_more =
+    one_more o is =
         let z : so.fuel ≡ suc (so.fuel - 1) = omega (arith, so.enough) in
         so.same
-        ∙ ap (λ (f : ℕ). rounds overload_of whole f (narrowed_by now moves)) z
-        ∙ ap (λ (o : Outcome Narrowed). and_then o (goes_on whole moves (so.fuel - 1))) (sym is)
+        ∙ ap (λ (f : ℕ). rounds overload_of whole f (narrowed_by now)) z
+        ∙ ap (λ (u : Outcome Narrowed). and_then u (goes_on whole now.moves (so.fuel - 1))) (sym is)
 
-    pub rounded_stopped : (x : Refusal) → a.verdict ≡ Refused x → narrowed_of a ≡ all_rounds overload_of whole (windows_in given)
-    rounded_stopped x e = rw e (sym (one_more ∙ rw e))
+    pub rounded_stopped : {x : Code} → refused x ≡ round overload_of whole (narrowed_by now)
+        → refused x ≡ all_rounds overload_of whole (windows_in given)
+    rounded_stopped is = sym (one_more _ is)
 
-    module _ (e : a.verdict ≡ Accepted) where
-      pub rounded_last : a.moves ≡ moves → narrowed_of a ≡ all_rounds overload_of whole (windows_in given)
+    module _ (a : NarrowedWindows) (is : answered (narrowed_by a) ≡ round overload_of whole (narrowed_by now)) where
+      pub rounded_last : a.moves ≡ now.moves → answered (narrowed_by a) ≡ all_rounds overload_of whole (windows_in given)
       unfolding goes_on
-      rounded_last q = rw e (sym (one_more ∙ rw (e, eq-eqb _ _ q)))
+      rounded_last q = sym (one_more _ is ∙ rw (eq-eqb _ _ q))
 
-      cost_of : Costs whole (narrowed_by now moves) (narrowed_by a.windows a.moves)
-      cost_of = round_cost overload_of whole (narrowed_by now moves) so.ready.formed _ (rw e at (sym is))
+      cost_of : Costs whole (narrowed_by now) (narrowed_by a)
+      cost_of = round_cost overload_of whole (narrowed_by now) so.ready.formed _ (sym is)
 
-      module _ (moved : a.moves ≡ moves → ⊥) where
-        pub rounded_less : slack whole (windows_in a.windows) < slack whole (windows_in now)
+      module _ (moved : a.moves ≡ now.moves → ⊥) where
+        pub rounded_less : slack whole (windows_in a.windows) < slack whole (windows_in now.windows)
         rounded_less = omega (arith, cost_of.bounded, cost_of.more, moved)
 
-        pub rounded_next : Rounded whole given a.windows a.moves
+        pub rounded_next : Rounded whole given a
         unfolding goes_on
         rounded_next =
             record {
@@ -185,11 +180,11 @@ module _ (whole : ℕ → Bool) (given : WindowSet) where
                   record {
                     formed = cost_of.keeps.formed;
                     planned =
-                        visits_planned overload_planner whole _ (narrowed_by now moves) so.ready.formed (omega arith)
-                        so.ready.planned _ (rw e at (sym is));
+                        visits_planned overload_planner whole _ (narrowed_by now) so.ready.formed (omega arith)
+                        so.ready.planned _ (sym is);
                     few = omega (arith, cost_of.bounded, so.ready.few);
                   };
               fuel = so.fuel - 1;
               enough = omega (arith, rounded_less, so.enough);
-              same = one_more ∙ rw (e, ne_eqb _ _ moved);
+              same = one_more _ is ∙ rw (ne_eqb _ _ moved);
             }

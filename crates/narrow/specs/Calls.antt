@@ -1,25 +1,23 @@
 -- Narrowing a list: what the calls answer.
-use Rattle.std.specs.Prelude.{ℕ, ◌+◌, ◌≡◌, Bool, List, [], ◌∷◌, map, get_or}
+use Rattle.std.specs.Prelude.{ℕ, ◌+◌, ◌≡◌, Bool, List, [], ◌∷◌, map, get_or, None, Result, Ok, Err}
 use Rattle.base.specs.Outcomes.{Code, Outcome, answered, refused, and_then}
-use Rattle.list.specs.Refusals.{outcome_of}
-use Rattle.list.specs.DayLists.{entries_of, blank, day_list, empty_list, whole_in, SameBox}
+use Rattle.list.specs.Refusals.{code_of}
+use Rattle.list.specs.DayLists.{entries_of, blank, day_list, whole_in, SameBox}
 use Rattle.list.specs.Checks.{check_of, WellFormed}
-use Rattle.list.specs.declared.types.Seal.TheVariants.{Missing}
 use Rattle.list.specs.declared.types.Entry.{Entry}
 use Rattle.list.specs.declared.types.DayList.{DayList}
 use Rattle.list.specs.declared.types.Refusal.{Refusal}
-use Rattle.list.specs.declared.types.Verdict.TheVariants.{Accepted, Refused}
 use Rattle.windows.specs.Windows.{Windows, windows_of, windows_in, room_fault, Formed}
 use Rattle.windows.specs.declared.types.WindowSet.{WindowSet}
 use Rattle.windows.specs.Intervals.{overload_of}
 use Rattle.narrow.specs.Rounds.{Narrowed, unmoved, round, narrowing}
 use Rattle.narrow.specs.Laws.{RoundLaw, NarrowLaw}
-use Rattle.narrow.specs.declared.types.WindowsAnswer.{WindowsAnswer}
-use Rattle.narrow.specs.declared.types.NarrowAnswer.{NarrowAnswer}
+use Rattle.narrow.specs.declared.types.NarrowedWindows.{NarrowedWindows}
+use Rattle.narrow.specs.declared.types.NarrowedList.{NarrowedList}
 
 -- an entry without its serial and seal
 abbrev pub bare : Entry → Entry
-bare e = record { serial = 0; seal = Missing; r = e.r; d = e.d; p = e.p; kind = e.kind }
+bare e = record { serial = 0; seal = None; r = e.r; d = e.d; p = e.p; kind = e.kind }
 
 -- two lists with the same H and n, and of each entry the same r, d, p and kind: opening minutes, serials and seals are not compared
 pub record SameTimes (a b : DayList) : Type 0 where
@@ -44,15 +42,18 @@ list_with l w = day_list l.frame (entries_with w 0 (entries_of l))
 unfoldable pub narrow_windows : (ℕ → Bool) → Windows → Outcome Narrowed
 narrow_windows whole w = and_then (room_fault w) (λ _. narrowing overload_of whole w)
 
--- an answer with windows
-abbrev pub narrowed_of : WindowsAnswer → Outcome Narrowed
-narrowed_of a = outcome_of a.verdict (record { windows = windows_in a.windows; moves = a.moves })
+-- windows and moves, as the rules have them, and an answer with them
+abbrev pub narrowed_by : NarrowedWindows → Narrowed
+narrowed_by v = record { windows = windows_in v.windows; moves = v.moves }
+
+abbrev pub narrowed_of : Result NarrowedWindows Refusal → Outcome Narrowed
+narrowed_of (Ok v) = answered (narrowed_by v)
+narrowed_of (Err x) = refused (code_of x)
 
 -- what `narrow_windows` answers of the windows s
-pub record NarrowsWindows (whole : ℕ → Bool) (s : WindowSet) (a : WindowsAnswer) : Type 0 where
+pub record NarrowsWindows (whole : ℕ → Bool) (s : WindowSet) (a : Result NarrowedWindows Refusal) : Type 0 where
   pub outcome : narrowed_of a ≡ narrow_windows whole (windows_in s)
-  pub n : a.windows.n ≡ s.n
-  pub beside : (x : Refusal) → a.verdict ≡ Refused x → a ≡ record { verdict = Refused x; windows = s; moves = 0 }
+  pub n : (v : NarrowedWindows) → a ≡ Ok v → v.windows.n ≡ s.n
   -- the law, for windows with room, of the windows and moves answered
   pub law : Formed (windows_in s) → NarrowLaw overload_of whole (windows_in s) (narrowed_of a)
 
@@ -76,41 +77,40 @@ abbrev pub listed : DayList → Outcome Narrowed → Outcome (DayList × ℕ)
 listed l o = and_then o (λ v. answered (list_with l v.windows, v.moves))
 
 -- an answer with a list
-abbrev pub narrow_answer_of : NarrowAnswer → Outcome (DayList × ℕ)
-narrow_answer_of a = outcome_of a.verdict (a.list, a.moves)
+abbrev pub narrow_answer_of : Result NarrowedList Refusal → Outcome (DayList × ℕ)
+narrow_answer_of (Ok v) = answered (v.list, v.moves)
+narrow_answer_of (Err x) = refused (code_of x)
 
 -- the same with the windows of the list answered
-abbrev pub narrowed_in : NarrowAnswer → Outcome Narrowed
-narrowed_in a = outcome_of a.verdict (record { windows = windows_of a.list; moves = a.moves })
-
--- what stands beside the verdict: the list and the moves, or the empty list and 0 beside a refusal
-abbrev pub standing : Outcome (DayList × ℕ) → DayList × ℕ
-standing (answered a) = a
-standing (refused k) = (empty_list, 0)
+abbrev pub narrowed_in : Result NarrowedList Refusal → Outcome Narrowed
+narrowed_in (Ok v) = answered (record { windows = windows_of v.list; moves = v.moves })
+narrowed_in (Err x) = refused (code_of x)
 
 -- an answer with this outcome of the list l
-pub record AnswersAs (l : DayList) (o : Outcome Narrowed) (a : NarrowAnswer) : Type 0 where
-  pub outcome : narrow_answer_of a ≡ listed l o
-  pub beside : (a.list, a.moves) ≡ standing (listed l o)
+abbrev pub AnswersAs : DayList → Outcome Narrowed → Result NarrowedList Refusal → Type 0
+AnswersAs l o a = narrow_answer_of a ≡ listed l o
 
--- beside that: the list answered has the windows of the outcome, and H, the opening minute and the boxes of l: "it travels inside its
--- entry"; it passes the value check itself
-pub record HoldsAnswer (l : DayList) (o : Outcome Narrowed) (a : NarrowAnswer) : Type 0 where
+-- a list b with H, the opening minute and the boxes of l: "it travels inside its entry"; b passes the value check itself
+pub record KeepsBoxes (l b : DayList) : Type 0 where
+  pub frame : b.frame ≡ l.frame
+  pub boxes : (i : ℕ) → SameBox (get_or (entries_of b) i blank) (get_or (entries_of l) i blank)
+  pub kinds : whole_in b ≡ whole_in l
+  pub formed : WellFormed b
+
+-- beside that: the list answered has the windows of the outcome, and the boxes of l
+pub record HoldsAnswer (l : DayList) (o : Outcome Narrowed) (a : Result NarrowedList Refusal) : Type 0 where
   pub narrowed : narrowed_in a ≡ o
-  pub frame : a.verdict ≡ Accepted → a.list.frame ≡ l.frame
-  pub boxes : a.verdict ≡ Accepted → (i : ℕ) → SameBox (get_or (entries_of a.list) i blank) (get_or (entries_of l) i blank)
-  pub kinds : a.verdict ≡ Accepted → whole_in a.list ≡ whole_in l
-  pub formed : a.verdict ≡ Accepted → WellFormed a.list
+  pub keeps : (v : NarrowedList) → a ≡ Ok v → KeepsBoxes l v.list
 
 -- what `settle` answers of the list l
-pub record Settles (l : DayList) (a : NarrowAnswer) : Type 0 where
+pub record Settles (l : DayList) (a : Result NarrowedList Refusal) : Type 0 where
   pub answers : AnswersAs l (settle_of l) a
   pub holds : HoldsAnswer l (settle_of l) a
   -- the law, for a list that passes the value check, of the windows and moves answered
   pub law : WellFormed l → NarrowLaw overload_of (whole_in l) (windows_of l) (narrowed_in a)
 
 -- what `make_round` answers of the list l
-pub record MakesRound (l : DayList) (a : NarrowAnswer) : Type 0 where
+pub record MakesRound (l : DayList) (a : Result NarrowedList Refusal) : Type 0 where
   pub answers : AnswersAs l (round_of l) a
   pub holds : HoldsAnswer l (round_of l) a
   pub law : WellFormed l → RoundLaw (whole_in l) (windows_of l) (narrowed_in a)

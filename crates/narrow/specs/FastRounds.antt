@@ -1,7 +1,7 @@
 -- Narrowing the fast way (request 7): each start by jumps, each end by jumps in the mirror, and rounds that begin with the first place that
 -- a visit would move. `order` gives windows their places with the largest r first. That this answers what `narrowing` of Rounds.antt does,
 -- where each search tries every start, is `FastLaw`.
-use Rattle.std.specs.Prelude.{ℕ, zero, suc, ◌+◌, ◌<◌, ◌≡◌, ◌↔◌, Bool, false, cond, not, ◌&&◌, [], ◌∷◌, eqb, ltb}
+use Rattle.std.specs.Prelude.{ℕ, zero, suc, ◌+◌, ◌<◌, ◌≡◌, ◌↔◌, Bool, false, cond, not, ◌&&◌, [], ◌∷◌, eqb, ltb, None, Option, Some}
 use Rattle.base.specs.Outcomes.{code, Outcome, answered, refused, and_then, accepts}
 use Rattle.base.specs.Counting.{first_below}
 use Rattle.windows.specs.Windows.{Windows, with_r}
@@ -11,14 +11,12 @@ use Rattle.windows.specs.Intervals.{overload_of}
 use Rattle.windows.specs.RunningSums.{LatestReleaseFirst}
 use Rattle.edges.specs.Starts.{start_by_jumps}
 use Rattle.edges.specs.Ends.{closed_end}
-use Rattle.edges.specs.declared.types.Found.{Found}
-use Rattle.edges.specs.declared.types.Found.TheVariants.{Minute, NoMinute}
 use Rattle.narrow.specs.Rounds.{Side, earliest, latest, Narrowed, counted, unmoved, visit, round, slack, narrowing}
 
 -- the outcome of a search for entry k
-abbrev pub found_of : ℕ → Found → Outcome ℕ
-found_of k (Minute t) = answered t
-found_of k NoMinute = refused (code 10 (k ∷ []))
+abbrev pub found_of : ℕ → Option ℕ → Outcome ℕ
+found_of k (Some t) = answered t
+found_of k None = refused (code 10 (k ∷ []))
 
 -- whether a visit would move an entry: it is whole, and its least end in closed form is not r + p, or in the mirror, where its r is `from`
 -- and its least end `late`, not from + p

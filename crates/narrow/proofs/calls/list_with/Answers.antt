@@ -13,7 +13,7 @@ use Rattle.narrow.proofs.calls.list_with.Goals as goal
 pub loop-i-init : goal.loop-i-init
 loop-i-init c =
     filled_none c.args.list (windows_in c.args.windows) _ _ (omega (arith, c.places_held-count.ensures))
-    (ap (λ (l : DayList). l.entries) c.empty_list-empty.ensures)
+    (ap (λ (l : DayList). l.entries) c.empty_list.ensures)
 
 pub loop-i-preserved : goal.loop-i-preserved
 loop-i-preserved c =

@@ -6,18 +6,13 @@ use Rattle.list.specs.DayLists.{marked}
 use Rattle.narrow.proofs.CallCases.{test_countable, test_unplanned}
 use Rattle.narrow.proofs.rounds.single_round.Goals as goal
 
-pub unplanned_round-requires : goal.unplanned_round-requires
-unplanned_round-requires c =
-    record {
-      formed =
-          c.requires;
-      fact = test_unplanned c.args.windows c.requires c.unchecked_overload-test.result c.unchecked_overload-test.ensures _
-          c.in_default.is;
-    }
-
 pub one_round-requires : goal.one_round-requires
 one_round-requires c =
     let short : c.args.windows.h < 65536 = search rules in
-    test_countable c.args.windows c.requires c.unchecked_overload-test.result c.unchecked_overload-test.ensures (marked c.args.whole)
-    c.in-Accepted.is
-    short
+    rw c.unmoved.ensures (test_countable c.args.windows c.requires (marked c.args.whole) c.in-Ok.ensures short)
+
+pub returns-in-Ok : goal.returns-in-Ok
+returns-in-Ok c = rw c.unmoved.ensures at c.one_round.ensures
+
+pub unplanned_round-requires : goal.unplanned_round-requires
+unplanned_round-requires c = record { formed = c.requires; fact = test_unplanned c.args.windows c.requires c.in-Err.ensures }
