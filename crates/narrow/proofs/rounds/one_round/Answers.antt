@@ -1,9 +1,6 @@
 -- The loop's invariant is `Visited`.
 -- Assumes nothing.
-use Prim.Native.Nat.{◌<◌}
-use native.Mathlib.Omega.{arith}
 use Rattle.list.specs.DayLists.{marked}
-use Rattle.windows.specs.Windows.{windows_in}
 use Rattle.narrow.proofs.VisitCases.{visited_first, next_ready, next_few, visited_next, visited_stopped}
 use Rattle.narrow.proofs.rounds.one_round.Goals as goal
 
@@ -15,7 +12,7 @@ pub visit-now-requires : goal.visit-now-requires
 visit-now-requires c =
     let holds = c.loop-k.invariant in
     let windows = c.args.windows in
-    let place : c.loop-k.k < (windows_in windows).n = omega (arith, c.loop-k-test.true, c.places_held-count.ensures) in
+    let place = rw c.places_held-count.ensures at c.loop-k-test.true in
     record {
       visitable =
           next_ready (marked c.args.whole) windows c.args.moves c.requires c.loop-k.now c.loop-k.k holds place;
@@ -25,12 +22,12 @@ visit-now-requires c =
 
 pub returns-in_default : goal.returns-in_default
 returns-in_default c =
-    let place : c.loop-k.k < (windows_in c.args.windows).n = omega (arith, c.loop-k-test.true, c.places_held-count.ensures) in
+    let place = rw c.places_held-count.ensures at c.loop-k-test.true in
     visited_stopped (marked c.args.whole) c.args.windows c.args.moves c.requires c.loop-k.now c.loop-k.k c.loop-k.invariant
-    (place) c.visit-now.result c.visit-now.ensures _ c.in_default.is
+    place c.visit-now.result c.visit-now.ensures _ c.in_default.is
 
 pub loop-k-preserved : goal.loop-k-preserved
 loop-k-preserved c =
-    let place : c.loop-k.k < (windows_in c.args.windows).n = omega (arith, c.loop-k-test.true, c.places_held-count.ensures) in
+    let place = rw c.places_held-count.ensures at c.loop-k-test.true in
     visited_next (marked c.args.whole) c.args.windows c.args.moves c.requires c.loop-k.now c.loop-k.k c.loop-k.invariant
-    (place) c.visit-now.result c.visit-now.ensures c.in-Accepted.is
+    place c.visit-now.result c.visit-now.ensures c.in-Accepted.is
