@@ -2,10 +2,12 @@
 -- Assumes nothing.
 use mathlib.Core.Path.{◌≡◌, refl, sym, ap, ◌∙◌}
 use mathlib.Core.Bool.{Bool, true, false, true≢false}
-use Prim.Native.Nat.{ℕ, suc, ◌+◌, ◌-◌, ◌<◌, ◌≤◌}
+use Prim.Native.Nat.{ℕ, suc, ◌+◌, ◌<◌, ◌≤◌}
 use native.Mathlib.Omega.{arith}
 use borrow.Author.Tests.{lt-ltb, le-ltb, leb-true, leb-false}
 use lib.Dec.{leb}
+use Rattle.std.proofs.Common.{Option, None, Some}
+use Rattle.std.specs.Option.{MatchOption, unwrap_or}
 use Rattle.base.specs.Outcomes.{accepts}
 use Rattle.windows.specs.Windows.{Windows, windows_in, with_windows, with_window, fixed_at, put}
 use Rattle.windows.specs.Intervals.{overload_of}
@@ -21,61 +23,14 @@ use Rattle.backtracking.specs.declared.types.Ending.TheVariants.{DayFound, NoneE
 use Rattle.backtracking.proofs.Remainders.{from_first, from_last, from_next, from_whole, back_none, back_whole}
 use Rattle.backtracking.proofs.Remainders.{start_none, start_spent, start_fails, start_holds}
 
--- A walk over the places from k on: those before j are pause entries.
-pub record PausesTo (whole : ℕ → Bool) (n k j : ℕ) : Type 0 where
-  pub from : k ≤ j
-  pub within : j ≤ n
-  pub pauses : (i : ℕ) → k ≤ i → i < j → whole i ≡ false
-
-module _ (whole : ℕ → Bool) (n k : ℕ) where
-  pub pauses_none : k ≤ n → PausesTo whole n k k
-  pauses_none h = record { from = omega arith; within = h; pauses = λ i a b. absurd (omega arith) }
-
-  module _ (j : ℕ) (so : PausesTo whole n k j) where
-    pub pauses_next : j < n → whole j ≡ false → PausesTo whole n k (j + 1)
-    pauses_next h e =
-        record {
-          from = omega (arith, so.from);
-          within = omega arith;
-          pauses = λ i a b. le_or_lt j i (λ l. let z : i ≡ j = omega arith in rw z e) (λ l. so.pauses i a l);
-        }
-
-    next_is : (j < n → whole j ≡ true) → NextWhole whole n k j
-    next_is e = record { from = so.from; within = so.within; pauses = so.pauses; is_whole = e }
-
-    pub pauses_whole : whole j ≡ true → NextWhole whole n k j
-    pauses_whole e = next_is (λ _. e)
-
-    pub pauses_all : n ≤ j → NextWhole whole n k j
-    pauses_all h = next_is (λ l. absurd (omega arith))
-
--- A walk downward: those from j on and below k are pause entries.
-pub record PausesFrom (whole : ℕ → Bool) (k j : ℕ) : Type 0 where
-  pub within : j ≤ k
-  pub pauses : (i : ℕ) → j ≤ i → i < k → whole i ≡ false
-
-module _ (whole : ℕ → Bool) (k : ℕ) where
-  pub back_begins : PausesFrom whole k k
-  back_begins = record { within = omega arith; pauses = λ i a b. absurd (omega arith) }
-
-  module _ (j : ℕ) (so : PausesFrom whole k j) where
-    pub back_next : 0 < j → whole (j - 1) ≡ false → PausesFrom whole k (j - 1)
-    back_next h e =
-        record {
-          within = omega (arith, so.within);
-          pauses = λ i a b. le_or_lt j i (λ l. so.pauses i l b) (λ l. let z : i ≡ j - 1 = omega arith in rw z e);
-        }
-
-    pub back_found : 0 < j → whole (j - 1) ≡ true → LastWhole whole k j
-    back_found h e =
-        record {
-          within = so.within;
-          pauses = so.pauses;
-          is_whole = λ i q. let z : i ≡ j - 1 = omega (arith, q) in rw z e;
-        }
-
-    pub back_all : j ≤ 0 → LastWhole whole k j
-    back_all h = record { within = so.within; pauses = so.pauses; is_whole = λ i q. absurd (omega (arith, q)) }
+-- The first whole place that a search of those from k on and below n finds, or n.
+pub next_found : (whole : ℕ → Bool) (n k : ℕ) → k ≤ n → (r : Option ℕ)
+    → MatchOption r ((i : ℕ) → k ≤ i → i < n → whole i ≡ false)
+    (λ j. (k ≤ j) × (j < n) × (whole j ≡ true) × ((i : ℕ) → k ≤ i → i < j → whole i ≡ false))
+    → NextWhole whole n k (unwrap_or r n)
+next_found whole n k h None pauses = record { from = h; within = omega arith; pauses = pauses; is_whole = λ l. absurd (omega arith) }
+next_found whole n k h (Some j) (from, below, is, pauses) =
+    record { from = from; within = omega arith; pauses = pauses; is_whole = λ _. is }
 
 -- Which starts are fixed.
 module _ (whole : ℕ → Bool) (w : Windows) where

@@ -27,12 +27,7 @@ pub struct Position {
 pub fn is_found(ending: Ending) -> bool
     ensures { result ≡ is_found ending }
 {
-    match ending {
-        Ending::Unsearched => false,
-        Ending::DayFound => true,
-        Ending::NoneExists => false,
-        Ending::TrialsSpent => false,
-    }
+    matches!(ending, Ending::DayFound)
 }
 
 // How the search ended, as a number.
@@ -71,14 +66,7 @@ fn next_whole(whole: [bool; ENTRIES], count: usize, k: usize) -> usize
     requires count_bound { count ≤ 64 }
     ensures { NextWhole (marked whole) count k result }
 {
-    let mut j = k;
-    while j < count {
-        if whole[j] {
-            break;
-        }
-        j += 1;
-    }
-    j
+    (k..count).find(|j| whole[*j]).unwrap_or(count)
 }
 
 // The last whole place below k, plus 1, or 0 for none.
@@ -86,14 +74,7 @@ fn last_whole(whole: [bool; ENTRIES], k: usize) -> usize
     requires { k ≤ 64 }
     ensures { LastWhole (marked whole) k result }
 {
-    let mut j = k;
-    while 0 < j {
-        if whole[j - 1] {
-            break;
-        }
-        j -= 1;
-    }
-    j
+    whole[..k].iter().rposition(|w| *w).map_or(0, |j| j + 1)
 }
 
 // Goes on to the next whole entry from place k on, at its first start; `fixed` are the windows with the starts before.
@@ -111,15 +92,15 @@ fn entered(
     let count = places_held(windows.n);
     let place = next_whole(whole, count, k);
     let start = if place < count {
-        windows.r[place] as u32
+        u32::from(windows.r[place])
     } else {
         0
     };
     Position {
         windows: fixed,
-        place: place,
-        start: start,
-        trials: trials,
+        place,
+        start,
+        trials,
     }
 }
 
@@ -132,7 +113,7 @@ fn gone_back(windows: WindowSet, at: Position, k: usize) -> Position
     Position {
         windows: with_window(fixed, k, windows.r[k], windows.d[k]),
         place: k,
-        start: fixed.r[k] as u32 + 1,
+        start: u32::from(fixed.r[k]) + 1,
         trials: at.trials,
     }
 }
@@ -144,9 +125,7 @@ fn start_left(windows: WindowSet, at: Position) -> bool
     ensures { result ≡ leb (at.start + (windows_in windows).p at.place) ((windows_in windows).d at.place) }
 {
     let k = at.place;
-    let p = windows.p[k];
-    let d = windows.d[k];
-    at.start + p as u32 <= d as u32
+    at.start + u32::from(windows.p[k]) <= u32::from(windows.d[k])
 }
 
 // One trial: where a plan exists the search goes on with the next whole entry, else with the next start.
@@ -158,18 +137,16 @@ fn tried(whole: [bool; ENTRIES], windows: WindowSet, at: Position) -> Position
 {
     let k = at.place;
     let s = at.start;
-    let e = s + windows.p[k] as u32;
+    let e = s + u32::from(windows.p[k]);
     let trials = at.trials + 1;
-    let before = at.windows;
-    let fixed = with_window(before, k, s as u16, e as u16);
+    let fixed = with_window(at.windows, k, s as u16, e as u16);
     if has_plan(fixed) {
         return entered(whole, windows, fixed, k + 1, trials);
     }
     Position {
-        windows: before,
-        place: k,
         start: s + 1,
-        trials: trials,
+        trials,
+        ..at
     }
 }
 
@@ -181,10 +158,9 @@ pub fn search_windows(whole: [bool; ENTRIES], windows: WindowSet, limit: u32) ->
     let mut at = entered(whole, windows, windows, 0, 0);
     loop {
         if count <= at.place {
-            let fixed = at.windows;
             break SearchAnswer {
                 ending: Ending::DayFound,
-                windows: fixed,
+                windows: at.windows,
                 trials: at.trials,
             };
         }
@@ -192,7 +168,7 @@ pub fn search_windows(whole: [bool; ENTRIES], windows: WindowSet, limit: u32) ->
             if limit <= at.trials {
                 break SearchAnswer {
                     ending: Ending::TrialsSpent,
-                    windows: windows,
+                    windows,
                     trials: at.trials,
                 };
             }
@@ -202,7 +178,7 @@ pub fn search_windows(whole: [bool; ENTRIES], windows: WindowSet, limit: u32) ->
             if last == 0 {
                 break SearchAnswer {
                     ending: Ending::NoneExists,
-                    windows: windows,
+                    windows,
                     trials: at.trials,
                 };
             }

@@ -3,17 +3,20 @@
 use mathlib.Core.Path.{◌≡◌, refl, sym, ap, ◌∙◌}
 use mathlib.Core.Bool.{Bool, true, false, cond, not}
 use mathlib.Core.List.{List}
-use Prim.Native.Nat.{ℕ, zero, suc, ◌+◌, ◌-◌, ◌<◌, ◌≤◌}
+use Prim.Native.Nat.{ℕ, zero, suc, ◌+◌, ◌<◌, ◌≤◌}
 use native.Mathlib.Numerals.{add-one}
 use native.Mathlib.Omega.{arith}
-use borrow.Author.Tests.{eq-eqb, ne_eqb, not-true, not-false}
+use borrow.Author.Tests.{eq-eqb, eqb-true, not-true, not-false}
+use mir.Val.{bool_byte}
 use lib.Dec.{eqb}
 use lib.ListN.{length, get_or, take}
-use lib.Seq.{get_or-take}
 use Rattle.base.specs.Counting.{last_below, sum}
 use Rattle.windows.specs.Windows.{Windows}
-use Rattle.windows.specs.Plans.{idle, places_in, start_of, end_of, minutes_of}
-use Rattle.base.proofs.Searches.{first_below_lem, Passed, passed_none, passed_next, passed_found, passed_all}
+use Rattle.windows.specs.Plans.{places_in, start_of, end_of}
+use Rattle.std.specs.Option.{MatchOption, unwrap_or}
+use Rattle.std.proofs.Common.{Option, None, Some}
+use Rattle.base.proofs.Searches.{first_below_lem, Passed, passed_found, passed_all}
+use Rattle.base.proofs.Sums.{le_or_lt, not_passed}
 use Rattle.windows.proofs.PlanFacts.{minutes_within, place_read}
 use Rattle.planner.specs.BrokenEntries.{is_broken, broken_in}
 use Rattle.planner.specs.Internal.{HoldsPlan, one_broken}
@@ -23,72 +26,61 @@ at_most_one : (t : Bool) (b : ℕ) → b ≡ cond t 1 0 → b ≤ 1
 at_most_one true b e = omega (arith, e)
 at_most_one false b e = omega (arith, e)
 
--- a byte read is the place that has its minute
-place_at : (h : ℕ) (bytes : List ℕ) (t : ℕ) → t < h → h ≤ length bytes → get_or bytes t 0 ≡ places_in (take h bytes) t
-place_at h bytes t below room = place_read bytes t (omega arith) ∙ sym (get_or-take h bytes t idle below)
+-- the last number below n that passes a test is known by the numbers after it
+last_none : (n : ℕ) (f : ℕ → Bool) → ((i : ℕ) → i < n → f i ≡ true → ⊥) → last_below n f ≡ 0
+unfolding last_below
+last_none zero f none = refl
+last_none (suc n) f none =
+    let here : f n ≡ false = not_passed (f n) (none n (omega arith)) in
+    rw here (last_none n f (λ i l. none i (omega arith)))
 
--- no minute before t is place k's
-pub record Sought (h : ℕ) (bytes : List ℕ) (k t : ℕ) : Type 0 where
-  pub room : h ≤ length bytes
-  pub passed : Passed h (λ i. eqb (places_in (take h bytes) i) k) t
+last_at : (n : ℕ) (f : ℕ → Bool) (t : ℕ) → t < n → f t ≡ true → ((i : ℕ) → t < i → i < n → f i ≡ true → ⊥) → last_below n f ≡ t + 1
+unfolding last_below
+last_at zero f t below at after = absurd (omega arith)
+last_at (suc n) f t below at after =
+    le_or_lt n t
+    (λ l. let z : n ≡ t = omega arith in rw (z, at) (sym (add-one t)))
+    (λ l.
+    let here : f n ≡ false = not_passed (f n) (after n l (omega arith)) in
+    rw here (last_at n f t l at (λ i u v. after i u (omega arith))))
 
-module _ (h : ℕ) (bytes : List ℕ) (k : ℕ) where
-  pub sought_none : h ≤ length bytes → Sought h bytes k 0
-  sought_none room = record { room = room; passed = passed_none h _ }
+-- A search for place k among the minutes xs of a plan, by the index that it answers, if any.
+module _ (h : ℕ) (xs : List ℕ) (long : length xs ≡ h) (k : ℕ) where
+  abbrev is_minute : ℕ → Bool
+  is_minute t = eqb (places_in xs t) k
 
-  module _ (t : ℕ) (so : Sought h bytes k t) where
-    pub sought_all : h ≤ t → t ≡ start_of h (places_in (take h bytes)) k
-    sought_all end = omega (arith, passed_all h _ t so.passed end, end, so.passed.within)
+  minute : (t : ℕ) → t < h → get_or xs t 0 ≡ k → is_minute t ≡ true
+  minute t below e = eq-eqb _ _ (sym (place_read xs t (omega (arith, long))) ∙ e)
 
-    module _ (below : t < h) where
-      here : get_or bytes t 0 ≡ places_in (take h bytes) t
-      here = place_at h bytes t below so.room
+  another : (t : ℕ) → t < h → (get_or xs t 0 ≡ k → ⊥) → is_minute t ≡ true → ⊥
+  another t below other e = other (place_read xs t (omega (arith, long)) ∙ eqb-true _ _ e)
 
-      pub sought_found : get_or bytes t 0 ≡ k → t ≡ start_of h (places_in (take h bytes)) k
-      sought_found e = sym (passed_found h _ t so.passed (eq-eqb _ _ (sym here ∙ e)))
+  -- the first
+  pub found_first : (r : Option ℕ) → MatchOption r ((t : ℕ) → t < length xs → get_or xs t 0 ≡ k → ⊥)
+      (λ t. (t < length xs) × (get_or xs t 0 ≡ k) × ((i : ℕ) → i < t → get_or xs i 0 ≡ k → ⊥))
+      → unwrap_or r h ≡ start_of h (places_in xs) k
+  found_first None none =
+      let passed : Passed h is_minute h =
+      record { within = omega arith; none_before = λ i l. another i l (none i (omega (arith, long))) } in
+      sym (passed_all h is_minute h passed (omega arith))
+  found_first (Some t) (below, at, before) =
+      let inside : t < h = omega (arith, long) in
+      let passed : Passed h is_minute t =
+      record { within = omega arith; none_before = λ i l. another i (omega arith) (before i l) } in
+      sym (passed_found h is_minute t passed (minute t inside at))
 
-      pub sought_next : (get_or bytes t 0 ≡ k → ⊥) → Sought h bytes k (t + 1)
-      sought_next other =
-          record { room = so.room; passed = passed_next h _ t so.passed below (ne_eqb _ _ (λ e. other (here ∙ e))) }
+  -- the last
+  pub found_last : (r : Option ℕ) → MatchOption r ((t : ℕ) → t < length xs → get_or xs t 0 ≡ k → ⊥)
+      (λ t. (t < length xs) × (get_or xs t 0 ≡ k) × ((i : ℕ) → t < i → i < length xs → get_or xs i 0 ≡ k → ⊥))
+      → (end : ℕ) → MatchOption r (end ≡ 0) (λ t. end ≡ t + 1) → end ≡ end_of h (places_in xs) k
+  found_last None none end is = is ∙ sym (last_none h is_minute (λ t l. another t l (none t (omega (arith, long)))))
+  found_last (Some t) (below, at, after) end is =
+      let inside : t < h = omega (arith, long) in
+      is ∙ sym (last_at h is_minute t inside (minute t inside at) (λ i u l. another i l (after i u (omega (arith, long)))))
 
--- no minute from t on is place k's
-pub record SoughtBack (h : ℕ) (bytes : List ℕ) (k t : ℕ) : Type 0 where
-  pub room : h ≤ length bytes
-  pub within : t ≤ h
-  pub is : end_of h (places_in (take h bytes)) k ≡ end_of t (places_in (take h bytes)) k
-
-module _ (h : ℕ) (bytes : List ℕ) (k : ℕ) where
-  pub back_none : h ≤ length bytes → SoughtBack h bytes k h
-  back_none room = record { room = room; within = omega arith; is = refl }
-
-  module _ (t : ℕ) (so : SoughtBack h bytes k t) where
-    pub back_all : t ≤ 0 → t ≡ end_of h (places_in (take h bytes)) k
-    unfolding last_below
-    back_all end = let z : t ≡ 0 = omega arith in z ∙ sym (so.is ∙ ap (λ (x : ℕ). end_of x (places_in (take h bytes)) k) z)
-
-    module _ (below : 0 < t) where
-      last_here : get_or bytes (t - 1) 0 ≡ places_in (take h bytes) (t - 1)
-      last_here = place_at h bytes (t - 1) (omega (arith, so.within)) so.room
-
-      last_one : end_of t (places_in (take h bytes)) k
-          ≡ cond (eqb (places_in (take h bytes) (t - 1)) k) t (end_of (t - 1) (places_in (take h bytes)) k)
-      unfolding last_below
-      last_one = go t below (places_in (take h bytes))
-        where
-          go : (t : ℕ) → 0 < t → (m : ℕ → ℕ) → end_of t m k ≡ cond (eqb (m (t - 1)) k) t (end_of (t - 1) m k)
-          go zero h m = absurd (omega arith)
-          go (suc t) h m = let z : suc t - 1 ≡ t = omega arith in rw z refl
-
-      pub back_found : get_or bytes (t - 1) 0 ≡ k → t ≡ end_of h (places_in (take h bytes)) k
-      back_found e = sym (so.is ∙ last_one ∙ rw (eq-eqb _ _ (sym last_here ∙ e)))
-
-      pub back_next : (get_or bytes (t - 1) 0 ≡ k → ⊥) → SoughtBack h bytes k (t - 1)
-      back_next other =
-          record {
-            room = so.room;
-            within = omega (arith, so.within);
-            is = so.is ∙ last_one ∙ rw (ne_eqb _ _ (λ e. other (last_here ∙ e)));
-          }
+byte_of : (b : Bool) → bool_byte b ≡ cond b 1 0
+byte_of true = refl
+byte_of false = refl
 
 -- one entry
 module _ {w : Windows} {bytes : List ℕ} (has : HoldsPlan w bytes) {k : ℕ} (place : k < w.n) where
@@ -104,17 +96,10 @@ module _ {w : Windows} {bytes : List ℕ} (has : HoldsPlan w bytes) {k : ℕ} (p
   pub not_whole : (whole : Bool) → not whole ≡ true → 0 ≡ one_broken (λ _. whole) w bytes k
   not_whole whole e = rw (not-true whole e) refl
 
-  module _ (b : Bool) (t : not b ≡ false) {s end : ℕ} (start : s ≡ start_of w.h m k) (ends : end ≡ end_of w.h m k) where
-    pub in_one_piece : s + w.p k ≡ end → 0 ≡ one_broken (λ _. b) w bytes k
-    in_one_piece same =
-        let z : start_of w.h m k + minutes_of w.h m k ≡ end_of w.h m k = omega (arith, same, start, ends, has.plan.exact k place) in
-        rw (not-false b t, eq-eqb _ _ z) refl
-
-    pub in_pieces : (s + w.p k ≡ end → ⊥) → 1 ≡ one_broken (λ _. b) w bytes k
-    in_pieces other =
-        let z : start_of w.h m k + minutes_of w.h m k ≡ end_of w.h m k → ⊥ =
-        λ q. other (omega (arith, q, start, ends, has.plan.exact k place)) in
-        rw (not-false b t, ne_eqb _ _ z) refl
+  pub broken_counted : (whole : Bool) → not whole ≡ false → {s p end : ℕ} → s ≡ start_of w.h m k → p ≡ w.p k → end ≡ end_of w.h m k
+      → bool_byte (not (eqb (s + p) end)) ≡ one_broken (λ _. whole) w bytes k
+  broken_counted whole e start minutes ends =
+      rw (not-false whole e, start, minutes, ends, has.plan.exact k place) (byte_of _)
 
 -- the broken entries among the first i
 pub record BrokenSoFar (whole : ℕ → Bool) (w : Windows) (bytes : List ℕ) (x i : ℕ) : Type 0 where

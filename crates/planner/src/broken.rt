@@ -15,14 +15,7 @@ fn start_in(plan: &[u8], h: usize, k: u8) -> usize
     requires { h ≤ length plan.now }
     ensures { result ≡ start_of h (places_in (take h plan.now)) k }
 {
-    let mut t: usize = 0;
-    while t < h {
-        if plan[t] == k {
-            break;
-        }
-        t += 1;
-    }
-    t
+    plan[..h].iter().position(|x| *x == k).unwrap_or(h)
 }
 
 // The minute after the last of h minutes that place k has, 0 for none.
@@ -30,14 +23,7 @@ fn end_in(plan: &[u8], h: usize, k: u8) -> usize
     requires { h ≤ length plan.now }
     ensures { result ≡ end_of h (places_in (take h plan.now)) k }
 {
-    let mut t = h;
-    while 0 < t {
-        if plan[t - 1] == k {
-            break;
-        }
-        t -= 1;
-    }
-    t
+    plan[..h].iter().rposition(|x| *x == k).map_or(0, |t| t + 1)
 }
 
 // 1 for a broken entry, that is a whole one that has fewer minutes than lie from its start to its end; 0 for another.
@@ -49,14 +35,10 @@ fn one_broken(whole: bool, windows: WindowSet, plan: &[u8], k: usize) -> u8
     if !whole {
         return 0;
     }
-    let h = windows.h as usize;
+    let h = usize::from(windows.h);
     let place = k as u8;
-    let p = windows.p[k];
-    if start_in(plan, h, place) + p as usize == end_in(plan, h, place) {
-        0
-    } else {
-        1
-    }
+    let p = usize::from(windows.p[k]);
+    u8::from(start_in(plan, h, place) + p != end_in(plan, h, place))
 }
 
 // How many entries the plan in the windows breaks, of which `whole` marks the whole ones.
@@ -66,10 +48,8 @@ pub(crate) fn broken_in(whole: [bool; ENTRIES], windows: WindowSet, plan: &[u8])
 {
     let count = places_held(windows.n);
     let mut sum: u8 = 0;
-    let mut i: usize = 0;
-    while i < count {
+    for i in 0..count {
         sum += one_broken(whole[i], windows, plan, i);
-        i += 1;
     }
     sum
 }

@@ -10,7 +10,7 @@ ghost use Rattle.planner.specs.Calls.{plan_checks, shown_checks, unplanned, Plan
 
 use crate::broken::broken_in;
 use crate::types::{PlanAnswer, ShownAnswer};
-use bounds::types::Shown;
+use bounds::types::{Bounds, Shown};
 use bounds::{bounds_of, store_plan};
 use jackson::unchecked_schedule;
 use list::types::{DayList, ENTRIES, Refusal, Verdict};
@@ -94,14 +94,12 @@ pub fn plan_day(list: DayList, plan: &mut [u8]) -> PlanAnswer
     };
     let _filled = unchecked_schedule(found.windows, plan);
     let broken = broken_in(whole, found.windows, plan);
-    let bounds = bounds_of(whole, found.windows);
-    let ends = bounds.ends;
-    let starts = bounds.starts;
+    let Bounds { ends, starts } = bounds_of(whole, found.windows);
     PlanAnswer {
         narrowed: answer_with(list, found),
-        broken: broken,
-        ends: ends,
-        starts: starts,
+        broken,
+        ends,
+        starts,
     }
 }
 

@@ -2,7 +2,7 @@
 -- Assumes nothing.
 use mathlib.Core.Path.{◌≡◌, sym, ap, ◌∙◌}
 use mathlib.Core.List.{List}
-use Prim.Native.Nat.{ℕ, ◌+◌, ◌≤◌, ◌<◌}
+use Prim.Native.Nat.{ℕ, ◌+◌, ◌≤◌, ◌<◌, min}
 use native.Mathlib.Omega.{arith}
 use borrow.Author.Tests.{le-leb, lt-leb}
 use lib.ListN.{length}
@@ -37,13 +37,9 @@ module _ (old more : ℕ) where
   unfolding count_on
   count_kept h = rw (le-leb most_counted old h)
 
-  pub count_full : old < most_counted → most_counted ≤ old + more → most_counted ≡ count_on old more
+  pub count_more : old < most_counted → (sum : ℕ) → sum ≡ min (old + more) 4294967295 → min sum most_counted ≡ count_on old more
   unfolding count_on
-  count_full h k = rw (lt-leb most_counted old h) (omega arith)
-
-  pub count_sum : old + more < most_counted → old + more ≡ count_on old more
-  unfolding count_on
-  count_sum h = let z : old < most_counted = omega arith in rw (lt-leb most_counted old z) (omega arith)
+  count_more h sum is = rw (lt-leb most_counted old h) (omega arith)
 
 -- the overload test of a list that passes the value check, if the room is fresh
 pub test_fresh : (l : DayList) (s : Stage) (v : Verdict) → WellFormed l → s ≡ Fresh → Tests l v → verdict_of v ≡ first_test s l

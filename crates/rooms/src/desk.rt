@@ -15,12 +15,7 @@ pub(crate) const MOST_ROOMS: usize = 8;
 fn is_unfinished(stage: Stage) -> bool
     ensures { result ≡ is_unfinished stage }
 {
-    match stage {
-        Stage::Fresh => true,
-        Stage::Begun => true,
-        Stage::Settled => false,
-        Stage::Refused => false,
-    }
+    matches!(stage, Stage::Fresh | Stage::Begun)
 }
 
 // What stands for a row past the last.
@@ -39,20 +34,14 @@ fn number_after(n: usize, k: usize) -> usize
     requires { k < most_rooms }
     ensures { result ≡ number_after n k }
 {
-    if k + 1 < n {
-        return k + 1;
-    }
-    0
+    if k + 1 < n { k + 1 } else { 0 }
 }
 
 // Any number past the last counts as 0.
 fn number_used(n: usize, number: usize) -> usize
     ensures { result ≡ number_used n number }
 {
-    if number < n {
-        return number;
-    }
-    0
+    if number < n { number } else { 0 }
 }
 
 // The next unfinished of the first n rooms in cyclic order from the number handed in; n where there is none.
@@ -61,15 +50,11 @@ fn next_unfinished(rows: [Room; MOST_ROOMS], n: usize, number: usize) -> usize
     ensures { result ≡ next_unfinished (unfinished_in rows) n number }
 {
     let mut at = number_used(n, number);
-    let mut left = n;
-    while 0 < left {
-        let r = rows[at];
-        let stage = r.stage;
-        if is_unfinished(stage) {
+    for _ in 0..n {
+        if is_unfinished(rows[at].stage) {
             return at;
         }
         at = number_after(n, at);
-        left = left - 1;
     }
     n
 }
@@ -78,11 +63,10 @@ fn next_unfinished(rows: [Room; MOST_ROOMS], n: usize, number: usize) -> usize
 fn not_taken(n: usize, answer: TurnAnswer) -> TurnTaken
     ensures { result ≡ record { at = n; row = no_row; answer = answer } }
 {
-    let row = no_row();
     TurnTaken {
         at: n,
-        row: row,
-        answer: answer,
+        row: no_row(),
+        answer,
     }
 }
 
@@ -95,10 +79,7 @@ pub(crate) fn take_turn(
 ) -> TurnTaken
     ensures { TakesTurn rows n number lists.old result lists.new }
 {
-    if n == 0 {
-        return not_taken(n, TurnAnswer::NotTurned(Refusal::RoomCount(n)));
-    }
-    if MOST_ROOMS < n {
+    if n == 0 || MOST_ROOMS < n {
         return not_taken(n, TurnAnswer::NotTurned(Refusal::RoomCount(n)));
     }
     if lists.len() < n * SHARE_BYTES {
@@ -117,8 +98,8 @@ pub(crate) fn take_turn(
         let verdict = out.verdict;
         let next = number_after(n, at);
         return TurnTaken {
-            at: at,
-            row: row,
+            at,
+            row,
             answer: TurnAnswer::Turned(at, verdict, next),
         };
     }

@@ -12,7 +12,7 @@ pub fn turn_held(rows: [Room; MOST_ROOMS], n: usize, lists: &mut [u8], number: u
 {
     if MOST_ROOMS < n {
         return HeldAnswer {
-            rows: rows,
+            rows,
             answer: TurnAnswer::NotTurned(Refusal::RoomCount(n)),
         };
     }

@@ -6,16 +6,6 @@ ghost use Rattle.rooms.specs.Calls.{Turns, TurnsFirst};
 use crate::desk::{no_row, take_turn};
 use crate::types::{HeldAnswer, Room, TurnAnswer};
 
-// Row i, or d where there is none.
-fn row_or(rooms: &[Room], i: usize, d: Room) -> Room
-    ensures { result ≡ get_or rooms.now i d }
-{
-    if i < rooms.len() {
-        return rooms[i];
-    }
-    d
-}
-
 // Row i is set, where there is one.
 fn put_or(rooms: &mut [Room], i: usize, r: Room)
     ensures { rooms.new ≡ set rooms.old i r }
@@ -25,19 +15,11 @@ fn put_or(rooms: &mut [Room], i: usize, r: Room)
     }
 }
 
-// The first eight rows.
+// The first eight rows, d where there is none.
 fn gather(rooms: &[Room], d: Room) -> [Room; 8]
     ensures { result ≡ eight_rows rooms.now d }
 {
-    let a = row_or(rooms, 0, d);
-    let b = row_or(rooms, 1, d);
-    let c = row_or(rooms, 2, d);
-    let e = row_or(rooms, 3, d);
-    let f = row_or(rooms, 4, d);
-    let g = row_or(rooms, 5, d);
-    let h = row_or(rooms, 6, d);
-    let i = row_or(rooms, 7, d);
-    [a, b, c, e, f, g, h, i]
+    std::array::from_fn(|i| rooms.get(i).copied().unwrap_or(d))
 }
 
 // One turn at the control desk: the rows are taken apart, one room's round is made, and its row is stored.
@@ -53,14 +35,15 @@ pub fn turn(rooms: &mut [Room], lists: &mut [u8], number: usize) -> TurnAnswer
 }
 
 // A turn at a desk whose n rows are the first of these: they are lent to `turn`.
-pub(crate) fn turn_first(rows: [Room; 8], n: usize, lists: &mut [u8], number: usize) -> HeldAnswer
+pub(crate) fn turn_first(
+    mut rows: [Room; 8],
+    n: usize,
+    lists: &mut [u8],
+    number: usize,
+) -> HeldAnswer
     requires { n ≤ most_rooms }
     ensures { TurnsFirst rows n lists.old number result lists.new }
 {
-    let mut mine = rows;
-    let answer = turn(&mut mine[..n], lists, number);
-    HeldAnswer {
-        rows: mine,
-        answer: answer,
-    }
+    let answer = turn(&mut rows[..n], lists, number);
+    HeldAnswer { rows, answer }
 }

@@ -17,12 +17,10 @@ fn count_on(old: u32, more: u32) -> u32
     ensures { result ≡ count_on old more }
 {
     if old >= MOST_COUNTED {
-        return old;
+        old
+    } else {
+        old.saturating_add(more).min(MOST_COUNTED)
     }
-    if more >= MOST_COUNTED - old {
-        return MOST_COUNTED;
-    }
-    old + more
 }
 
 // "A first round starts with the overload test."
@@ -43,9 +41,10 @@ fn stage_after(moves: u32) -> Stage
     ensures { result ≡ stage_after moves }
 {
     if moves == 0 {
-        return Stage::Settled;
+        Stage::Settled
+    } else {
+        Stage::Begun
     }
-    Stage::Begun
 }
 
 // A refused room: only its stage is written.
@@ -55,8 +54,7 @@ fn refused_room(row: Room, verdict: Verdict) -> RoomAnswer
     RoomAnswer {
         row: Room {
             stage: Stage::Refused,
-            rounds: row.rounds,
-            moves: row.moves,
+            ..row
         },
         verdict: verdict,
     }

@@ -29,10 +29,8 @@ fn whole_starts(whole: [bool; ENTRIES], windows: WindowSet) -> [u16; ENTRIES]
 {
     let mut starts = zeros();
     let count = places_held(windows.n);
-    let mut i: usize = 0;
-    while i < count {
+    for i in 0..count {
         starts[i] = start_of(whole[i], windows.r[i]);
-        i += 1;
     }
     starts
 }
@@ -41,22 +39,19 @@ fn whole_starts(whole: [bool; ENTRIES], windows: WindowSet) -> [u16; ENTRIES]
 fn starts_said(whole: [bool; ENTRIES], searched: SearchAnswer) -> [u16; ENTRIES]
     ensures { result ≡ starts_said (marked whole) searched }
 {
-    let ending = searched.ending;
-    if is_found(ending) {
-        let fixed = searched.windows;
-        return whole_starts(whole, fixed);
+    if is_found(searched.ending) {
+        whole_starts(whole, searched.windows)
+    } else {
+        zeros()
     }
-    zeros()
 }
 
 // Stores Jackson's schedule with the starts fixed, where a day was found.
 fn store_found(searched: SearchAnswer, plan: &mut [u8])
     ensures { StoresFound searched plan.old plan.new }
 {
-    let ending = searched.ending;
-    if is_found(ending) {
-        let fixed = searched.windows;
-        let _filled = unchecked_schedule(fixed, plan);
+    if is_found(searched.ending) {
+        let _filled = unchecked_schedule(searched.windows, plan);
     }
 }
 
@@ -90,10 +85,9 @@ pub fn unbroken_day(list: DayList, limit: u32, plan: &mut [u8]) -> UnbrokenAnswe
     let settled = narrowed.list;
     let searched = search_windows(whole, unchecked_windows(settled), limit);
     store_found(searched, plan);
-    let ending = searched.ending;
     UnbrokenAnswer {
-        narrowed: narrowed,
-        ending: ending,
+        narrowed,
+        ending: searched.ending,
         trials: searched.trials,
         starts: starts_said(whole, searched),
     }

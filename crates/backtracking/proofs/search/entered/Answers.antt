@@ -19,10 +19,11 @@ returns-then-place-count c =
     let windows = c.args.windows in
     let next_one : NextWhole (marked c.args.whole) (windows_in windows).n c.args.k place = rw (← count_says) c.next_whole-place.ensures in
     let fits_r : (j : ℕ) → Fits w16 (get_or windows.r j 0) = λ j. search rules in
-    enters_whole (marked c.args.whole) (windows_in windows) c.args.fixed c.args.k c.args.trials place
+    let enters = enters_whole (marked c.args.whole) (windows_in windows) c.args.fixed c.args.k c.args.trials place
     c.requires.fixed_below next_one
     (omega (arith, c.if-place-count.true, count_says))
-    (omega (arith, fits_r place))
+    (omega (arith, fits_r place)) in
+    rw c.from-start.ensures enters
 
 pub returns-else-place-count : goal.returns-else-place-count
 returns-else-place-count c =

@@ -1,22 +1,18 @@
 -- The window is opened again, and the next start is one more.
 -- Assumes nothing.
 use borrow.Author.Rules.{rules}
-use mathlib.Core.Path.{refl}
+use mathlib.Core.Path.{refl, ap}
+use Prim.Native.Nat.{ℕ, ◌+◌}
 use mir.Val.{Fits}
 use mir.Syntax.{w16}
 use lib.ListN.{get_or}
 use native.Mathlib.Omega.{arith}
 use Rattle.backtracking.proofs.search.gone_back.Goals as goal
 
-pub overflow_cast-result : goal.overflow_cast-result
-overflow_cast-result c =
-    let fits_r : Fits w16 (get_or c.args.at.windows.r c.args.k 0) = search rules in
-    search (rules, fits_r)
-
 pub overflow_add-result : goal.overflow_add-result
 overflow_add-result c =
     let fits_r : Fits w16 (get_or c.args.at.windows.r c.args.k 0) = search rules in
-    omega (arith, fits_r)
+    omega (arith, fits_r, c.from.ensures)
 
 pub returns : goal.returns
 returns c =
@@ -24,7 +20,7 @@ returns c =
     record {
       windows = c.with_window.ensures;
       place = refl;
-      start = refl;
-      small = omega (arith, fits_r);
+      start = ap (λ (x : ℕ). x + 1) c.from.ensures;
+      small = omega (arith, fits_r, c.from.ensures);
       trials = refl;
     }

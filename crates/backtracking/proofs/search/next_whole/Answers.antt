@@ -1,16 +1,18 @@
--- The loop's invariant is `PausesTo`, the measure the places left.
+-- What `find` answers is the first whole place.
 -- Assumes nothing.
-use Rattle.backtracking.proofs.SearchCases.{pauses_none, pauses_next, pauses_whole, pauses_all}
+use borrow.Author.Rules.{rules}
+use borrow.Author.Tests.{tests}
+use mathlib.Core.Path.{◌≡◌}
+use mathlib.Core.Bool.{true, false}
+use Prim.Native.Nat.{ℕ}
+use Rattle.std.proofs.lemmas.Iterator.{first_from_Range}
+use Rattle.list.specs.DayLists.{marked}
+use Rattle.backtracking.proofs.SearchCases.{next_found}
 use Rattle.backtracking.proofs.search.next_whole.Goals as goal
 
-pub loop-j-init : goal.loop-j-init
-loop-j-init c = pauses_none _ _ _ c.requires.k_le_count
-
-pub loop-j-preserved : goal.loop-j-preserved
-loop-j-preserved c = pauses_next _ _ _ _ c.loop-j.invariant c.loop-j-test.true c.if-whole-j.false
-
-pub returns-after-loop-j : goal.returns-after-loop-j
-returns-after-loop-j c = pauses_all _ _ _ _ c.loop-j.invariant c.loop-j-test.false
-
-pub returns-then-whole-j : goal.returns-then-whole-j
-returns-then-whole-j c = pauses_whole _ _ _ _ c.loop-j.invariant c.if-whole-j.true
+pub returns : goal.returns
+returns c =
+    let whole = marked c.args.whole in
+    let found = first_from_Range _ _ _ c.find.result (λ (j : ℕ). whole j ≡ true) (λ (j : ℕ). whole j ≡ false) c.find.ensures.ran
+    (λ x q call. search (rules, tests)) (λ x q call. search (rules, tests)) in
+    rw c.unwrap_or.ensures (next_found whole c.args.count c.args.k c.requires.k_le_count c.find.result found)

@@ -2,16 +2,18 @@
 -- Assumes nothing.
 use borrow.Author.Rules.{rules}
 use mathlib.Core.Path.{◌≡◌, sym, ◌∙◌}
-use Prim.Native.Nat.{suc, ◌+◌, ◌-◌, ◌<◌}
+use Prim.Native.Nat.{ℕ, suc, ◌-◌}
 use native.Mathlib.Omega.{arith}
-use lib.Dec.{leb}
-use mathlib.Core.Bool.{false}
+use mathlib.Core.Bool.{Bool}
 use Rattle.list.specs.DayLists.{marked}
-use Rattle.windows.specs.Windows.{windows_in}
-use Rattle.backtracking.specs.Internal.{LastWhole, StartLeft}
+use Rattle.backtracking.specs.Internal.{LastWhole}
 use Rattle.backtracking.proofs.SearchCases.{fixed_none, way_begins, way_found, way_left, way_spent, way_tried, way_none, way_again}
 use Rattle.backtracking.proofs.UnbrokenLaws.{searches_so}
 use Rattle.backtracking.proofs.search.search_windows.Goals as goal
+
+-- the last whole place, where there is one
+one_below : {whole : ℕ → Bool} {k j : ℕ} → (j ≡ 0 → ⊥) → LastWhole whole k j → LastWhole whole k (suc (j - 1))
+one_below {whole} {k} {j} some last = let z : j ≡ suc (j - 1) = omega arith in rw (← z) last
 
 pub entered-at-requires : goal.entered-at-requires
 entered-at-requires c = record { fixed_below = fixed_none _ _; k_bound = omega arith }
@@ -22,15 +24,15 @@ loop-at-init c =
 
 pub start_left-requires : goal.start_left-requires
 start_left-requires c =
-    let place : c.loop-at.at.place < (windows_in c.args.windows).n = omega (arith, c.if-count-at.false, c.places_held-count.ensures) in
+    let place = rw c.places_held-count.ensures at c.if-count-at.false in
     record { place_bound = omega (arith, place); start_bound = c.loop-at.invariant.stands.start }
 
 pub tried-at-requires : goal.tried-at-requires
 tried-at-requires c =
     let holds = c.loop-at.invariant in
     let windows = c.args.windows in
-    let place : c.loop-at.at.place < (windows_in windows).n = omega (arith, c.if-count-at.false, c.places_held-count.ensures) in
-    let left : StartLeft (windows_in windows) c.loop-at.at = way_left (marked c.args.whole) windows c.args.limit c.loop-at.at holds place
+    let place = rw c.places_held-count.ensures at c.if-count-at.false in
+    let left = way_left (marked c.args.whole) windows c.args.limit c.loop-at.at holds place
     (sym c.start_left.ensures ∙ c.if-start_left.true) in
     record { stands = holds.stands; start_left = left; trials_bound = search rules }
 
@@ -40,37 +42,33 @@ loop-at-smaller-then-start_left c =
 
 pub loop-at-preserved-then-start_left : goal.loop-at-preserved-then-start_left
 loop-at-preserved-then-start_left c =
-    let place : c.loop-at.at.place < (windows_in c.args.windows).n = omega (arith, c.if-count-at.false, c.places_held-count.ensures) in
+    let place = rw c.places_held-count.ensures at c.if-count-at.false in
     way_tried (marked c.args.whole) c.args.windows c.args.limit c.loop-at.at c.loop-at.invariant
-    (place) c.if-limit-at.false c.tried-at.result c.tried-at.ensures
+    place c.if-limit-at.false c.tried-at.result c.tried-at.ensures
 
 pub last_whole-last-requires : goal.last_whole-last-requires
 last_whole-last-requires c =
-    let place : c.loop-at.at.place < (windows_in c.args.windows).n = omega (arith, c.if-count-at.false, c.places_held-count.ensures) in
+    let place = rw c.places_held-count.ensures at c.if-count-at.false in
     omega (arith, place)
 
 pub gone_back-at-requires : goal.gone_back-at-requires
 gone_back-at-requires c =
-    let place : c.loop-at.at.place < (windows_in c.args.windows).n = omega (arith, c.if-count-at.false, c.places_held-count.ensures) in
+    let place = rw c.places_held-count.ensures at c.if-count-at.false in
     omega (arith, c.last_whole-last.ensures.within, place)
 
 pub loop-at-smaller : goal.loop-at-smaller
 loop-at-smaller c =
     let at_says = c.gone_back-at.ensures in
-    let last : LastWhole (marked c.args.whole) c.loop-at.at.place (suc (c.last_whole-last.result - 1)) =
-    let z : c.last_whole-last.result ≡ suc (c.last_whole-last.result - 1) = omega (arith, c.if-last-eq0.false) in
-    rw (← z) c.last_whole-last.ensures in
+    let last = one_below c.if-last-eq0.false c.last_whole-last.ensures in
     omega (arith, at_says.place, at_says.trials, last.within)
 
 pub loop-at-preserved : goal.loop-at-preserved
 loop-at-preserved c =
     let windows = c.args.windows in
-    let place : c.loop-at.at.place < (windows_in windows).n = omega (arith, c.if-count-at.false, c.places_held-count.ensures) in
-    let none_left : let w = windows_in windows in leb (c.loop-at.at.start + w.p c.loop-at.at.place) (w.d c.loop-at.at.place) ≡ false =
+    let place = rw c.places_held-count.ensures at c.if-count-at.false in
+    let none_left =
     sym c.start_left.ensures ∙ c.if-start_left.false in
-    let last : LastWhole (marked c.args.whole) c.loop-at.at.place (suc (c.last_whole-last.result - 1)) =
-    let z : c.last_whole-last.result ≡ suc (c.last_whole-last.result - 1) = omega (arith, c.if-last-eq0.false) in
-    rw (← z) c.last_whole-last.ensures in
+    let last = one_below c.if-last-eq0.false c.last_whole-last.ensures in
     way_again (marked c.args.whole) windows c.args.limit c.loop-at.at c.loop-at.invariant
     place none_left _ last
     c.gone_back-at.result c.gone_back-at.ensures
@@ -87,8 +85,8 @@ returns-then-limit-at c =
     let windows = c.args.windows in
     let whole = c.args.whole in
     let limit = c.args.limit in
-    let place : c.loop-at.at.place < (windows_in windows).n = omega (arith, c.if-count-at.false, c.places_held-count.ensures) in
-    let left : StartLeft (windows_in windows) c.loop-at.at = way_left (marked whole) windows limit c.loop-at.at holds place
+    let place = rw c.places_held-count.ensures at c.if-count-at.false in
+    let left = way_left (marked whole) windows limit c.loop-at.at holds place
     (sym c.start_left.ensures ∙ c.if-start_left.true) in
     searches_so (marked whole) windows limit _
     (way_spent (marked whole) windows limit c.loop-at.at holds
@@ -97,10 +95,9 @@ returns-then-limit-at c =
 pub returns-then-last-eq0 : goal.returns-then-last-eq0
 returns-then-last-eq0 c =
     let windows = c.args.windows in
-    let place : c.loop-at.at.place < (windows_in windows).n = omega (arith, c.if-count-at.false, c.places_held-count.ensures) in
-    let none_left : let w = windows_in windows in leb (c.loop-at.at.start + w.p c.loop-at.at.place) (w.d c.loop-at.at.place) ≡ false =
+    let place = rw c.places_held-count.ensures at c.if-count-at.false in
+    let none_left =
     sym c.start_left.ensures ∙ c.if-start_left.false in
-    let z : c.last_whole-last.result ≡ 0 = c.if-last-eq0.true in
     searches_so (marked c.args.whole) windows c.args.limit _
     (way_none (marked c.args.whole) windows c.args.limit c.loop-at.at c.loop-at.invariant
-    place none_left (rw z at c.last_whole-last.ensures))
+    place none_left (rw c.if-last-eq0.true at c.last_whole-last.ensures))

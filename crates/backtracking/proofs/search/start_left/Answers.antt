@@ -10,9 +10,4 @@ use Rattle.backtracking.proofs.search.start_left.Goals as goal
 pub overflow_add-result : goal.overflow_add-result
 overflow_add-result c =
     let f : Fits w16 (get_or c.args.windows.p c.args.at.place 0) = search rules in
-    omega (arith, f, c.requires.start_bound)
-
-pub overflow_cast-result-2 : goal.overflow_cast-result-2
-overflow_cast-result-2 c =
-    let f : Fits w16 (get_or c.args.windows.d c.args.at.place 0) = search rules in
-    search (rules, f)
+    omega (arith, f, c.from.ensures, c.requires.start_bound)

@@ -14,17 +14,17 @@ use Rattle.backtracking.proofs.search.tried.Goals as goal
 pub overflow_add-e : goal.overflow_add-e
 overflow_add-e c =
     let f : Fits w16 (get_or c.args.windows.p c.args.at.place 0) = search rules in
-    omega (arith, f, c.requires.stands.start)
+    omega (arith, f, c.from.ensures, c.requires.stands.start)
 
 pub overflow_cast-s : goal.overflow_cast-s
 overflow_cast-s c =
     let fits_d : Fits w16 (get_or c.args.windows.d c.args.at.place 0) = search rules in
     omega (arith, fits_d, c.requires.start_left.room)
 
-pub overflow_cast-e-2 : goal.overflow_cast-e-2
-overflow_cast-e-2 c =
+pub overflow_cast-e : goal.overflow_cast-e
+overflow_cast-e c =
     let fits_d : Fits w16 (get_or c.args.windows.d c.args.at.place 0) = search rules in
-    omega (arith, fits_d, c.requires.start_left.room)
+    omega (arith, fits_d, c.from.ensures, c.requires.start_left.room)
 
 pub with_window-fixed-requires : goal.with_window-fixed-requires
 with_window-fixed-requires c = search (rules, c.requires.start_left.place)
@@ -36,14 +36,14 @@ pub entered-requires : goal.entered-requires
 entered-requires c =
     record {
       fixed_below = tried_fixed (marked c.args.whole) (windows_in c.args.windows) c.args.at c.requires.stands c.requires.start_left
-          (windows_in c.with_window-fixed.result) c.with_window-fixed.ensures;
+          (windows_in c.with_window-fixed.result) (rw c.from.ensures at c.with_window-fixed.ensures);
       k_bound = omega (arith, c.requires.start_left.place);
     }
 
 pub returns-then-has_plan : goal.returns-then-has_plan
 returns-then-has_plan c =
     tries_holds (marked c.args.whole) (windows_in c.args.windows) c.args.at c.requires.stands c.requires.start_left
-    (windows_in c.with_window-fixed.result) c.with_window-fixed.ensures
+    (windows_in c.with_window-fixed.result) (rw c.from.ensures at c.with_window-fixed.ensures)
     (sym c.has_plan.ensures ∙ c.if-has_plan.true)
     c.entered.result c.entered.ensures
 
@@ -51,6 +51,6 @@ pub returns : goal.returns
 returns c =
     let fits_d : Fits w16 (get_or c.args.windows.d c.args.at.place 0) = search rules in
     tries_fails (marked c.args.whole) (windows_in c.args.windows) c.args.at c.requires.stands c.requires.start_left
-    (windows_in c.with_window-fixed.result) c.with_window-fixed.ensures
+    (windows_in c.with_window-fixed.result) (rw c.from.ensures at c.with_window-fixed.ensures)
     (sym c.has_plan.ensures ∙ c.if-has_plan.false)
     (omega (arith, fits_d, c.requires.start_left.room))

@@ -1,6 +1,5 @@
--- The loop's invariant is `BrokenSoFar`, the measure what is left of the places.
+-- The loop's invariant is `BrokenSoFar`.
 -- Assumes nothing.
-use Prim.Native.Nat.{◌-◌}
 use Rattle.list.specs.DayLists.{marked}
 use Rattle.windows.specs.Windows.{windows_in}
 use Rattle.planner.proofs.BrokenCases.{BrokenSoFar}
@@ -8,6 +7,3 @@ use Rattle.planner.proofs.broken.broken_in.Given as goal
 
 abbrev pub invariant-loop-i : goal.invariant-loop-i
 invariant-loop-i l = BrokenSoFar (marked l.whole) (windows_in l.windows) l.plan l.sum l.i
-
-abbrev pub decreases-loop-i : goal.decreases-loop-i
-decreases-loop-i l = l.count - l.i

@@ -1,20 +1,16 @@
--- The loop's invariant is `SoughtBack`, the measure the minutes left.
+-- What `rposition` answers is the minute before the end.
 -- Assumes nothing.
-use borrow.Author.Rules.{rules}
-use Rattle.planner.proofs.BrokenCases.{back_none, back_next, back_found, back_all}
+use Rattle.std.proofs.Common.{rules, ◌≡◌, ℕ, ◌+◌, ◌<◌, length, get_or, take}
+use Rattle.std.specs.Option.{MatchOption}
+use lib.Seq.{length-take-le}
+use Rattle.planner.proofs.BrokenCases.{found_last}
 use Rattle.planner.proofs.broken.end_in.Goals as goal
 
-pub loop-t-init : goal.loop-t-init
-loop-t-init c = back_none _ _ _ c.requires
-
-pub bounds-plan-t : goal.bounds-plan-t
-bounds-plan-t c = search (rules, c.loop-t.invariant.room, c.loop-t.invariant.within)
-
-pub loop-t-preserved : goal.loop-t-preserved
-loop-t-preserved c = back_next _ _ _ _ c.loop-t.invariant c.loop-t-test.true c.if-plan-t.false
-
-pub returns-after-loop-t : goal.returns-after-loop-t
-returns-after-loop-t c = back_all _ _ _ _ c.loop-t.invariant c.loop-t-test.false
-
-pub returns-then-plan-t : goal.returns-then-plan-t
-returns-then-plan-t c = back_found _ _ _ _ c.loop-t.invariant c.loop-t-test.true c.if-plan-t.true
+pub returns : goal.returns
+returns c =
+    let xs = take c.args.h c.args.plan.now in
+    let k = c.args.k in
+    let found : MatchOption c.rposition.result ((t : ℕ) → t < length xs → get_or xs t 0 ≡ k → ⊥)
+    (λ t. (t < length xs) × (get_or xs t 0 ≡ k) × ((i : ℕ) → t < i → i < length xs → get_or xs i 0 ≡ k → ⊥)) = search rules in
+    let end : MatchOption c.rposition.result (c.map_or.result ≡ 0) (λ t. c.map_or.result ≡ t + 1) = search rules in
+    found_last c.args.h xs (length-take-le c.args.h c.args.plan.now c.requires) k c.rposition.result found c.map_or.result end

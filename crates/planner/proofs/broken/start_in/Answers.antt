@@ -1,20 +1,15 @@
--- The loop's invariant is `Sought`, the measure what is left of h.
+-- What `position` answers is the start.
 -- Assumes nothing.
-use borrow.Author.Rules.{rules}
-use Rattle.planner.proofs.BrokenCases.{sought_none, sought_next, sought_found, sought_all}
+use Rattle.std.proofs.Common.{rules, ◌≡◌, ◌∙◌, ℕ, ◌<◌, length, get_or, take}
+use Rattle.std.specs.Option.{MatchOption}
+use lib.Seq.{length-take-le}
+use Rattle.planner.proofs.BrokenCases.{found_first}
 use Rattle.planner.proofs.broken.start_in.Goals as goal
 
-pub loop-t-init : goal.loop-t-init
-loop-t-init c = sought_none _ _ _ c.requires
-
-pub bounds-plan-t : goal.bounds-plan-t
-bounds-plan-t c = search (rules, c.loop-t.invariant.room)
-
-pub loop-t-preserved : goal.loop-t-preserved
-loop-t-preserved c = sought_next _ _ _ _ c.loop-t.invariant c.loop-t-test.true c.if-plan-t.false
-
-pub returns-after-loop-t : goal.returns-after-loop-t
-returns-after-loop-t c = sought_all _ _ _ _ c.loop-t.invariant c.loop-t-test.false
-
-pub returns-then-plan-t : goal.returns-then-plan-t
-returns-then-plan-t c = sought_found _ _ _ _ c.loop-t.invariant c.loop-t-test.true c.if-plan-t.true
+pub returns : goal.returns
+returns c =
+    let xs = take c.args.h c.args.plan.now in
+    let k = c.args.k in
+    let found : MatchOption c.position.result ((t : ℕ) → t < length xs → get_or xs t 0 ≡ k → ⊥)
+    (λ t. (t < length xs) × (get_or xs t 0 ≡ k) × ((i : ℕ) → i < t → get_or xs i 0 ≡ k → ⊥)) = search rules in
+    c.unwrap_or.ensures ∙ found_first c.args.h xs (length-take-le c.args.h c.args.plan.now c.requires) k c.position.result found

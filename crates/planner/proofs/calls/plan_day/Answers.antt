@@ -71,4 +71,4 @@ returns c =
     (plan_formed list (length plan)) c.narrowed_after-found.result found c.answer_with.result
     c.answer_with.ensures in
     plan_done planning c.unchecked_schedule-filled.ensures c.broken_in-broken.ensures
-    c.bounds_of-bounds.ensures after
+    c.bounds_of.ensures after

@@ -3,4 +3,4 @@
 use Rattle.rooms.proofs.desk.not_taken.Goals as goal
 
 pub returns : goal.returns
-returns c = rw c.no_row-row.ensures
+returns c = rw c.no_row.ensures

@@ -6,5 +6,5 @@ use Rattle.rooms.proofs.desk.number_after.Goals as goal
 pub returns-then-k-n : goal.returns-then-k-n
 returns-then-k-n c = after_more _ _ c.if-k-n.true
 
-pub returns : goal.returns
-returns c = after_zero _ _ c.if-k-n.false
+pub returns-else-k-n : goal.returns-else-k-n
+returns-else-k-n c = after_zero _ _ c.if-k-n.false

@@ -7,5 +7,5 @@ use Rattle.rooms.proofs.desk.number_used.Goals as goal
 pub returns-then-number-n : goal.returns-then-number-n
 returns-then-number-n c = used_same _ _ c.if-number-n.true
 
-pub returns : goal.returns
-returns c = used_zero _ _ c.if-number-n.false
+pub returns-else-number-n : goal.returns-else-number-n
+returns-else-number-n c = used_zero _ _ c.if-number-n.false

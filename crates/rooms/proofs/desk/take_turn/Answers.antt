@@ -1,19 +1,22 @@
 -- Rows 19 and 12, then a room has the turn, or nothing is unfinished.
 -- Assumes nothing.
+use mathlib.Core.Path.{◌≡◌}
+use mathlib.Core.List.{[], ◌∷◌}
+use Rattle.base.specs.Outcomes.{code, refused}
+use Rattle.rooms.specs.Internal.{answer_held}
 use Rattle.rooms.proofs.TurnCases.{answer_none, answer_many, answer_short, answer_took, answer_nothing}
 use Rattle.rooms.proofs.TurnCases.{takes_refused, takes_nothing, takes_room, share_lent}
 use Rattle.rooms.proofs.desk.take_turn.Goals as goal
+use Rattle.rooms.proofs.desk.take_turn.Goals.{then-n-eq0-via-then-n-eq0, then-n-eq0-via-else-n-eq0+then-n-gt-MOST_ROOMS}
 
 pub returns-then-n-eq0 : goal.returns-then-n-eq0
 returns-then-n-eq0 c =
-    takes_refused _ _ _ _ (λ i. (c.slice_known-1.given i).fits) _ c.not_taken.result
-    (answer_none _ _ c.args.number c.args.lists.now c.if-n-eq0.true) c.not_taken.ensures
-
-pub returns-then-n-gt-MOST_ROOMS : goal.returns-then-n-gt-MOST_ROOMS
-returns-then-n-gt-MOST_ROOMS c =
-    takes_refused _ _ _ _ (λ i. (c.slice_known-1.given i).fits) _ c.not_taken-then-n-gt-MOST_ROOMS.result
-    (answer_many _ _ c.args.number c.args.lists.now c.if-n-eq0.false c.if-n-gt-MOST_ROOMS.true)
-    c.not_taken-then-n-gt-MOST_ROOMS.ensures
+    let is_refused : answer_held c.args.rows c.args.n c.args.number c.args.lists.now ≡ refused (code 19 (c.args.n ∷ [])) = elim c.then-n-eq0.branch [
+      | then-n-eq0-via-then-n-eq0 w ↦ answer_none c.args.rows c.args.n c.args.number c.args.lists.now w.if-n-eq0.true
+      | then-n-eq0-via-else-n-eq0+then-n-gt-MOST_ROOMS w ↦
+          answer_many c.args.rows c.args.n c.args.number c.args.lists.now w.if-n-eq0.false w.if-n-gt-MOST_ROOMS.true
+    ] in
+    takes_refused _ _ _ _ (λ i. (c.slice_known-1.given i).fits) _ c.not_taken.result is_refused c.not_taken.ensures
 
 pub returns-then-lists-n : goal.returns-then-lists-n
 returns-then-lists-n c =

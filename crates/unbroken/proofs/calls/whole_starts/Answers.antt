@@ -1,4 +1,4 @@
--- The loop's invariant is `Placed`, the measure what is left of the places.
+-- The loop's invariant is `Placed`.
 -- Assumes nothing.
 use native.Mathlib.Omega.{arith}
 use Rattle.list.proofs.ByPlace.{placed_none, placed_next, placed_all}
@@ -10,9 +10,9 @@ loop-i-init c = placed_none _ _ _ (omega arith) c.zeros-starts.ensures
 pub loop-i-preserved : goal.loop-i-preserved
 loop-i-preserved c =
     placed_next _ _ _ _ _ c.loop-i.invariant
-    (omega (arith, c.loop-i-test.true, c.places_held-count.ensures))
+    (rw c.places_held-count.ensures at c.loop-i-test.true)
     c.start_of.ensures
 
 pub returns : goal.returns
 returns c =
-    placed_all _ _ _ _ c.loop-i.invariant (omega (arith, c.loop-i-test.false, c.places_held-count.ensures))
+    placed_all _ _ _ _ c.loop-i.invariant (rw c.places_held-count.ensures at c.loop-i-test.false)
