@@ -1,11 +1,10 @@
 -- What `fields_entry` and `entry_of` are, case by case, from the facts that code has at each answer.
 -- Assumes nothing.
-use mathlib.Core.Path.{◌≡◌, sym, ◌∙◌}
-use mathlib.Core.Bool.{Bool, true, false, cond, ◌&&◌}
+use mathlib.Core.Path.{◌≡◌}
+use mathlib.Core.Bool.{Bool, true, false, cond}
 use mathlib.Core.List.{List, [], ◌∷◌}
 use Prim.Native.Nat.{ℕ, ◌+◌, ◌≤◌, ◌<◌}
 use lib.ListN.{length, get_or}
-use lib.Dec.{eqb}
 use borrow.Author.Tests.{lt-ltb, le-ltb, eq-eqb, ne_eqb}
 use Rattle.base.specs.Outcomes.{code, answered, refused, and_then}
 use Rattle.list.specs.Refusals.{code_of, verdict_of}
@@ -38,18 +37,6 @@ pub entry_is : (f : Frame) (m : Fields) (bs : List ℕ) (serial : ℕ) (seal : S
 unfolding entry_at
 entry_is f m bs serial seal r d p ri di pi r₀ d₀ a b c₁ c₂ c₃ d₁ d₂ d₃ e₁ e₂ =
     rw (a, b, c₁, c₂, c₃, d₁, d₂, d₃, e₁, e₂)
-
--- `default_written`, from what code finds of r and then of d
-module _ (f : Frame) (m : Fields) (e : Entry) (x : Bool) (r₀ : ℕ) (q : r₀ ≡ default_r f) (w : x ≡ (m.r && eqb e.r r₀)) where
-  pub default_r_written : x ≡ true → true ≡ default_written f m e
-  default_r_written t =
-      let z : (m.r && eqb e.r (default_r f)) ≡ true = rw q at (sym w ∙ t) in
-      simp z
-
-  pub default_d_decides : x ≡ false → (y : Bool) (d₀ : ℕ) → d₀ ≡ default_d f → y ≡ (m.d && eqb e.d d₀) → y ≡ default_written f m e
-  default_d_decides t y d₀ p z =
-      let no_r : (m.r && eqb e.r (default_r f)) ≡ false = rw q at (sym w ∙ t) in
-      rw (z, p) (simp no_r)
 
 module _ (f : Frame) (at : ℕ) (m : Fields) (bs : List ℕ) where
   pub fields_short : length bs < size_of m → refused (code 1 ((at + length bs) ∷ [])) ≡ fields_entry f at m bs

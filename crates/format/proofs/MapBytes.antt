@@ -7,6 +7,7 @@ use mathlib.Core.List.{List, [], ◌∷◌}
 use mathlib.Core.Logic.{◌⊎◌, inl, inr}
 use Prim.Native.Nat.{ℕ, ◌+◌, ◌<◌}
 use borrow.Author.Tests.{ne_eqb, eqb-true}
+use lib.Bits.{bit_and}
 use lib.Dec.{eqb}
 use Rattle.format.specs.Maps.{bit, kind_of, legal_map, fields_of, map_of, map_fields, map_answer_of}
 use Rattle.list.specs.declared.types.Kind.{Kind}
@@ -47,6 +48,10 @@ legal b h = same _ _ (at 256 (λ k. beq (legal_map k) (among pause_maps k)) refl
 
 pub breaks : (b : ℕ) → b < 256 → Excluded pause_maps b → (at : ℕ) → map_answer_of at Breaks ≡ map_fields at b
 breaks b h x at = simp (legal b h ∙ not_among pause_maps b x)
+
+-- the test of bit 5
+pub whole_bit : (b : ℕ) → b < 256 → bit 5 b ≡ not (eqb (bit_and b 32) 0)
+whole_bit b h = same _ _ (at 256 (λ k. beq (bit 5 k) (not (eqb (bit_and k 32) 0))) refl b h)
 
 -- what a map byte with these fields says
 abbrev pub following : Bool → Bool → Bool → ℕ → MapAnswer

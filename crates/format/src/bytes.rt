@@ -7,14 +7,14 @@ pub(crate) fn u16_at(s: &[u8], i: usize) -> u16
     requires { i + 1 < length s.now }
     ensures { result ≡ u16_at s.now i }
 {
-    s[i] as u16 + 256 * (s[i + 1] as u16)
+    u16::from_le_bytes([s[i], s[i + 1]])
 }
 
 pub(crate) fn u32_at(s: &[u8], i: usize) -> u32
     requires { i + 3 < length s.now }
     ensures { result ≡ u32_at s.now i }
 {
-    u16_at(s, i) as u32 + 65536 * (u16_at(s, i + 2) as u32)
+    u32::from_le_bytes([s[i], s[i + 1], s[i + 2], s[i + 3]])
 }
 
 // Each `put` writes at place `at` and answers the place after what it wrote.
@@ -22,8 +22,7 @@ pub(crate) fn put_u16(out: &mut [u8], at: usize, x: u16) -> usize
     requires { at + 2 ≤ length out.old }
     ensures { Wrote out.old at (u16_bytes x) out.new result }
 {
-    out[at] = (x % 256) as u8;
-    out[at + 1] = (x / 256 % 256) as u8;
+    out[at..at + 2].copy_from_slice(&x.to_le_bytes());
     at + 2
 }
 
@@ -31,6 +30,6 @@ pub(crate) fn put_u32(out: &mut [u8], at: usize, x: u32) -> usize
     requires { at + 4 ≤ length out.old }
     ensures { Wrote out.old at (u32_bytes x) out.new result }
 {
-    let half = put_u16(out, at, (x % 65536) as u16);
-    put_u16(out, half, (x / 65536) as u16)
+    out[at..at + 4].copy_from_slice(&x.to_le_bytes());
+    at + 4
 }

@@ -54,15 +54,14 @@ fn entry_at(frame: Frame, m: Fields, rest: &[u8]) -> Entry
     requires { size_of m ≤ length rest.now }
     ensures { result ≡ entry_at frame m rest.now }
 {
-    let kind = m.kind;
     let seal = seal_at(rest, m.seal);
     Entry {
         serial: u32_at(rest, 1),
-        seal: seal,
+        seal,
         r: minute_at(rest, m.r, r_place(m), default_r(frame)),
         d: minute_at(rest, m.d, d_place(m), default_d(frame)),
         p: u16_at(rest, p_place(m)),
-        kind: kind,
+        kind: m.kind,
     }
 }
 
@@ -70,16 +69,13 @@ fn entry_at(frame: Frame, m: Fields, rest: &[u8]) -> Entry
 fn at_default(follows: bool, x: u16, default: u16) -> bool
     ensures { result ≡ (follows && eqb x default) }
 {
-    if follows { x == default } else { false }
+    follows && x == default
 }
 
 fn default_written(frame: Frame, m: Fields, e: Entry) -> bool
     ensures { result ≡ default_written frame m e }
 {
-    if at_default(m.r, e.r, default_r(frame)) {
-        return true;
-    }
-    at_default(m.d, e.d, default_d(frame))
+    at_default(m.r, e.r, default_r(frame)) || at_default(m.d, e.d, default_d(frame))
 }
 
 // Rows 1, 5, 16, 6 and 7 of an entry whose map byte is legal.
@@ -107,7 +103,7 @@ pub(crate) fn read_entry(frame: Frame, at: usize, rest: &[u8]) -> EntryAnswer
     requires { at + length rest.now < 2 ^ 64 }
     ensures { entry_answer_of result ≡ entry_of frame at rest.now }
 {
-    if rest.len() == 0 {
+    if rest.is_empty() {
         return EntryAnswer::NotTaken(Refusal::BytesMissing(at + rest.len()));
     }
     let answer = map_answer(rest[0]);

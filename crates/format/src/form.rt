@@ -24,13 +24,11 @@ fn has_number(seal: Seal) -> bool
 pub(crate) fn fields_in(frame: Frame, e: Entry) -> Fields
     ensures { result ≡ fields_in frame e }
 {
-    let seal = e.seal;
-    let kind = e.kind;
     Fields {
-        seal: has_number(seal),
+        seal: has_number(e.seal),
         r: e.r != default_r(frame),
         d: e.d != default_d(frame),
-        kind: kind,
+        kind: e.kind,
     }
 }
 
@@ -48,10 +46,7 @@ pub(crate) fn put_minute(out: &mut [u8], at: usize, follows: bool, x: u16) -> us
     requires { at + length (minute_bytes follows x) ≤ length out.old }
     ensures { Wrote out.old at (minute_bytes follows x) out.new result }
 {
-    if follows {
-        return put_u16(out, at, x);
-    }
-    at
+    if follows { put_u16(out, at, x) } else { at }
 }
 
 fn put_times(out: &mut [u8], at: usize, m: Fields, e: Entry) -> usize
@@ -68,11 +63,10 @@ pub(crate) fn put_entry(out: &mut [u8], at: usize, frame: Frame, e: Entry) -> us
     requires { at + length (entry_bytes frame e) ≤ length out.old }
     ensures { Wrote out.old at (entry_bytes frame e) out.new result }
 {
-    let seal = e.seal;
     let m = fields_in(frame, e);
     out[at] = map_of(m);
     let a = put_u32(out, at + 1, e.serial);
-    let b = put_seal(out, a, seal);
+    let b = put_seal(out, a, e.seal);
     put_times(out, b, m, e)
 }
 
@@ -81,12 +75,9 @@ pub(crate) fn list_size(list: DayList) -> usize
     requires { list.n ≤ most_entries }
     ensures { result ≡ length (bytes_of list) }
 {
-    let n = list.n as usize;
     let mut size = header_size(list.frame);
-    let mut i: usize = 0;
-    while i < n {
-        size += size_of(fields_in(list.frame, list.entries[i]));
-        i += 1;
+    for e in &list.entries[..usize::from(list.n)] {
+        size += size_of(fields_in(list.frame, *e));
     }
     size
 }

@@ -42,10 +42,10 @@ pub(crate) fn map_answer(map: u8) -> MapAnswer
 fn kind_of(map: u8) -> Kind
     ensures { result ≡ kind_of (bit 5 map) }
 {
-    if map / 32 % 2 == 1 {
-        Kind::Whole
-    } else {
+    if map & 32 == 0 {
         Kind::Pause
+    } else {
+        Kind::Whole
     }
 }
 
@@ -53,12 +53,7 @@ fn follow(map: u8, seal: bool, r: bool, d: bool) -> MapAnswer
     ensures { result ≡ MapAnswer.Follow (record { seal = seal; r = r; d = d; kind = kind_of (bit 5 map) }) }
 {
     let kind = kind_of(map);
-    MapAnswer::Follow(Fields {
-        seal: seal,
-        r: r,
-        d: d,
-        kind: kind,
-    })
+    MapAnswer::Follow(Fields { seal, r, d, kind })
 }
 
 // x, with y added where a field follows.
@@ -73,12 +68,8 @@ pub(crate) fn plus_if(x: usize, follows: bool, y: usize) -> usize
 pub(crate) fn map_of(m: Fields) -> u8
     ensures { result ≡ map_of m }
 {
-    let kind = m.kind;
-    let bits = plus_if(plus_if(plus_if(17, m.seal, 2), m.r, 4), m.d, 8);
-    match kind {
-        Kind::Pause => bits as u8,
-        Kind::Whole => (bits + 32) as u8,
-    }
+    let whole = matches!(m.kind, Kind::Whole);
+    17 | u8::from(m.seal) << 1 | u8::from(m.r) << 2 | u8::from(m.d) << 3 | u8::from(whole) << 5
 }
 
 // Where r starts in an entry, counted from its map byte; the serial is at 1, the seal at 5.

@@ -24,8 +24,7 @@ fn read_body(bytes: &[u8], frame: Frame, n: u8, from: usize) -> ReadAnswer
     let none = empty_list();
     let mut entries = none.entries;
     let mut at = from;
-    let mut i: usize = 0;
-    while i < n as usize {
+    for i in 0..usize::from(n) {
         let one = read_entry(frame, at, &bytes[at..]);
         match one {
             EntryAnswer::Taken(e, size) => {
@@ -36,7 +35,6 @@ fn read_body(bytes: &[u8], frame: Frame, n: u8, from: usize) -> ReadAnswer
                 return read_refused(x);
             }
         }
-        i += 1;
     }
     if at < bytes.len() {
         return read_refused(Refusal::BytesLeftOver(at));
@@ -63,10 +61,7 @@ fn read_opening(bytes: &[u8], h: u16, n: u8) -> ReadAnswer
     if opening == 0 {
         return read_refused(Refusal::BadOpening(3));
     }
-    let frame = Frame {
-        h: h,
-        opening: opening,
-    };
+    let frame = Frame { h, opening };
     let fault = opening_fault(3, frame);
     match fault {
         Verdict::Accepted => read_body(bytes, frame, n, 5),
@@ -82,7 +77,7 @@ fn read_opened(bytes: &[u8], h: u16, n: u8) -> ReadAnswer
     if says_opening(bytes[2]) {
         return read_opening(bytes, h, n);
     }
-    read_body(bytes, Frame { h: h, opening: 0 }, n, 3)
+    read_body(bytes, Frame { h, opening: 0 }, n, 3)
 }
 
 // Rows 1 to 8, 15 and 16.
@@ -107,12 +102,9 @@ fn map_place(list: DayList, entry: usize) -> usize
     requires { entry < most_entries }
     ensures { result ≡ length (bytes_of (first_entries list entry)) }
 {
-    let frame = list.frame;
-    let entries = list.entries;
     list_size(DayList {
-        frame: frame,
         n: entry as u8,
-        entries: entries,
+        ..list
     })
 }
 

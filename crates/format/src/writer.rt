@@ -15,13 +15,9 @@ fn put_list(list: DayList, out: &mut [u8])
     requires { (list.n ≤ most_entries) × (length (bytes_of list) ≤ length out.old) }
     ensures { out.new ≡ sets out.old 0 (bytes_of list) }
 {
-    let n = list.n as usize;
-    let frame = list.frame;
-    let mut at = put_header(out, frame, list.n);
-    let mut i: usize = 0;
-    while i < n {
-        at = put_entry(out, at, frame, list.entries[i]);
-        i += 1;
+    let mut at = put_header(out, list.frame, list.n);
+    for e in &list.entries[..usize::from(list.n)] {
+        at = put_entry(out, at, list.frame, *e);
     }
 }
 

@@ -1,12 +1,8 @@
 -- `form::list_size` meets its contract. The loop's invariant is `SizedSoFar`: what was counted and what is left make the one form's
--- length. The measure is what is left of n.
+-- length.
 -- Assumes nothing.
-use Prim.Native.Nat.{◌-◌}
 use Rattle.format.proofs.WriteCases.{SizedSoFar}
 use Rattle.format.proofs.form.list_size.Given as goal
 
-abbrev pub invariant-loop-i : goal.invariant-loop-i
-invariant-loop-i l = SizedSoFar l.list l.size l.i
-
-abbrev pub decreases-loop-i : goal.decreases-loop-i
-decreases-loop-i l = l.list.n - l.i
+abbrev pub invariant-loop-e : goal.invariant-loop-e
+invariant-loop-e l = SizedSoFar l.fn.list l.size l.e-index

@@ -1,11 +1,11 @@
 -- `map::kind_of` meets its contract: the test is bit 5.
 -- Assumes nothing.
 use borrow.Author.Tests.{eq-eqb, ne_eqb}
+use Rattle.format.proofs.MapBytes.{whole_bit}
 use Rattle.format.proofs.map.kind_of.Goals as goal
 
--- `map::kind_of` meets its contract: the test is bit 5.
-pub returns-then-map-eq1 : goal.returns-then-map-eq1
-returns-then-map-eq1 c = simp (eq-eqb _ _ c.if-map-eq1.true)
+pub returns-then-map-eq0 : goal.returns-then-map-eq0
+returns-then-map-eq0 c = simp (whole_bit c.args.map c.ranges.map.fits, eq-eqb _ _ c.if-map-eq0.true)
 
-pub returns-else-map-eq1 : goal.returns-else-map-eq1
-returns-else-map-eq1 c = simp (ne_eqb _ _ c.if-map-eq1.false)
+pub returns-else-map-eq0 : goal.returns-else-map-eq0
+returns-else-map-eq0 c = simp (whole_bit c.args.map c.ranges.map.fits, ne_eqb _ _ c.if-map-eq0.false)

@@ -1,5 +1,5 @@
 -- `reader::read_body` meets its contract. The loop's invariant is `SoFar`: the entries read stand in front of those that are still
--- to come, and the places after them are blank. The measure is what is left of n.
+-- to come, and the places after them are blank.
 -- Assumes nothing.
 use mathlib.Core.Path.{sym, ap, ◌∙◌}
 use native.Mathlib.Omega.{arith}
@@ -23,21 +23,21 @@ overflow_add-at c =
 
 pub returns-in-NotTaken : goal.returns-in-NotTaken
 returns-in-NotTaken c =
-    let o = entry_refused c.loop-i.invariant c.read_entry-one.result _ c.loop-i-test.true c.read_entry-one.ensures c.in-NotTaken.is in
+    let o = entry_refused c.loop-i.invariant c.read_entry-one.result _ (omega arith) c.read_entry-one.ensures c.in-NotTaken.is in
     reads_refused _ _ _ c.read_refused.ensures (body_refused c.args.bytes.now _ _ _ c.requires.2 c.requires.3 c.requires.4 _ o)
 
 pub loop-i-preserved : goal.loop-i-preserved
 loop-i-preserved c =
-    next c.loop-i.invariant c.read_entry-one.result _ _ c.requires.1 c.loop-i-test.true c.read_entry-one.ensures c.in-Taken.is
+    next c.loop-i.invariant c.read_entry-one.result _ _ c.requires.1 (omega arith) c.read_entry-one.ensures c.in-Taken.is
 
 pub returns-then-at-bytes : goal.returns-then-at-bytes
 returns-then-at-bytes c =
-    let o = done c.loop-i.invariant c.loop-i-test.false in
+    let o = done c.loop-i.invariant (omega arith) in
     reads_refused _ _ _ c.read_refused-then-at-bytes.ensures
     (body_left c.args.bytes.now _ _ _ c.requires.2 c.requires.3 c.requires.4 _ _ o c.if-at-bytes.true)
 
 pub returns : goal.returns
 returns c =
-    let o = done c.loop-i.invariant c.loop-i-test.false in
+    let o = done c.loop-i.invariant (omega arith) in
     reads_list _ _ (body_done c.args.bytes.now _ _ _ c.requires.2 c.requires.3 c.requires.4 _ _ o c.if-at-bytes.false ∙ ap answered
-    (sym (list_read c.loop-i.invariant c.requires.1 c.loop-i-test.false)))
+    (sym (list_read c.loop-i.invariant c.requires.1 (omega arith))))
