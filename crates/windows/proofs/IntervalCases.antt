@@ -1,22 +1,23 @@
 -- The right ends and the interval shown, in each case that the code meets.
 -- Assumes nothing.
-use mathlib.Core.Path.{◌≡◌, refl, sym, ap, subst, ◌∙◌}
-use mathlib.Core.Bool.{Bool, true, false, cond, ◌&&◌, true≢false, and-eq-true_iff}
+use mathlib.Core.Path.{◌≡◌, refl, sym, ◌∙◌}
+use mathlib.Core.Bool.{Bool, true, false, cond, ◌&&◌, and-eq-true_iff}
 use mathlib.Core.List.{[], ◌∷◌}
-use Prim.Native.Nat.{ℕ, ◌+◌, ◌*◌, ◌<◌, ◌≤◌, min}
+use Prim.Native.Nat.{ℕ, ◌+◌, ◌*◌, ◌<◌, ◌≤◌}
 use native.Mathlib.Numerals.{add-one}
 use native.Mathlib.Omega.{arith}
 use borrow.Author.Tests.{leb-true, leb-false, ltb-true, ltb-false, lt-ltb, le-ltb}
 use lib.Dec.{leb, ltb}
-use Rattle.base.specs.Outcomes.{code, answered, refused}
+use Rattle.std.proofs.Common.{Option, Some, None}
+use Rattle.std.specs.Option.{option_or}
+use Rattle.base.specs.Outcomes.{code, Outcome, answered, refused}
 use Rattle.base.specs.Counting.{sum, better, best, smaller}
-use Rattle.windows.specs.Windows.{Windows, windows_in}
-use Rattle.windows.specs.Intervals.{work, left_end, right_of, right_end, overload_of}
-use Rattle.windows.specs.RunningSums.{LatestReleaseFirst, boxes, additions_for, right_of_first, additions_at}
-use Rattle.windows.specs.Internal.{FindsLeft, FindsRight}
-use Rattle.windows.specs.Windows.{held_in}
-use Rattle.windows.specs.declared.types.WindowSet.{WindowSet}
+use Rattle.windows.specs.Windows.{Windows}
+use Rattle.windows.specs.Intervals.{left_end, right_of, right_end, overload_of}
+use Rattle.windows.specs.RunningSums.{boxes, additions_for, right_of_first, additions_at}
+use Rattle.windows.specs.Internal.{interval_at, FindsLeft, FindsRight}
 use Rattle.windows.specs.declared.running_sum.RunningSum.{RunningSum}
+use Rattle.windows.specs.declared.interval.Interval.{Interval}
 use Rattle.windows.specs.declared.interval.ShownInterval.{ShownInterval}
 use Rattle.base.proofs.Scans.{smaller_ranks, best_cases}
 use Rattle.windows.proofs.ScanCases.{unfit, first, wins, stays}
@@ -36,6 +37,11 @@ module _ (w : Windows) where
   few_made : (i m : ℕ) → m ≡ sum i (additions_at w) → m ≤ i * w.n
   few_made i m e = omega (arith, e, sum_most i w.n (additions_at w) (λ j _. few_at j))
 
+-- whether an overloaded interval is shown that ends at b or before it
+abbrev pub ends_by : Option Interval → ℕ → Bool
+ends_by None b = false
+ends_by (Some v) b = leb v.b b
+
 -- The right end of place i, if those before it show f.
 module _ (w : Windows) (i : ℕ) (f : ShownInterval) (so : FindsRight w i f) where
   abbrev k : ℕ
@@ -46,137 +52,80 @@ module _ (w : Windows) (i : ℕ) (f : ShownInterval) (so : FindsRight w i f) whe
   unfolding best
   next_is k' e = rw add-one (sym e)
 
-  -- whether an overloaded interval was found, as a place
-  found_in : f.overloaded ≡ true → k < w.n
-  found_in e = ltb-true _ _ (sym so.overloaded_is ∙ e)
-
-  none_in : i ≤ w.n → f.overloaded ≡ false → k ≡ w.n
+  none_in : i ≤ w.n → ltb k w.n ≡ false → k ≡ w.n
   none_in l e =
       best_cases w.n (right_of w) (smaller w.d) (smaller_ranks w.d) i l (k ≡ w.n) (λ z _. z)
-      (λ found. absurd (omega (arith, ltb-false k w.n (sym so.overloaded_is ∙ e), found.below)))
-
-  -- the additions made for i right ends are no more than the code can count
-  pub additions_most : i ≤ 64 → w.n ≤ 64 → f.sum.earlier + f.sum.additions ≤ 64 * 64
-  additions_most l few = omega (arith, so.additions_are, sum_most i 64 (additions_at w) (λ j _. omega (arith, few, few_at w j)))
+      (λ found. absurd (omega (arith, ltb-false k w.n e, found.below)))
 
   -- whether a right end is shown that is no larger
-  skips : (x : Bool) → x ≡ (f.overloaded && leb f.b (w.d i)) → (ltb k w.n && leb (w.d k) (w.d i)) ≡ x
-  skips x says = go f.overloaded refl
+  skips : (ltb k w.n && leb (w.d k) (w.d i)) ≡ ends_by f.overloaded (w.d i)
+  skips = rw so.overloaded_is (go (ltb k w.n))
     where
-      go : (t : Bool) → f.overloaded ≡ t → (ltb k w.n && leb (w.d k) (w.d i)) ≡ x
-      go true o = rw (says, ← so.overloaded_is, o, ← so.b_is o) refl
-      go false o = rw (says, ← so.overloaded_is, o) refl
+      go : (t : Bool) → (t && leb (w.d k) (w.d i)) ≡ ends_by (cond t (Some (interval_at w (w.d k))) None) (w.d i)
+      go true = refl
+      go false = refl
 
   -- the additions of one place more
-  adds_at : (x : Bool) → x ≡ (f.overloaded && leb f.b (w.d i)) → (m : ℕ)
+  adds_at : (x : Bool) → ends_by f.overloaded (w.d i) ≡ x → (m : ℕ)
       → m ≡ f.sum.earlier + f.sum.additions + cond x 0 (additions_for w (w.d i)) → m ≡ sum (i + 1) (additions_at w)
   unfolding sum
-  adds_at x says m e = rw (add-one, skips x says) (omega (arith, e, so.additions_are))
+  adds_at x says m e = rw (add-one, skips, says) (omega (arith, e, so.additions_are))
 
   -- place i shows nothing new: with the sum s
   still_shown : (s : RunningSum) → right_of_first w (i + 1) ≡ k → s.earlier + s.additions ≡ sum (i + 1) (additions_at w)
-      → FindsRight w (i + 1) (record { overloaded = f.overloaded; a = f.a; b = f.b; work = f.work; sum = s })
+      → FindsRight w (i + 1) (record { overloaded = f.overloaded; sum = s })
   still_shown s e adds =
-      record {
-        overloaded_is = so.overloaded_is ∙ sym (ap (λ (z : ℕ). ltb z w.n) e);
-        b_is = λ h. so.b_is h ∙ sym (ap w.d e);
-        a_is = so.a_is;
-        work_is = so.work_is;
-        additions_are = adds;
-        bounded = few_made w (i + 1) _ adds;
-      }
+      record { overloaded_is = rw e so.overloaded_is; additions_are = adds; bounded = few_made w (i + 1) _ adds }
 
   -- its b is no smaller than the one shown
-  pub right_stays : (x : Bool) → x ≡ (f.overloaded && leb f.b (w.d i)) → x ≡ true → FindsRight w (i + 1) f
-  right_stays x says e =
-      let z = (and-eq-true_iff f.overloaded (leb f.b (w.d i))).0 (sym says ∙ e) in
-      let below : k < w.n = found_in z.0 in
-      let high : w.d k ≤ w.d i = omega (arith, so.b_is z.0, leb-true f.b (w.d i) z.1) in
+  pub right_stays : ends_by f.overloaded (w.d i) ≡ true → FindsRight w (i + 1) f
+  right_stays e =
+      let z = (and-eq-true_iff (ltb k w.n) (leb (w.d k) (w.d i))).0 (skips ∙ e) in
+      let below : k < w.n = ltb-true k w.n z.0 in
+      let high : w.d k ≤ w.d i = leb-true (w.d k) (w.d i) z.1 in
       still_shown f.sum
       (next_is k (stays w.n (right_of w) (smaller w.d) i k (λ q. omega (arith, q)) (le-ltb (w.d i) (w.d k) high)))
-      (adds_at x says _ (rw e (omega arith)))
+      (adds_at true e _ (omega arith))
 
   -- the walk for its b was made
   module _ (o : ℕ → ℕ) (e : ShownInterval) (left : FindsLeft w o (w.d i) f.sum e) where
-    more_adds : (x : Bool) → x ≡ (f.overloaded && leb f.b (w.d i)) → x ≡ false
-        → e.sum.earlier + e.sum.additions ≡ sum (i + 1) (additions_at w)
-    more_adds x says q = adds_at x says _ (rw q (omega (arith, left.earlier, left.additions_are)))
-
-    pub right_none : (x : Bool) → x ≡ (f.overloaded && leb f.b (w.d i)) → x ≡ false → e.overloaded ≡ false
-        → FindsRight w (i + 1) (record { overloaded = f.overloaded; a = f.a; b = f.b; work = f.work; sum = e.sum })
-    right_none x says q h =
-        still_shown e.sum (next_is k (unfit w.n (right_of w) (smaller w.d) i k (sym left.overloaded_is ∙ h)))
-        (more_adds x says q)
-
-    pub right_shown : i < w.n → (x : Bool) → x ≡ (f.overloaded && leb f.b (w.d i)) → x ≡ false → e.overloaded ≡ true
-        → FindsRight w (i + 1) e
-    right_shown l x says q h =
-        let at = next_is i (better_is f.overloaded refl) in
-        record {
-          overloaded_is = h ∙ sym (rw at (lt-ltb i w.n l));
-          b_is = λ _. left.b_is ∙ sym (ap w.d at);
-          a_is = λ _. left.a_is h ∙ sym (ap (λ (z : ℕ). w.r (left_end w z)) left.b_is);
-          work_is = λ _. rw (left.at, left.b_is) (left.work_is ∙ left.reached.kept_is);
-          additions_are = more_adds x says q;
-          bounded = few_made w (i + 1) _ (more_adds x says q);
-        }
+    pub right_walked : i < w.n → ends_by f.overloaded (w.d i) ≡ false
+        → FindsRight w (i + 1) (record { overloaded = option_or e.overloaded f.overloaded; sum = e.sum })
+    right_walked l q = rw left.overloaded_is (go (right_of w i) refl)
       where
-        fits : right_of w i ≡ true
-        fits = sym left.overloaded_is ∙ h
+        adds : e.sum.earlier + e.sum.additions ≡ sum (i + 1) (additions_at w)
+        adds = adds_at false q _ (omega (arith, left.earlier, left.additions_are))
 
-        better_is : (t : Bool) → f.overloaded ≡ t → i ≡ better w.n (right_of w) (smaller w.d) i k
-        better_is false o = first w.n (right_of w) (smaller w.d) i k fits (none_in (omega (arith, l)) o)
-        better_is true o =
-            let low : w.d i < f.b = leb-false f.b (w.d i) (sym (ap (λ (z : Bool). z && leb f.b (w.d i)) o) ∙ (sym says ∙ q)) in
-            wins w.n (right_of w) (smaller w.d) i k fits (λ z. omega (arith, z, found_in o))
-            (lt-ltb (w.d i) (w.d k) (omega (arith, low, so.b_is o)))
+        -- it is better than the one shown, if one is
+        better_is : right_of w i ≡ true → (t : Bool) → ltb k w.n ≡ t → i ≡ better w.n (right_of w) (smaller w.d) i k
+        better_is fits false h = first w.n (right_of w) (smaller w.d) i k fits (none_in (omega (arith, l)) h)
+        better_is fits true h =
+            let low : w.d i < w.d k = leb-false (w.d k) (w.d i) (rw h at (skips ∙ q)) in
+            wins w.n (right_of w) (smaller w.d) i k fits (λ z. omega (arith, z, ltb-true k w.n h)) (lt-ltb (w.d i) (w.d k) low)
 
--- All right ends, one after the other.
-pub record RightSoFar (w : Windows) (o : ℕ → ℕ) (i : ℕ) (f : ShownInterval) : Type 0 where
-  pub few : w.n ≤ 64
-  pub order : LatestReleaseFirst w o
-  pub within : i ≤ w.n
-  pub shown : FindsRight w i f
+        go : (t : Bool) → right_of w i ≡ t
+            → FindsRight w (i + 1) (record { overloaded = option_or (cond t (Some (interval_at w (w.d i))) None) f.overloaded; sum = e.sum })
+        go false h = still_shown e.sum (next_is k (unfit w.n (right_of w) (smaller w.d) i k h)) adds
+        go true h =
+            let at = next_is i (better_is h (ltb k w.n) refl) in
+            record { overloaded_is = rw (at, lt-ltb i w.n l) refl; additions_are = adds; bounded = few_made w (i + 1) _ adds }
 
-module _ (w : Windows) (o : ℕ → ℕ) where
-  pub right_start : w.n ≤ 64 → LatestReleaseFirst w o → (f : ShownInterval) → f.overloaded ≡ false
-      → f.sum.earlier + f.sum.additions ≡ 0 → RightSoFar w o 0 f
+-- no right ends, and all of them
+module _ (w : Windows) (f : ShownInterval) where
+  pub right_start : f.overloaded ≡ None → f.sum.earlier + f.sum.additions ≡ 0 → FindsRight w 0 f
   unfolding best sum
-  right_start few order f e z =
-      record {
-        few = few;
-        order = order;
-        within = omega arith;
-        shown = record {
-          overloaded_is = e ∙ sym (le-ltb w.n w.n (omega arith));
-          b_is = λ h. absurd (true≢false (sym h ∙ e));
-          a_is = λ h. absurd (true≢false (sym h ∙ e));
-          work_is = λ h. absurd (true≢false (sym h ∙ e));
-          additions_are = z;
-          bounded = omega (arith, z);
-        };
-      }
+  right_start e z = record { overloaded_is = rw (e, le-ltb w.n w.n (omega arith)) refl; additions_are = z; bounded = omega (arith, z) }
 
-  module _ (i : ℕ) (f : ShownInterval) (so : RightSoFar w o i f) where
-    pub right_next : i < w.n → (f' : ShownInterval) → FindsRight w (i + 1) f' → RightSoFar w o (i + 1) f'
-    right_next l f' shown = record { few = so.few; order = so.order; within = omega arith; shown = shown }
+  -- the outcome that an interval shown stands for
+  abbrev outcome : Option Interval → Outcome (Unit {0})
+  outcome None = answered tt
+  outcome (Some v) = refused (code 9 (v.a ∷ v.b ∷ v.work ∷ []))
 
-    pub right_done : w.n ≤ i → FindsRight w w.n f
-    right_done l = let z : i ≡ w.n = omega (arith, so.within) in subst (λ (m : ℕ). FindsRight w m f) z so.shown
-
--- The whole test, of the n places that the arrays hold.
-module _ (s : WindowSet) (n : ℕ) (holds : n ≡ min s.n 64) (f : ShownInterval) (so : FindsRight (held_in n s.r s.d s.p) n f) where
-  abbrev held : Windows
-  held = held_in n s.r s.d s.p
-
-  right : ltb (right_end held) n ≡ f.overloaded
-  unfolding right_end
-  right = sym so.overloaded_is
-
-  pub none_overloaded : f.overloaded ≡ false → answered tt ≡ overload_of (windows_in s)
-  unfolding overload_of right_end left_end work
-  none_overloaded h = rw (← holds, right, h) refl
-
-  pub overload_shown : f.overloaded ≡ true → refused (code 9 (f.a ∷ f.b ∷ f.work ∷ [])) ≡ overload_of (windows_in s)
-  unfolding overload_of right_end left_end work
-  overload_shown h = rw (← holds, right, h, so.work_is h, so.a_is h, so.b_is h) refl
+  module _ (so : FindsRight w w.n f) where
+    pub overload_shown : outcome f.overloaded ≡ overload_of w
+    unfolding overload_of right_end
+    overload_shown = rw so.overloaded_is (go (ltb (right_end w) w.n) refl)
+      where
+        go : (t : Bool) → ltb (right_end w) w.n ≡ t → outcome (cond t (Some (interval_at w (w.d (right_end w)))) None) ≡ overload_of w
+        go true h = rw h refl
+        go false h = rw h refl

@@ -4,54 +4,38 @@ use mathlib.Core.Path.{◌≡◌, refl, sym, ap, subst, ◌∙◌}
 use mathlib.Core.Bool.{Bool, true, false, ◌&&◌, true≢false}
 use Prim.Native.Nat.{ℕ, ◌+◌, ◌-◌, ◌<◌, ◌≤◌}
 use native.Mathlib.Omega.{arith}
-use borrow.Author.Tests.{le-leb, lt-leb, lt-ltb, le-ltb}
+use borrow.Author.Tests.{lt-leb, lt-ltb, le-ltb}
 use lib.Dec.{ltb}
+use Rattle.std.proofs.Common.{Some, None}
 use Rattle.base.specs.Counting.{larger}
 use Rattle.windows.specs.Windows.{Windows}
 use Rattle.windows.specs.Intervals.{is_overloaded, left_of, left_end}
 use Rattle.windows.specs.RunningSums.{LatestReleaseFirst, boxes, AtLeftEnd, WalksDown, anew, Reaches, at_start, next_end}
 use Rattle.windows.specs.Internal.{Passes, FindsLeft}
 use Rattle.windows.specs.declared.running_sum.RunningSum.{RunningSum}
-use Rattle.windows.specs.declared.interval.ShownInterval.{ShownInterval}
 use Rattle.base.proofs.Sums.{le_or_lt}
 use Rattle.base.proofs.Scans.{larger_ranks, best_cases, best_some, best_largest}
 use Rattle.base.proofs.Permutations.{once_in, once_has}
 use Rattle.windows.proofs.RunningSums.{SumSoFar, falls, at_left_end, sum_anew, sum_after, end_reached, sum_law}
 
--- A place that is passed: its box ends after b, or enters.
-module _ (b d p : ℕ) (s : RunningSum) (small : p ≤ 65535) where
-  pub passes_out : b < d
-      → Passes b d p s (record { a = s.a; passed = s.passed + 1; kept = s.kept; additions = s.additions; earlier = s.earlier })
-  passes_out h =
-      let z = lt-leb d b h in
-      record { a = refl; passed = refl; kept = rw z (omega arith); additions = rw z (omega arith); earlier = refl; small = small }
-
-  pub passes_in : d ≤ b
-      → Passes b d p s (record { a = s.a; passed = s.passed + 1; kept = s.kept + p; additions = s.additions + 1; earlier = s.earlier })
-  passes_in h =
-      let z = le-leb d b h in
-      record { a = refl; passed = refl; kept = rw z refl; additions = rw z refl; earlier = refl; small = small }
+-- A place that is passed, whose box ends after b.
+pub passes_out : (b d p : ℕ) (s : RunningSum) → p ≤ 65535 → b < d → Passes b d p s (record s { passed = s.passed + 1 })
+passes_out b d p s small h =
+    let z = lt-leb d b h in
+    record { a = refl; passed = refl; kept = rw z (omega arith); additions = rw z (omega arith); earlier = refl; small = small }
 
 -- The walk over the left ends for b, from the sum s on: none was overloaded so far.
 pub record NoneSoFar (w : Windows) (o : ℕ → ℕ) (b : ℕ) (s s' : RunningSum) : Type 0 where
-  pub few : w.n ≤ 64
-  pub order : LatestReleaseFirst w o
   pub so_far : SumSoFar w o b s'
   pub walk : Reaches w o b s s'
   pub none : (y : ℕ) → y < s'.passed → is_overloaded w (w.r (o y)) b ≡ true → ⊥
   pub earlier : s'.earlier ≡ s.earlier
 
--- what is shown where the walk ends with the sum t
-abbrev shown_at : Bool → ℕ → RunningSum → ShownInterval
-shown_at x b t = record { overloaded = x; a = t.a; b = b; work = t.kept; sum = t }
-
-module _ (w : Windows) (o : ℕ → ℕ) (b : ℕ) (before s : RunningSum) (starts : s ≡ anew before) where
-  pub left_start : w.n ≤ 64 → LatestReleaseFirst w o → NoneSoFar w o b s s
-  left_start few order =
+module _ (w : Windows) (o : ℕ → ℕ) (order : LatestReleaseFirst w o) (b : ℕ) (before s : RunningSum) (starts : s ≡ anew before) where
+  pub left_start : NoneSoFar w o b s s
+  left_start =
       rw starts
       (record {
-        few = few;
-        order = order;
         so_far = sum_anew w o b _;
         walk = at_start;
         none = λ y l _. omega (arith, l);
@@ -67,7 +51,7 @@ module _ (w : Windows) (o : ℕ → ℕ) (b : ℕ) (before s : RunningSum) (star
     module _ (t : RunningSum) (more : s'.passed < w.n) (down : WalksDown w o b s' t) (x : Bool)
         (says : x ≡ (ltb t.a b && ltb (b - t.a) t.kept)) where
       reached : AtLeftEnd w b t
-      reached = end_reached w o b so.order s' t down so.so_far
+      reached = end_reached w o b order s' t down so.so_far
 
       test_is : is_overloaded w t.a b ≡ x
       test_is = rw (← reached.kept_is) (sym says)
@@ -75,8 +59,6 @@ module _ (w : Windows) (o : ℕ → ℕ) (b : ℕ) (before s : RunningSum) (star
       pub left_next : x ≡ false → NoneSoFar w o b s t
       left_next e =
           record {
-            few = so.few;
-            order = so.order;
             so_far = sum_after w o b s' t down so.so_far;
             walk = next_end so.walk down;
             none =
@@ -88,26 +70,23 @@ module _ (w : Windows) (o : ℕ → ℕ) (b : ℕ) (before s : RunningSum) (star
           }
 
       -- the first that is overloaded is the largest
-      pub left_shown : x ≡ true → FindsLeft w o b before (shown_at true b t)
+      pub left_shown : x ≡ true → FindsLeft w o b before (record { overloaded = Some (record { a = t.a; b = b; work = t.kept }); sum = t })
       unfolding left_end
       left_shown e =
           let i = o s'.passed in
-          let place = once_in w.n o so.order.once s'.passed more in
+          let place = once_in w.n o order.once s'.passed more in
           let over : is_overloaded w (w.r i) b ≡ true = rw (← down.a_is) (test_is ∙ e) in
           let found = best_some w.n (left_of w b) _ (larger_ranks w.r) w.n (omega arith) i place over in
-          let z = once_has w.n o so.order.once (left_end w b) found.below in
+          let z = once_has w.n o order.once (left_end w b) found.below in
           let most : w.r i ≤ w.r (left_end w b) = best_largest w.n _ w.r _ found i place over in
           let least : w.r (left_end w b) ≤ w.r i =
           le_or_lt s'.passed z.0
-          (λ h. omega (arith, falls w o so.order s'.passed z.0 h z.1, ap w.r z.2))
+          (λ h. omega (arith, falls w o order s'.passed z.0 h z.1, ap w.r z.2))
           (λ h. absurd (so.none z.0 h (rw z.2 found.passes))) in
           let a_is : t.a ≡ w.r (left_end w b) = omega (arith, most, least, down.a_is) in
           record {
-            overloaded_is = sym (lt-ltb _ _ found.below);
-            a_is = λ _. a_is;
-            b_is = refl;
-            at = refl;
-            work_is = refl;
+            overloaded_is = rw (lt-ltb (left_end w b) w.n found.below, reached.kept_is, a_is) refl;
+            at = λ _. a_is;
             walk = subst (λ (z : RunningSum). Reaches w o b z t) starts (next_end so.walk down);
             reached = reached;
             additions_are =
@@ -120,12 +99,12 @@ module _ (w : Windows) (o : ℕ → ℕ) (b : ℕ) (before s : RunningSum) (star
     module _ (end : w.n ≤ s'.passed) where
       -- without a place nothing was added
       empty : s'.passed < 1 → AtLeftEnd w b s'
-      empty none = at_left_end w o so.order b s' so.so_far (λ y l. absurd (omega arith)) (λ y l u. absurd (omega (arith, end, u)))
+      empty none = at_left_end w o order b s' so.so_far (λ y l. absurd (omega arith)) (λ y l u. absurd (omega (arith, end, u)))
 
       -- all boxes that end by b entered
       all_entered : s'.additions ≡ boxes w 0 b
       all_entered =
-          (at_left_end w o so.order b
+          (at_left_end w o order b
           (record { a = 0; passed = s'.passed; kept = s'.kept; additions = s'.additions; earlier = s'.earlier })
           (record {
             within = so.so_far.within;
@@ -137,7 +116,7 @@ module _ (w : Windows) (o : ℕ → ℕ) (b : ℕ) (before s : RunningSum) (star
           (λ y l u. absurd (omega (arith, end, l, u)))
           ).additions_are
 
-      pub left_none : FindsLeft w o b before (shown_at false b s')
+      pub left_none : FindsLeft w o b before (record { overloaded = None; sum = s' })
       unfolding left_end
       left_none =
           let walk = subst (λ (z : RunningSum). Reaches w o b z s') starts so.walk in
@@ -145,16 +124,13 @@ module _ (w : Windows) (o : ℕ → ℕ) (b : ℕ) (before s : RunningSum) (star
           best_cases w.n (left_of w b) (larger w.r) (larger_ranks w.r) w.n (omega arith) (ltb (left_end w b) w.n ≡ false)
           (λ e _. le-ltb (left_end w b) w.n (omega (arith, e)))
           (λ found.
-          let z = once_has w.n o so.order.once (left_end w b) found.below in
+          let z = once_has w.n o order.once (left_end w b) found.below in
           absurd (so.none z.0 (omega (arith, z.1)) (rw z.2 found.passes))) in
           record {
-            overloaded_is = sym none;
-            a_is = λ e. absurd (true≢false (sym e));
-            b_is = refl;
-            at = refl;
-            work_is = refl;
+            overloaded_is = rw none refl;
+            at = λ e. absurd (true≢false (sym e ∙ none));
             walk = walk;
-            reached = le_or_lt 1 s'.passed (sum_law w o so.order b before s' walk) empty;
+            reached = le_or_lt 1 s'.passed (sum_law w o order b before s' walk) empty;
             additions_are = rw none all_entered;
             earlier = kept_earlier;
           }

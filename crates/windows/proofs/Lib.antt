@@ -26,4 +26,3 @@ mod LeftEndCases
 mod IntervalCases
 mod WindowSetCases
 mod RoomCases
-mod MirrorCases

@@ -1,16 +1,20 @@
 -- The walk of the left end for a fixed right end: the sum kept is the interval's work, and the first overloaded left end is the largest.
 -- Assumes nothing.
-use mathlib.Core.Path.{◌≡◌, refl, ap, ◌∙◌}
+use mathlib.Core.Path.{◌≡◌, refl, sym, ap, ◌∙◌}
 use mathlib.Core.Bool.{cond}
-use Prim.Native.Nat.{ℕ, ◌*◌, ◌≤◌, ◌<◌}
+use Prim.Native.Nat.{ℕ, ◌+◌, ◌*◌, ◌-◌, ◌≤◌, ◌<◌}
 use native.Mathlib.Numerals.{add-one}
 use native.Mathlib.Omega.{arith}
 use borrow.Author.Tests.{le-leb, lt-leb}
 use lib.Dec.{leb}
+use mathlib.Core.List.{List}
+use lib.ListN.{length, get_or, take, drop, length-take, length-drop}
+use lib.Seq.{get_or-take, get_or-drop}
 use Rattle.base.specs.Counting.{sum}
+use Rattle.order.specs.Orders.{value_at}
 use Rattle.base.proofs.Sums.{le_or_lt, same_cases, cond_most, sum_cong, sum_most, sum_rest, sum_more}
 use Rattle.order.proofs.SomeOrder.{some_order}
-use Rattle.base.proofs.Permutations.{once_sum}
+use Rattle.base.proofs.Permutations.{once_in, once_sum}
 use Rattle.windows.specs.Windows.{Windows, with_left}
 use Rattle.windows.specs.Intervals.{work}
 use Rattle.windows.specs.RunningSums.{LatestReleaseFirst, boxes, entered, AtLeftEnd, Adds, WalksDown, anew}
@@ -102,99 +106,88 @@ module _ (w : Windows) (o : ℕ → ℕ) (b : ℕ) where
           (λ h. omega (arith, down.same_r y h l))
           (λ h. omega (arith, down.a_is, falls w o order y s.passed (omega arith) (omega (arith, down.further, down.within))))
 
--- Inside one left end, from the sum s on: all places passed have an r of at least this one.
-pub record Walking (w : Windows) (o : ℕ → ℕ) (b : ℕ) (s s' : RunningSum) : Type 0 where
-  pub few : w.n ≤ 64
-  pub order : LatestReleaseFirst w o
-  pub more : s.passed < w.n
+-- The places of the order from position x on, as a slice holds them.
+pub record PlacesFrom (w : Windows) (o : ℕ → ℕ) (x : ℕ) (places : List ℕ) : Type 0 where
+  pub are : (j : ℕ) → j < length places → get_or places j 0 ≡ o (x + j)
+  pub below : (j : ℕ) → j < length places → get_or places j 0 < w.n
+  pub all : x + length places ≡ w.n
+
+pub places_from : (w : Windows) (order : List ℕ) → LatestReleaseFirst w (value_at order) → w.n ≤ length order → (x n : ℕ) → n ≡ w.n → x < n
+    → PlacesFrom w (value_at order) x (take (n - x) (drop x order))
+places_from w order releases fits x n e l = record { are = are; below = below; all = omega (arith, long, e) }
+  where
+    long : length (take (n - x) (drop x order)) ≡ n - x
+    long = simp (length-take, length-drop) (omega (arith, fits, e))
+
+    are : (j : ℕ) → j < length (take (n - x) (drop x order)) → get_or (take (n - x) (drop x order)) j 0 ≡ value_at order (x + j)
+    are j h = get_or-take (n - x) (drop x order) j 0 (omega (arith, long)) ∙ get_or-drop x order j 0
+
+    below : (j : ℕ) → j < length (take (n - x) (drop x order)) → get_or (take (n - x) (drop x order)) j 0 < w.n
+    below j h = rw (are j h) (once_in w.n (value_at order) releases.once (x + j) (omega (arith, long, e)))
+
+-- Inside one left end, from the sum s on: j places more are passed, and all places passed have an r of at least this one.
+pub record Walking (w : Windows) (o : ℕ → ℕ) (b : ℕ) (s s' : RunningSum) (places : List ℕ) (j : ℕ) : Type 0 where
+  pub from : PlacesFrom w o s.passed places
+  pub passed_is : s'.passed ≡ s.passed + j
   pub adds : Adds w o b s s'
-  pub within : s'.passed ≤ w.n
   pub small : s'.kept ≤ 65535 * s'.passed
   pub counted : s'.additions ≤ s'.passed
   pub a_is : s'.a ≡ w.r (o s.passed)
   pub over : (y : ℕ) → y < s'.passed → s'.a ≤ w.r (o y)
-  pub started : s.passed ≤ s'.passed
 
-module _ (w : Windows) (o : ℕ → ℕ) (b : ℕ) (s : RunningSum) where
+module _ (w : Windows) (o : ℕ → ℕ) (order : LatestReleaseFirst w o) (b : ℕ) (s : RunningSum) (more : s.passed < w.n) where
   -- the sum s at the next left end
   abbrev starts : RunningSum
-  starts = record { a = w.r (o s.passed); passed = s.passed; kept = s.kept; additions = s.additions; earlier = s.earlier }
+  starts = record s { a = w.r (o s.passed) }
 
-  pub walking_start : w.n ≤ 64 → LatestReleaseFirst w o → s.passed < w.n → s.kept ≤ 65535 * s.passed → s.additions ≤ s.passed
-      → Walking w o b starts starts
-  walking_start few order more small counted =
-      record {
-        few = few;
-        order = order;
-        more = more;
-        adds = record { kept = refl; additions = refl; earlier = refl };
-        within = omega arith;
-        small = small;
-        counted = counted;
-        a_is = refl;
-        over = λ y l. falls w o order y s.passed (omega arith) more;
-        started = omega arith;
-      }
-
-  module _ (s' : RunningSum) (so : Walking w o b starts s') where
-    abbrev i : ℕ
-    i = o s'.passed
-
-    pub walking_next : (t : RunningSum) → s'.passed < w.n → w.r (o s.passed) ≤ w.r i → Passes b (w.d i) (w.p i) s' t
-        → Walking w o b starts t
-    unfolding sum
-    walking_next t less high passes =
+  module _ (places : List ℕ) where
+    pub walking_start : PlacesFrom w o s.passed places → s.kept ≤ 65535 * s.passed → s.additions ≤ s.passed
+        → Walking w o b starts starts places 0
+    walking_start from small counted =
         record {
-          few = so.few;
-          order = so.order;
-          more = so.more;
-          adds = record {
-            kept = rw (passes.passed, add-one) (omega (arith, so.adds.kept, passes.kept));
-            additions = rw (passes.passed, add-one) (omega (arith, so.adds.additions, passes.additions));
-            earlier = passes.earlier ∙ so.adds.earlier;
-          };
-          within = omega (arith, passes.passed);
-          small =
-              let one = cond_most (leb (w.d i) b) (w.p i) 0 65535 passes.small (omega arith) in
-              omega (arith, passes.passed, passes.kept, so.small, one);
-          counted =
-              let one = cond_most (leb (w.d i) b) 1 0 1 (omega arith) (omega arith) in
-              omega (arith, passes.passed, passes.additions, so.counted, one);
-          a_is = passes.a ∙ so.a_is;
-          over =
-              λ y l.
-              rw passes.a
-              (same_cases y s'.passed
-              (λ e _. rw (so.a_is, e) high)
-              (λ ne _. so.over y (omega (arith, ne, passes.passed))));
-          started = omega (arith, so.started, passes.passed);
+          from = from;
+          passed_is = omega arith;
+          adds = record { kept = refl; additions = refl; earlier = refl };
+          small = small;
+          counted = counted;
+          a_is = refl;
+          over = λ y l. falls w o order y s.passed (omega arith) more;
         }
 
-    -- it ends where the next r is smaller, or no place is left
-    walked : s.passed < s'.passed → ((y : ℕ) → s'.passed ≤ y → y < w.n → w.r (o y) < s'.a) → WalksDown w o b s s'
-    walked further under =
-        record {
-          adds = record { kept = so.adds.kept; additions = so.adds.additions; earlier = so.adds.earlier };
-          small = so.small;
-          a_is = so.a_is;
-          further = further;
-          within = so.within;
-          same_r =
-              λ x l u.
-              omega (arith, so.over x u, so.a_is, falls w o so.order s.passed x l (omega (arith, so.within)));
-          smaller_r = under;
-        }
+    module _ (s' : RunningSum) (j : ℕ) (so : Walking w o b starts s' places j) where
+      module _ (h : j < length places) where
+        abbrev i : ℕ
+        i = get_or places j 0
 
-    pub walked_below : s'.passed < w.n → w.r i < w.r (o s.passed) → WalksDown w o b s s'
-    walked_below less low =
-        walked
-        (same_cases s.passed s'.passed
-        (λ e _. absurd (omega (arith, low, ap (λ (z : ℕ). w.r (o z)) e)))
-        (λ ne _. omega (arith, so.started, ne)))
-        (λ y l u. omega (arith, low, so.a_is, falls w o so.order s'.passed y l u))
+        is_next : i ≡ o s'.passed
+        is_next = so.from.are j h ∙ sym (ap o so.passed_is)
 
-    pub walked_all : w.n ≤ s'.passed → WalksDown w o b s s'
-    walked_all end = walked (omega (arith, so.more)) (λ y l u. absurd (omega (arith, u)))
+        pub walking_next : (t : RunningSum) → w.r (o s.passed) ≤ w.r i → Passes b (w.d i) (w.p i) s' t
+            → Walking w o b starts t places (j + 1)
+        unfolding sum
+        walking_next t high passes =
+            record {
+              from = so.from;
+              passed_is = omega (arith, so.passed_is, passes.passed);
+              adds = record {
+                kept = rw (passes.passed, add-one, ← is_next) (omega (arith, so.adds.kept, passes.kept));
+                additions = rw (passes.passed, add-one, ← is_next) (omega (arith, so.adds.additions, passes.additions));
+                earlier = passes.earlier ∙ so.adds.earlier;
+              };
+              small =
+                  let one = cond_most (leb (w.d i) b) (w.p i) 0 65535 passes.small (omega arith) in
+                  omega (arith, passes.passed, passes.kept, so.small, one);
+              counted =
+                  let one = cond_most (leb (w.d i) b) 1 0 1 (omega arith) (omega arith) in
+                  omega (arith, passes.passed, passes.additions, so.counted, one);
+              a_is = passes.a ∙ so.a_is;
+              over =
+                  λ y l.
+                  rw passes.a
+                  (same_cases y s'.passed
+                  (λ e _. rw (so.a_is, e, ← is_next) high)
+                  (λ ne _. so.over y (omega (arith, ne, passes.passed))));
+            }
 
 -- Along the whole walk the sum is that of the places passed, and at each left end reached the interval's.
 module _ (w : Windows) (o : ℕ → ℕ) (order : LatestReleaseFirst w o) (b : ℕ) (s : RunningSum) where

@@ -1,10 +1,11 @@
 -- What private functions promise each other. No public promise cites these.
-use Rattle.std.specs.Prelude.{ℕ, ◌+◌, ◌-◌, ◌≤◌, ◌≡◌, true, cond, List, leb, ltb, get_or}
+use Rattle.std.specs.Prelude.{ℕ, ◌+◌, ◌-◌, ◌≤◌, ◌≡◌, true, cond, Some, None, List, leb, ltb, get_or}
 use Rattle.base.specs.Counting.{sum}
 use Rattle.windows.specs.Windows.{Windows}
 use Rattle.windows.specs.Intervals.{work, left_end}
 use Rattle.windows.specs.RunningSums.{AtLeftEnd, anew, Reaches, additions_for, right_of_first, additions_at, FewAdditions}
 use Rattle.windows.specs.declared.running_sum.RunningSum.{RunningSum}
+use Rattle.windows.specs.declared.interval.Interval.{Interval}
 use Rattle.windows.specs.declared.interval.ShownInterval.{ShownInterval}
 
 -- one place more is passed, with this d and p: its box enters if d is at most b. That p has 16 bits, an array does not tell the caller.
@@ -16,26 +17,25 @@ pub record Passes (b d p : ℕ) (s s' : RunningSum) : Type 0 where
   pub earlier : s'.earlier ≡ s.earlier
   pub small : p ≤ 65535
 
--- what the walk for the right end b shows, after the sum s of the right end before: whether an overloaded interval ends at b, the largest
--- left end of one, or else the last one reached, 0 if there is no place, its work, and the sum that the walk comes to there
+-- the interval that ends at b and begins at the largest left end of an overloaded one, and its work
+abbrev pub interval_at : Windows → ℕ → Interval
+interval_at w b = let a = w.r (left_end w b) in record { a = a; b = b; work = work w a b }
+
+-- what the walk for the right end b shows, after the sum s of the right end before: the overloaded interval that ends at b with the largest
+-- left end, if there is one, and the sum that the walk comes to: at its left end, or else at the last one reached, 0 if there is no place
 pub record FindsLeft (w : Windows) (o : ℕ → ℕ) (b : ℕ) (s : RunningSum) (x : ShownInterval) : Type 0 where
-  pub overloaded_is : x.overloaded ≡ ltb (left_end w b) w.n
-  pub a_is : x.overloaded ≡ true → x.a ≡ w.r (left_end w b)
-  pub b_is : x.b ≡ b
-  pub at : x.a ≡ x.sum.a
-  pub work_is : x.work ≡ x.sum.kept
+  pub overloaded_is : x.overloaded ≡ cond (ltb (left_end w b) w.n) (Some (interval_at w b)) None
+  pub at : ltb (left_end w b) w.n ≡ true → x.sum.a ≡ w.r (left_end w b)
   pub walk : Reaches w o b (anew s) x.sum
   pub reached : AtLeftEnd w b x.sum
   pub additions_are : x.sum.additions ≡ additions_for w b
   pub earlier : x.sum.earlier ≡ s.earlier + s.additions
 
--- what the right ends of the first i places show: whether one of an overloaded interval is among them, the smallest, with it the largest
--- left end, and the work
+-- what the right ends of the first i places show: the overloaded interval with the smallest of them, and with it the largest left end, if
+-- there is one
 pub record FindsRight (w : Windows) (i : ℕ) (x : ShownInterval) : Type 0 where
-  pub overloaded_is : x.overloaded ≡ ltb (right_of_first w i) w.n
-  pub b_is : x.overloaded ≡ true → x.b ≡ w.d (right_of_first w i)
-  pub a_is : x.overloaded ≡ true → x.a ≡ w.r (left_end w x.b)
-  pub work_is : x.overloaded ≡ true → x.work ≡ work w x.a x.b
+  pub overloaded_is :
+      x.overloaded ≡ cond (ltb (right_of_first w i) w.n) (Some (interval_at w (w.d (right_of_first w i)))) None
   pub additions_are : x.sum.earlier + x.sum.additions ≡ sum i (additions_at w)
   pub bounded : FewAdditions w.n i x.sum
 

@@ -1,27 +1,31 @@
 // Overloaded intervals.
 ghost use Rattle.std.specs.Prelude.{◌≡◌, ◌&&◌, ◌+◌, ◌*◌, ◌-◌, ◌<◌, ◌≤◌, leb, ltb};
-ghost use Rattle.list.specs.Refusals.{outcome_of};
+ghost use Rattle.list.specs.Refusals.{verdict_of};
 ghost use Rattle.list.specs.DayLists.{most_entries};
+ghost use Rattle.order.specs.Orders.{value_at};
 ghost use Rattle.windows.specs.Windows.{windows_in};
 ghost use Rattle.windows.specs.Intervals.{overload_of};
-ghost use Rattle.order.specs.Orders.{value_at};
 ghost use Rattle.windows.specs.RunningSums.{LatestReleaseFirst};
 ghost use Rattle.windows.specs.Internal.{FindsLeft, FindsRight};
-ghost use Rattle.windows.specs.Windows.{held_in};
 
 use crate::running_sum::{RunningSum, start_anew, walk_down};
 use crate::types::WindowSet;
 use list::places_held;
-use list::types::{ENTRIES, Refusal};
+use list::types::{ENTRIES, Refusal, Verdict};
 use order::largest_first;
 
-// Whether an overloaded interval is shown, and then its a, b and work; and the sum as the last walk left it.
+// An interval [a, b) and its work.
 #[derive(Clone, Copy)]
-pub(crate) struct ShownInterval {
-    pub overloaded: bool,
+pub(crate) struct Interval {
     pub a: u16,
     pub b: u16,
     pub work: u32,
+}
+
+// The overloaded interval shown, if one is, and the sum as the last walk left it.
+#[derive(Clone, Copy)]
+pub(crate) struct ShownInterval {
+    pub overloaded: Option<Interval>,
     pub sum: RunningSum,
 }
 
@@ -29,112 +33,73 @@ pub(crate) struct ShownInterval {
 fn is_overloaded(a: u16, b: u16, work: u32) -> bool
     ensures { result ≡ (ltb a b && ltb (b - a) work) }
 {
-    if b <= a {
-        return false;
-    }
-    ((b - a) as u32) < work
+    a < b && u32::from(b - a) < work
 }
 
 // The largest left end of an overloaded interval that ends at b: the first one met as the left end walks down.
 fn left_end(
-    count: usize,
-    r: &[u16; ENTRIES],
-    d: &[u16; ENTRIES],
-    p: &[u16; ENTRIES],
+    windows: &WindowSet,
     order: &[usize; ENTRIES],
     b: u16,
     from: RunningSum,
 ) -> ShownInterval
-    requires count_le_most_entries { count ≤ most_entries }
-    requires latest_release_first { LatestReleaseFirst (held_in count r.now d.now p.now) (value_at order.now) }
+    requires latest_release_first { LatestReleaseFirst (windows_in windows.now) (value_at order.now) }
     requires additions_bound { from.earlier + from.additions ≤ most_entries * most_entries }
-    ensures { FindsLeft (held_in count r.now d.now p.now) (value_at order.now) b from result }
+    ensures { FindsLeft (windows_in windows.now) (value_at order.now) b from result }
 {
+    let count = places_held(windows.n);
     let mut sum = start_anew(from);
     while sum.passed < count {
-        sum = walk_down(count, r, d, p, order, b, sum);
+        sum = walk_down(windows, order, b, sum);
         if is_overloaded(sum.a, b, sum.kept) {
-            return ShownInterval {
-                overloaded: true,
+            let interval = Interval {
                 a: sum.a,
-                b: b,
+                b,
                 work: sum.kept,
-                sum: sum,
+            };
+            return ShownInterval {
+                overloaded: Some(interval),
+                sum,
             };
         }
     }
     ShownInterval {
-        overloaded: false,
-        a: sum.a,
-        b: b,
-        work: sum.kept,
-        sum: sum,
-    }
-}
-
-// Whether an overloaded interval is shown that ends at b or before it.
-fn ends_by(shown: ShownInterval, b: u16) -> bool
-    ensures { result ≡ (shown.overloaded && leb shown.b b) }
-{
-    if shown.overloaded {
-        shown.b <= b
-    } else {
-        false
+        overloaded: None,
+        sum,
     }
 }
 
 // What the right ends up to that of place i show, if those before it show `shown`. No walk is made if an overloaded interval is shown whose
 // b is no larger.
 fn smaller_right(
-    count: usize,
-    r: &[u16; ENTRIES],
-    d: &[u16; ENTRIES],
-    p: &[u16; ENTRIES],
+    windows: &WindowSet,
     order: &[usize; ENTRIES],
     i: usize,
     shown: ShownInterval,
 ) -> ShownInterval
-    requires count_le_most_entries { count ≤ most_entries }
-    requires latest_release_first { LatestReleaseFirst (held_in count r.now d.now p.now) (value_at order.now) }
-    requires i_lt_count { i < count }
-    requires finds_right { FindsRight (held_in count r.now d.now p.now) i shown }
-    ensures { FindsRight (held_in count r.now d.now p.now) (i + 1) result }
+    requires latest_release_first { LatestReleaseFirst (windows_in windows.now) (value_at order.now) }
+    requires i_lt_n { i < (windows_in windows.now).n }
+    requires finds_right { FindsRight (windows_in windows.now) i shown }
+    ensures { FindsRight (windows_in windows.now) (i + 1) result }
 {
-    let b = d[i];
-    if ends_by(shown, b) {
+    let b = windows.d[i];
+    if shown.overloaded.is_some_and(|interval| interval.b <= b) {
         return shown;
     }
-    let left = left_end(count, r, d, p, order, b, shown.sum);
-    if left.overloaded {
-        return left;
-    }
-    let sum = left.sum;
+    let left = left_end(windows, order, b, shown.sum);
     ShownInterval {
-        overloaded: shown.overloaded,
-        a: shown.a,
-        b: shown.b,
-        work: shown.work,
-        sum: sum,
+        overloaded: left.overloaded.or(shown.overloaded),
+        sum: left.sum,
     }
 }
 
 // The overloaded interval with the smallest b, and with it the largest a, if one is overloaded.
-fn right_end(
-    count: usize,
-    r: &[u16; ENTRIES],
-    d: &[u16; ENTRIES],
-    p: &[u16; ENTRIES],
-    order: &[usize; ENTRIES],
-) -> ShownInterval
-    requires count_le_most_entries { count ≤ most_entries }
-    requires latest_release_first { LatestReleaseFirst (held_in count r.now d.now p.now) (value_at order.now) }
-    ensures { FindsRight (held_in count r.now d.now p.now) count result }
+fn right_end(windows: &WindowSet, order: &[usize; ENTRIES]) -> ShownInterval
+    requires { LatestReleaseFirst (windows_in windows.now) (value_at order.now) }
+    ensures { FindsRight (windows_in windows.now) (windows_in windows.now).n result }
 {
     let mut shown = ShownInterval {
-        overloaded: false,
-        a: 0,
-        b: 0,
-        work: 0,
+        overloaded: None,
         sum: RunningSum {
             a: 0,
             passed: 0,
@@ -143,26 +108,20 @@ fn right_end(
             earlier: 0,
         },
     };
-    let mut i: usize = 0;
-    while i < count {
-        shown = smaller_right(count, r, d, p, order, i, shown);
-        i += 1;
+    for i in 0..places_held(windows.n) {
+        shown = smaller_right(windows, order, i, shown);
     }
     shown
 }
 
 // Row 9 for windows, whatever they are: the overloaded interval with the smallest b, and with it the largest a, and its work.
-pub fn unchecked_overload(windows: WindowSet) -> Result<(), Refusal>
-    ensures { outcome_of result ≡ overload_of (windows_in windows) }
+pub fn unchecked_overload(windows: WindowSet) -> Verdict
+    ensures { verdict_of result ≡ overload_of (windows_in windows) }
 {
-    let count = places_held(windows.n);
-    let r = windows.r;
-    let d = windows.d;
-    let p = windows.p;
-    let order = largest_first(windows.n, &r);
-    let shown = right_end(count, &r, &d, &p, &order);
-    if shown.overloaded {
-        return Err(Refusal::Overloaded(shown.a, shown.b, shown.work));
+    let order = largest_first(windows.n, &windows.r);
+    let shown = right_end(&windows, &order);
+    if let Some(Interval { a, b, work }) = shown.overloaded {
+        return Verdict::Refused(Refusal::Overloaded(a, b, work));
     }
-    Ok(())
+    Verdict::Accepted
 }

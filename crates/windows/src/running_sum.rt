@@ -2,10 +2,12 @@
 ghost use Rattle.std.specs.Prelude.{◌≡◌, ◌+◌, ◌*◌, ◌<◌, ◌≤◌};
 ghost use Rattle.list.specs.DayLists.{most_entries};
 ghost use Rattle.order.specs.Orders.{value_at};
+ghost use Rattle.windows.specs.Windows.{windows_in};
 ghost use Rattle.windows.specs.RunningSums.{LatestReleaseFirst, WalksDown, anew};
 ghost use Rattle.windows.specs.Internal.{Passes};
-ghost use Rattle.windows.specs.Windows.{held_in};
 
+use crate::types::WindowSet;
+use list::places_held;
 use list::types::ENTRIES;
 
 // The left end reached, how many places of the order are passed, the sum kept, the additions made for this b, and those made for the right
@@ -24,13 +26,12 @@ pub(crate) fn start_anew(sum: RunningSum) -> RunningSum
     requires { sum.earlier + sum.additions ≤ most_entries * most_entries }
     ensures { result ≡ anew sum }
 {
-    let earlier = sum.earlier + sum.additions;
     RunningSum {
         a: 0,
         passed: 0,
         kept: 0,
         additions: 0,
-        earlier: earlier,
+        earlier: sum.earlier + sum.additions,
     }
 }
 
@@ -43,57 +44,36 @@ fn pass_place(sum: RunningSum, b: u16, d: u16, p: u16) -> RunningSum
 {
     let passed = sum.passed + 1;
     if b < d {
-        return RunningSum {
-            a: sum.a,
-            passed: passed,
-            kept: sum.kept,
-            additions: sum.additions,
-            earlier: sum.earlier,
-        };
+        return RunningSum { passed, ..sum };
     }
     RunningSum {
-        a: sum.a,
-        passed: passed,
-        kept: sum.kept + p as u32,
+        passed,
+        kept: sum.kept + u32::from(p),
         additions: sum.additions + 1,
-        earlier: sum.earlier,
+        ..sum
     }
 }
 
 // Walks on to the next left end: all places with that r are passed.
 pub(crate) fn walk_down(
-    count: usize,
-    r: &[u16; ENTRIES],
-    d: &[u16; ENTRIES],
-    p: &[u16; ENTRIES],
+    windows: &WindowSet,
     order: &[usize; ENTRIES],
     b: u16,
     from: RunningSum,
 ) -> RunningSum
-    requires count_le_most_entries { count ≤ most_entries }
-    requires latest_release_first { LatestReleaseFirst (held_in count r.now d.now p.now) (value_at order.now) }
-    requires passed_lt_count { from.passed < count }
+    requires latest_release_first { LatestReleaseFirst (windows_in windows.now) (value_at order.now) }
+    requires passed_lt_n { from.passed < (windows_in windows.now).n }
     requires kept_bound { from.kept ≤ 65535 * from.passed }
     requires additions_le_passed { from.additions ≤ from.passed }
-    ensures { WalksDown (held_in count r.now d.now p.now) (value_at order.now) b from result }
+    ensures { WalksDown (windows_in windows.now) (value_at order.now) b from result }
 {
-    let first = from.passed;
-    let place = order[first];
-    let a = r[place];
-    let mut sum = RunningSum {
-        a: a,
-        passed: first,
-        kept: from.kept,
-        additions: from.additions,
-        earlier: from.earlier,
-    };
-    while sum.passed < count {
-        let x = sum.passed;
-        let i = order[x];
-        if r[i] < a {
+    let a = windows.r[order[from.passed]];
+    let mut sum = RunningSum { a, ..from };
+    for &i in &order[from.passed..places_held(windows.n)] {
+        if windows.r[i] < a {
             return sum;
         }
-        sum = pass_place(sum, b, d[i], p[i]);
+        sum = pass_place(sum, b, windows.d[i], windows.p[i]);
     }
     sum
 }

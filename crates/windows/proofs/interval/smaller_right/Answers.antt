@@ -1,29 +1,18 @@
 -- What the right ends show with one more of them, in each case.
 -- Assumes nothing.
-use native.Mathlib.Omega.{arith}
-use Rattle.windows.proofs.IntervalCases.{additions_most, right_stays, right_shown, right_none}
+use borrow.Author.Rules.{rules}
+use mathlib.Core.Path.{◌≡◌}
+use mathlib.Core.Bool.{true, false}
+use lib.ListN.{get_or}
+use Rattle.windows.proofs.IntervalCases.{ends_by, right_stays, right_walked}
 use Rattle.windows.proofs.interval.smaller_right.Goals as goal
 
-pub returns-then-ends_by : goal.returns-then-ends_by
-returns-then-ends_by c =
-    right_stays _ _ _ c.requires.finds_right _ c.ends_by.ensures c.if-ends_by.true
-
-pub left_end-left-requires : goal.left_end-left-requires
-left_end-left-requires c =
-    record {
-      count_le_most_entries =
-          c.requires.count_le_most_entries;
-      latest_release_first = c.requires.latest_release_first;
-      additions_bound = additions_most _ _ _
-          c.requires.finds_right (omega (arith, c.requires.count_le_most_entries, c.requires.i_lt_count)) c.requires.count_le_most_entries;
-    }
-
-pub returns-then-left : goal.returns-then-left
-returns-then-left c =
-    right_shown _ _ _ c.requires.finds_right _ _ c.left_end-left.ensures c.requires.i_lt_count _ c.ends_by.ensures c.if-ends_by.false
-    c.if-left.true
+pub returns-then-is_some_and : goal.returns-then-is_some_and
+returns-then-is_some_and c =
+    let shown_by : ends_by c.args.shown.overloaded (get_or c.args.windows.now.d c.args.i 0) ≡ true = search rules in
+    right_stays _ _ _ c.requires.finds_right shown_by
 
 pub returns : goal.returns
 returns c =
-    right_none _ _ _ c.requires.finds_right _ _ c.left_end-left.ensures _ c.ends_by.ensures c.if-ends_by.false
-    c.if-left.false
+    let not_shown : ends_by c.args.shown.overloaded (get_or c.args.windows.now.d c.args.i 0) ≡ false = search rules in
+    rw c.or.ensures (right_walked _ _ _ c.requires.finds_right _ _ c.left_end-left.ensures c.requires.i_lt_n not_shown)

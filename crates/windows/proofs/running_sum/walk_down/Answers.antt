@@ -1,60 +1,28 @@
--- All places with the next r are passed. The loop's invariant is what was added since, over places whose r is at least this one; the
--- measure is what is left of the order.
+-- All places with the next r are passed. The loop's invariant is what was added since, over places whose r is at least this one.
 -- Assumes nothing.
 use borrow.Author.Rules.{rules}
+use native.Mathlib.Omega.{arith}
 use Rattle.base.proofs.Permutations.{once_in}
-use Rattle.windows.proofs.RunningSums.{walking_start, walking_next, walked_below, walked_all}
+use Rattle.windows.proofs.RunningSums.{places_from, walking_start, walking_next}
 use Rattle.windows.proofs.running_sum.walk_down.Goals as goal
 
-pub offset_bounds-r-place : goal.offset_bounds-r-place
-offset_bounds-r-place c =
-    search (rules, once_in _ _ c.requires.latest_release_first.once _ c.requires.passed_lt_count)
+pub offset_bounds-windows-order : goal.offset_bounds-windows-order
+offset_bounds-windows-order c =
+    search (rules, once_in _ _ c.requires.latest_release_first.once _ c.requires.passed_lt_n)
 
-pub bounds-r-place : goal.bounds-r-place
-bounds-r-place c =
-    search (rules, once_in _ _ c.requires.latest_release_first.once _ c.requires.passed_lt_count)
+pub bounds-windows-order : goal.bounds-windows-order
+bounds-windows-order c =
+    search (rules, once_in _ _ c.requires.latest_release_first.once _ c.requires.passed_lt_n)
 
-pub loop-sum-init : goal.loop-sum-init
-loop-sum-init c =
-    walking_start _ _ _ c.args.from c.requires.count_le_most_entries c.requires.latest_release_first c.requires.passed_lt_count
-    c.requires.kept_bound c.requires.additions_le_passed
+pub loop-i-init : goal.loop-i-init
+loop-i-init c =
+    let ready = c.requires in
+    walking_start _ _ ready.latest_release_first _ c.args.from ready.passed_lt_n _
+    (places_from _ _ ready.latest_release_first (omega arith) _ _ c.places_held.ensures (omega (arith, ready.passed_lt_n, c.places_held.ensures)))
+    ready.kept_bound ready.additions_le_passed
 
-pub offset_bounds-r-i : goal.offset_bounds-r-i
-offset_bounds-r-i c =
-    search (rules, once_in _ _ c.loop-sum.invariant.order.once _ c.loop-sum-test.true)
-
-pub bounds-r-i : goal.bounds-r-i
-bounds-r-i c =
-    search (rules, once_in _ _ c.loop-sum.invariant.order.once _ c.loop-sum-test.true)
-
-pub returns-then-r-i : goal.returns-then-r-i
-returns-then-r-i c =
-    walked_below _ _ _ c.args.from _ c.loop-sum.invariant c.loop-sum-test.true c.if-r-i.true
-
-pub offset_bounds-d-i : goal.offset_bounds-d-i
-offset_bounds-d-i c =
-    search (rules, once_in _ _ c.loop-sum.invariant.order.once _ c.loop-sum-test.true)
-
-pub bounds-d-i : goal.bounds-d-i
-bounds-d-i c =
-    search (rules, once_in _ _ c.loop-sum.invariant.order.once _ c.loop-sum-test.true)
-
-pub offset_bounds-p-i : goal.offset_bounds-p-i
-offset_bounds-p-i c =
-    search (rules, once_in _ _ c.loop-sum.invariant.order.once _ c.loop-sum-test.true)
-
-pub bounds-p-i : goal.bounds-p-i
-bounds-p-i c =
-    search (rules, once_in _ _ c.loop-sum.invariant.order.once _ c.loop-sum-test.true)
-
-pub pass_place-sum-requires : goal.pass_place-sum-requires
-pass_place-sum-requires c =
-    search (rules, c.loop-sum.invariant.small, c.loop-sum.invariant.counted)
-
-pub loop-sum-preserved : goal.loop-sum-preserved
-loop-sum-preserved c =
-    walking_next _ _ _ c.args.from _ c.loop-sum.invariant _ c.loop-sum-test.true c.if-r-i.false c.pass_place-sum.ensures
-
-pub returns : goal.returns
-returns c =
-    walked_all _ _ _ c.args.from _ c.loop-sum.invariant c.loop-sum-test.false
+pub loop-i-preserved : goal.loop-i-preserved
+loop-i-preserved c =
+    let ready = c.requires in
+    walking_next _ _ ready.latest_release_first _ c.args.from ready.passed_lt_n _ _ _ c.loop-i.invariant c.loop-i-test.true _
+    c.if-windows-i.false c.pass_place-sum.ensures

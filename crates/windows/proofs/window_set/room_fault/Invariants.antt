@@ -1,12 +1,9 @@
--- The loop's invariant is `Roomed`, the measure what is left of the places.
+-- The loop's invariant is that the first i places have room.
 -- Assumes nothing.
-use Prim.Native.Nat.{◌-◌}
+use Rattle.base.proofs.Searches.{Passed}
 use Rattle.windows.specs.Windows.{windows_in}
-use Rattle.windows.proofs.RoomCases.{Roomed}
+use Rattle.windows.proofs.Room.{lacks_room}
 use Rattle.windows.proofs.window_set.room_fault.Given as goal
 
 abbrev pub invariant-loop-i : goal.invariant-loop-i
-invariant-loop-i l = Roomed (windows_in l.windows) l.count l.i
-
-abbrev pub decreases-loop-i : goal.decreases-loop-i
-decreases-loop-i l = l.count - l.i
+invariant-loop-i l = let w = windows_in l.windows in Passed w.n (lacks_room w) l.i
