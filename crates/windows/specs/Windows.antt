@@ -1,10 +1,10 @@
 -- "A set of windows has one for each entry." The rules speak of windows by the entry's place, as functions of it.
 use Rattle.std.specs.Prelude.{ℕ, ◌+◌, ◌-◌, ◌<◌, ◌≤◌, min, max, ◌≡◌, Bool, cond, not, ◌&&◌, List, [], ◌∷◌, map, length, get_or, eqb, leb}
+use Rattle.std.specs.Prelude.{None}
 use Rattle.std.specs.Prelude.{ltb}
 use Rattle.base.specs.Outcomes.{Outcome, answered, row, first_of}
 use Rattle.base.specs.Counting.{first_below}
 use Rattle.list.specs.DayLists.{entries_of, blank, most_entries}
-use Rattle.list.specs.declared.types.Seal.TheVariants.{Missing}
 use Rattle.list.specs.declared.types.Kind.TheVariants.{Pause}
 use Rattle.list.specs.declared.types.Entry.{Entry}
 use Rattle.list.specs.declared.types.DayList.{DayList}
@@ -31,7 +31,7 @@ windows_of l =
 
 -- an entry without its serial, seal and kind
 abbrev pub plain : Entry → Entry
-plain e = record { serial = 0; seal = Missing; r = e.r; d = e.d; p = e.p; kind = Pause }
+plain e = record { serial = 0; seal = None; r = e.r; d = e.d; p = e.p; kind = Pause }
 
 -- two lists with the same H and n, and of each entry the same r, d and p: opening minutes, serials, seals and kinds are not compared
 pub record SameWindows (a b : DayList) : Type 0 where

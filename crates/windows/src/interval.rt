@@ -1,6 +1,6 @@
 // Overloaded intervals.
 ghost use Rattle.std.specs.Prelude.{◌≡◌, ◌&&◌, ◌+◌, ◌*◌, ◌-◌, ◌<◌, ◌≤◌, leb, ltb};
-ghost use Rattle.list.specs.Refusals.{verdict_of};
+ghost use Rattle.list.specs.Refusals.{outcome_of};
 ghost use Rattle.list.specs.DayLists.{most_entries};
 ghost use Rattle.order.specs.Orders.{value_at};
 ghost use Rattle.windows.specs.Windows.{windows_in};
@@ -11,7 +11,7 @@ ghost use Rattle.windows.specs.Internal.{FindsLeft, FindsRight};
 use crate::running_sum::{RunningSum, start_anew, walk_down};
 use crate::types::WindowSet;
 use list::places_held;
-use list::types::{ENTRIES, Refusal, Verdict};
+use list::types::{ENTRIES, Refusal};
 use order::largest_first;
 
 // An interval [a, b) and its work.
@@ -115,13 +115,13 @@ fn right_end(windows: &WindowSet, order: &[usize; ENTRIES]) -> ShownInterval
 }
 
 // Row 9 for windows, whatever they are: the overloaded interval with the smallest b, and with it the largest a, and its work.
-pub fn unchecked_overload(windows: WindowSet) -> Verdict
-    ensures { verdict_of result ≡ overload_of (windows_in windows) }
+pub fn unchecked_overload(windows: WindowSet) -> Result<(), Refusal>
+    ensures { outcome_of result ≡ overload_of (windows_in windows) }
 {
     let order = largest_first(windows.n, &windows.r);
     let shown = right_end(&windows, &order);
     if let Some(Interval { a, b, work }) = shown.overloaded {
-        return Verdict::Refused(Refusal::Overloaded(a, b, work));
+        return Err(Refusal::Overloaded(a, b, work));
     }
-    Verdict::Accepted
+    Ok(())
 }

@@ -1,13 +1,13 @@
 // The windows of a list, in arrays by place, and whether windows have room.
 ghost use Rattle.std.specs.Prelude.{◌≡◌, replicate};
-ghost use Rattle.list.specs.Refusals.{verdict_of};
+ghost use Rattle.list.specs.Refusals.{outcome_of};
 ghost use Rattle.list.specs.DayLists.{empty_list, most_entries};
 ghost use Rattle.windows.specs.Windows.{windows_in, has_room, room_fault};
 ghost use Rattle.windows.specs.Calls.{Holds};
 
 use crate::types::WindowSet;
 use list::places_held;
-use list::types::{DayList, ENTRIES, Refusal, Verdict};
+use list::types::{DayList, ENTRIES, Refusal};
 
 // A 0 for each place.
 pub fn zeros() -> [u16; ENTRIES]
@@ -54,16 +54,16 @@ fn has_room(h: u16, r: u16, d: u16, p: u16) -> bool
 }
 
 // Rows 6 and 7 for windows: they carry the first place that has no minutes or no room.
-pub fn room_fault(windows: WindowSet) -> Verdict
-    ensures { verdict_of result ≡ room_fault (windows_in windows) }
+pub fn room_fault(windows: WindowSet) -> Result<(), Refusal>
+    ensures { outcome_of result ≡ room_fault (windows_in windows) }
 {
     for i in 0..places_held(windows.n) {
         if windows.p[i] == 0 {
-            return Verdict::Refused(Refusal::NoMinutes(i));
+            return Err(Refusal::NoMinutes(i));
         }
         if !has_room(windows.h, windows.r[i], windows.d[i], windows.p[i]) {
-            return Verdict::Refused(Refusal::BadWindow(i));
+            return Err(Refusal::BadWindow(i));
         }
     }
-    Verdict::Accepted
+    Ok(())
 }
