@@ -7,15 +7,13 @@ use Prim.Native.Nat.{ℕ, ◌+◌, ◌-◌, ◌<◌, ◌≤◌}
 use native.Mathlib.Omega.{arith}
 use lib.ListN.{get_or, replicate}
 use Rattle.list.specs.DayLists.{by_place}
-use Rattle.list.specs.Refusals.{verdict_of}
-use Rattle.list.specs.declared.types.Verdict.{Verdict}
 use Rattle.windows.specs.Windows.{Windows, windows_in, room_fault, Formed}
 use Rattle.windows.specs.Plans.{Plannable}
 use Rattle.windows.specs.Mirrors.{MirrorOf, mirror}
 use Rattle.windows.specs.Intervals.{overload_of}
 use Rattle.windows.specs.declared.types.WindowSet.{WindowSet}
 use Rattle.list.proofs.ByPlace.{by_place_lem, by_place_same}
-use Rattle.base.specs.Outcomes.{accepts}
+use Rattle.base.specs.Outcomes.{Code, answered, refused, accepts}
 use Rattle.base.proofs.Inversion.{accepted_answered}
 use Rattle.windows.proofs.Room.{passes_formed}
 use Rattle.edges.specs.Ends.{closed_end}
@@ -100,18 +98,15 @@ module _ (s : WindowSet) (formed : Formed (windows_in s)) where
           ∙ sym (start_by_mirror overload_planner (windows_in s) formed i h whole))
 
 -- The bounds of windows, by what the test for room said.
-module _ (s : WindowSet) (v : Verdict) (says : verdict_of v ≡ room_fault (windows_in s)) (b : Bool) (is : b ≡ accepts (verdict_of v)) where
-  has_room : b ≡ accepts (room_fault (windows_in s))
-  has_room = is ∙ ap accepts says
-
-  pub room_formed : b ≡ true → Formed (windows_in s)
-  room_formed e = passes_formed (windows_in s) (omega arith) (accepted_answered (room_fault (windows_in s)) (sym has_room ∙ e))
+module _ (s : WindowSet) where
+  pub room_formed : answered tt ≡ room_fault (windows_in s) → Formed (windows_in s)
+  room_formed e = passes_formed (windows_in s) (omega arith) (sym e)
 
   module _ (whole : ℕ → Bool) (ends starts : List ℕ) where
-    pub bounds_none : b ≡ false → ends ≡ replicate 64 0 → starts ≡ replicate 64 0
+    pub bounds_none : {k : Code} → refused k ≡ room_fault (windows_in s) → ends ≡ replicate 64 0 → starts ≡ replicate 64 0
         → HoldsBounds whole (windows_in s) (record { ends = ends; starts = starts })
-    bounds_none e p q = let z : accepts (room_fault (windows_in s)) ≡ false = sym has_room ∙ e in record { ends = rw z p; starts = rw z q }
+    bounds_none e p q = record { ends = rw (← e) p; starts = rw (← e) q }
 
-    pub bounds_held : b ≡ true → ends ≡ least_ends whole (windows_in s) → starts ≡ greatest_starts whole (windows_in s)
-        → HoldsBounds whole (windows_in s) (record { ends = ends; starts = starts })
-    bounds_held e p q = let z : accepts (room_fault (windows_in s)) ≡ true = sym has_room ∙ e in record { ends = rw z p; starts = rw z q }
+    pub bounds_held : answered tt ≡ room_fault (windows_in s) → ends ≡ least_ends whole (windows_in s)
+        → starts ≡ greatest_starts whole (windows_in s) → HoldsBounds whole (windows_in s) (record { ends = ends; starts = starts })
+    bounds_held e p q = record { ends = rw (← e) p; starts = rw (← e) q }

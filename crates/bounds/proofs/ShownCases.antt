@@ -9,13 +9,11 @@ use borrow.Author.Tests.{lt-ltb, le-ltb, le-leb, lt-leb}
 use lib.ListN.{length, get_or, take, drop, get_or-append}
 use lib.Seq.{ext_get_or, length-take-le, drop_at}
 use Rattle.std.proofs.lemmas.List.{get_or-reverse, get_or-take, length-reverse}
-use Rattle.base.specs.Outcomes.{answered, refused}
-use Rattle.list.specs.Refusals.{code_of, verdict_of}
+use Rattle.base.specs.Outcomes.{Code, answered, refused}
+use Rattle.list.specs.Refusals.{outcome_of}
 use Rattle.list.specs.declared.types.Refusal.{Refusal}
 use Rattle.list.specs.declared.types.Refusal.TheVariants.{PlanBufferShort, UnknownPlace}
-use Rattle.list.specs.declared.types.Verdict.{Verdict}
-use Rattle.list.specs.declared.types.Verdict.TheVariants.{Accepted, Refused}
-use Rattle.list.proofs.Verdicts.{by_accepted, by_refused}
+use Rattle.std.specs.Prelude.{Err, Ok, Result}
 use Rattle.windows.specs.Windows.{Windows, windows_in, with_d, room_fault, Formed, Searchable}
 use Rattle.windows.specs.Plans.{idle, places_in}
 use Rattle.windows.specs.Mirrors.{mirror, mirror_bytes, MirrorOf}
@@ -33,14 +31,13 @@ use Rattle.bounds.specs.Ends.{least_end, greatest_start}
 use Rattle.bounds.specs.ShownPlans.{early_plan, late_plan, shown_plan}
 use Rattle.bounds.specs.Calls.{show_rows, StoresPlan}
 use Rattle.bounds.specs.Internal.{StoresShown}
-use Rattle.bounds.specs.declared.types.BoundAnswer.{BoundAnswer}
 use Rattle.bounds.specs.declared.types.Shown.{Shown}
 use Rattle.bounds.specs.declared.types.Shown.TheVariants.{Early, Late}
 use Rattle.bounds.proofs.EndSearches.{least_end_range}
 use Rattle.bounds.proofs.MirrorEnds.{start_by_mirror, late_by_mirror}
 
 -- the early plan: the schedule of the windows u with k's d set to its least end
-pub stored_early : (whole : ℕ → Bool) (w u : Windows) (k e : ℕ) (old : List ℕ) (v : Verdict) (new : List ℕ) → u ≡ with_d w k e
+pub stored_early : (whole : ℕ → Bool) (w u : Windows) (k e : ℕ) (old : List ℕ) (v : Result (Unit {0}) Refusal) (new : List ℕ) → u ≡ with_d w k e
     → FillsWindows u old v new → w.h ≤ length old → e ≡ least_end overload_of whole w k → StoresShown Early whole w k old e new
 stored_early whole w u k e old v new same fills room bound =
     record { bound = bound; buffer = rw (← bound) (filled_with (with_d w k e) old v new (rw same at fills) room) }
@@ -90,41 +87,36 @@ module _ {whole : ℕ → Bool} {w u : Windows} (formed : Formed w) {k : ℕ} (p
       rest = drop_at (early_plan (mirror w) k e) (drop w.h old) w.h (schedule_long _)
 
 -- `store_plan`: what it refuses, and what it stores.
-module _ (x : Shown) (whole : Bool) (s : WindowSet) (k : ℕ) (old : List ℕ) (v : Verdict)
-    (says : verdict_of v ≡ room_fault (windows_in s)) where
-  plan_refused : (r : Refusal) → show_rows (windows_in s) k (length old) ≡ refused (code_of r) → (a : BoundAnswer)
-      → a ≡ record { verdict = Refused r; bound = 0 } → StoresPlan x whole (windows_in s) k old a old
-  plan_refused r q a made = rw made (record { outcome = rw q refl; bound = rw q refl; buffer = rw q refl })
+module _ (x : Shown) (whole : Bool) (s : WindowSet) (k : ℕ) (old : List ℕ) where
+  plan_refused : (a : Result ℕ Refusal) {r : Code} → outcome_of a ≡ refused r → show_rows (windows_in s) k (length old) ≡ refused r
+      → StoresPlan x whole (windows_in s) k old a old
+  plan_refused a says q = record { outcome = rw q says; buffer = rw q refl }
 
-  pub stores_no_room : (r : Refusal) → v ≡ Refused r → StoresPlan x whole (windows_in s) k old (record { verdict = v; bound = 0 }) old
+  pub stores_no_room : (a : Result ℕ Refusal) {r : Code} → outcome_of a ≡ refused r → refused r ≡ room_fault (windows_in s)
+      → StoresPlan x whole (windows_in s) k old a old
   unfolding show_rows
-  stores_no_room r e = plan_refused r (rw (by_refused says e) refl) _ (ap (λ (u : Verdict). record { verdict = u; bound = 0 }) e)
+  stores_no_room a says fault = plan_refused a says (rw (← fault) refl)
 
-  module _ (e : v ≡ Accepted) where
-    room_passed : room_fault (windows_in s) ≡ answered tt
-    room_passed = by_accepted says e
-
+  module _ (room : answered tt ≡ room_fault (windows_in s)) where
     pub stored_formed : Formed (windows_in s)
-    stored_formed = passes_formed (windows_in s) (omega arith) room_passed
+    stored_formed = passes_formed (windows_in s) (omega arith) (sym room)
 
-    pub no_place : (windows_in s).n ≤ k → (a : BoundAnswer) → a ≡ record { verdict = Refused (UnknownPlace k); bound = 0 }
-        → StoresPlan x whole (windows_in s) k old a old
+    pub no_place : (windows_in s).n ≤ k → StoresPlan x whole (windows_in s) k old (Err (UnknownPlace k)) old
     unfolding show_rows
-    no_place h = plan_refused (UnknownPlace k) (rw (room_passed, le-leb _ k h) refl)
+    no_place h = plan_refused (Err (UnknownPlace k)) refl (rw (← room, le-leb _ k h) refl)
 
     module _ (known : k < (windows_in s).n) where
-      pub no_buffer : length old < s.h → (a : BoundAnswer) → a ≡ record { verdict = Refused (PlanBufferShort s.h); bound = 0 }
-          → StoresPlan x whole (windows_in s) k old a old
+      pub no_buffer : length old < s.h → StoresPlan x whole (windows_in s) k old (Err (PlanBufferShort s.h)) old
       unfolding show_rows
-      no_buffer h = plan_refused (PlanBufferShort s.h) (rw (room_passed, lt-leb _ k known, lt-ltb (length old) s.h h) refl)
+      no_buffer h = plan_refused (Err (PlanBufferShort s.h)) refl (rw (← room, lt-leb _ k known, lt-ltb (length old) s.h h) refl)
 
       pub plan_stored : s.h ≤ length old → (b : ℕ) (new : List ℕ) → StoresShown x (λ _. whole) (windows_in s) k old b new
-          → StoresPlan x whole (windows_in s) k old (record { verdict = Accepted; bound = b }) new
+          → StoresPlan x whole (windows_in s) k old (Ok b) new
       unfolding show_rows
       plan_stored h b new stores =
           let passed : show_rows (windows_in s) k (length old) ≡ answered tt =
-          rw (room_passed, lt-leb _ k known, le-ltb (length old) s.h h) refl in
-          record { outcome = rw passed refl; bound = rw passed stores.bound; buffer = rw passed stores.buffer }
+          rw (← room, lt-leb _ k known, le-ltb (length old) s.h h) refl in
+          record { outcome = rw passed (ap answered stores.bound); buffer = rw passed stores.buffer }
 
 -- the first h bytes the other way round are their mirror
 pub mirror_reversed : (h : ℕ) (bytes : List ℕ) → h ≤ length bytes → reverse (take h bytes) ≡ mirror_bytes h bytes

@@ -1,15 +1,15 @@
 -- What the public functions promise of windows: the bounds of their places, and a place's shown plan.
-use Rattle.std.specs.Prelude.{ℕ, ◌<◌, ◌≤◌, ◌≡◌, Bool, cond, List, [], ◌∷◌, ◌++◌, length, drop, replicate, leb}
+use Rattle.std.specs.Prelude.{ℕ, ◌<◌, ◌≤◌, ◌≡◌, Bool, cond, List, [], ◌∷◌, ◌++◌, length, drop, replicate, leb, Result}
 use Rattle.base.specs.Outcomes.{Code, code, Outcome, answered, refused, Row, row, first_of, and_then, accepts}
 use Rattle.list.specs.DayLists.{most_entries}
-use Rattle.list.specs.Refusals.{verdict_of}
+use Rattle.list.specs.Refusals.{outcome_of}
+use Rattle.list.specs.declared.types.Refusal.{Refusal}
 use Rattle.windows.specs.Windows.{Windows, room_fault}
 use Rattle.jackson.specs.Calls.{buffer_row}
 use Rattle.bounds.specs.Ends.{least_ends, greatest_starts}
 use Rattle.bounds.specs.ShownPlans.{bound_of, shown_plan}
 use Rattle.bounds.specs.declared.types.Shown.{Shown}
 use Rattle.bounds.specs.declared.types.Bounds.{Bounds}
-use Rattle.bounds.specs.declared.types.BoundAnswer.{BoundAnswer}
 
 -- these numbers, or 0 for each place of windows without room
 abbrev pub in_room : Windows → List ℕ → List ℕ
@@ -37,7 +37,6 @@ pub record ShowLaw (w : Windows) (k room : ℕ) : Type 0 where
 
 -- what `store_plan` answers of place k in the windows w, where `whole` says whether its entry is whole, and leaves in a plan buffer that
 -- held old. "In a longer buffer the bytes after H keep their values." "A refusal writes nothing to any lent buffer."
-pub record StoresPlan (x : Shown) (whole : Bool) (w : Windows) (k : ℕ) (old : List ℕ) (a : BoundAnswer) (new : List ℕ) : Type 0 where
-  pub outcome : verdict_of a.verdict ≡ show_rows w k (length old)
-  pub bound : a.bound ≡ cond (accepts (show_rows w k (length old))) (bound_of x (λ _. whole) k w) 0
+pub record StoresPlan (x : Shown) (whole : Bool) (w : Windows) (k : ℕ) (old : List ℕ) (a : Result ℕ Refusal) (new : List ℕ) : Type 0 where
+  pub outcome : outcome_of a ≡ and_then (show_rows w k (length old)) (λ _. answered (bound_of x (λ _. whole) k w))
   pub buffer : new ≡ cond (accepts (show_rows w k (length old))) (shown_plan x (λ _. whole) k w ++ drop w.h old) old

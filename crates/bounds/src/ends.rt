@@ -9,8 +9,8 @@ ghost use Rattle.bounds.specs.Internal.{PauseEnds, PausesPlanned, AllWhole};
 
 use crate::types::Bounds;
 use edges::closed_ends;
+use list::places_held;
 use list::types::ENTRIES;
-use list::{is_accepted, places_held};
 use windows::types::WindowSet;
 use windows::{mirrored, room_fault, unchecked_overload, zeros};
 
@@ -34,7 +34,7 @@ pub(crate) fn least_end(windows: WindowSet, k: usize, whole: bool) -> u16
     requires { Searchable windows k }
     ensures { result ≡ least_end overload_of (λ _. whole) (windows_in windows) k }
 {
-    let planned = is_accepted(unchecked_overload(windows));
+    let planned = unchecked_overload(windows).is_ok();
     let closed = closed_ends(windows);
     end_by_kind(
         whole,
@@ -58,7 +58,7 @@ fn all_whole(count: usize, whole: [bool; ENTRIES]) -> bool
 fn pauses_planned(whole: [bool; ENTRIES], windows: WindowSet) -> bool
     ensures { PausesPlanned (marked whole) (windows_in windows) result }
 {
-    all_whole(places_held(windows.n), whole) || is_accepted(unchecked_overload(windows))
+    all_whole(places_held(windows.n), whole) || unchecked_overload(windows).is_ok()
 }
 
 // The least ends of pause entries in closed form, if there are any.
@@ -114,15 +114,17 @@ fn greatest_starts(whole: [bool; ENTRIES], windows: WindowSet, planned: bool) ->
 pub fn bounds_of(whole: [bool; ENTRIES], windows: WindowSet) -> Bounds
     ensures { HoldsBounds (marked whole) (windows_in windows) result }
 {
-    if !is_accepted(room_fault(windows)) {
-        return Bounds {
+    match room_fault(windows) {
+        Ok(()) => {
+            let planned = pauses_planned(whole, windows);
+            Bounds {
+                ends: least_ends(whole, windows, planned),
+                starts: greatest_starts(whole, windows, planned),
+            }
+        }
+        Err(_) => Bounds {
             ends: zeros(),
             starts: zeros(),
-        };
-    }
-    let planned = pauses_planned(whole, windows);
-    Bounds {
-        ends: least_ends(whole, windows, planned),
-        starts: greatest_starts(whole, windows, planned),
+        },
     }
 }

@@ -1,6 +1,5 @@
 // Plans that are shown for a place.
 ghost use Rattle.std.specs.Prelude.{◌≡◌, ◌++◌, ◌≤◌, length, drop};
-ghost use Rattle.list.specs.declared.types.Verdict.TheVariants.{Refused};
 ghost use Rattle.windows.specs.Windows.{windows_in, Searchable};
 ghost use Rattle.windows.specs.Mirrors.{mirror_bytes};
 ghost use Rattle.bounds.specs.declared.types.Shown.TheVariants.{Early};
@@ -8,10 +7,10 @@ ghost use Rattle.bounds.specs.Calls.{StoresPlan};
 ghost use Rattle.bounds.specs.Internal.{StoresShown};
 
 use crate::ends::least_end;
-use crate::types::{BoundAnswer, Shown};
+use crate::types::Shown;
 use jackson::unchecked_schedule;
 use list::places_held;
-use list::types::{Refusal, Verdict};
+use list::types::Refusal;
 use windows::types::WindowSet;
 use windows::{mirrored, room_fault};
 
@@ -52,42 +51,23 @@ fn store_shown(shown: Shown, windows: WindowSet, k: usize, whole: bool, plan: &m
     }
 }
 
-// A refusal, with what stands beside it.
-fn no_bound(refusal: Refusal) -> BoundAnswer
-    ensures { result ≡ record { verdict = Refused refusal; bound = 0 } }
-{
-    BoundAnswer {
-        verdict: Verdict::Refused(refusal),
-        bound: 0,
-    }
-}
-
-// Stores the plan of place k that is shown, where `whole` says whether its entry is: rows 7, 13 and 11, then the plan and its bound.
+// Stores the plan of place k that is shown, where `whole` says whether its entry is: rows 7, 13 and 11, then the plan, and answers its bound.
 pub fn store_plan(
     shown: Shown,
     whole: bool,
     windows: WindowSet,
     k: usize,
     plan: &mut [u8],
-) -> BoundAnswer
+) -> Result<u16, Refusal>
     ensures { StoresPlan shown whole (windows_in windows) k plan.old result plan.new }
 {
-    let fault = room_fault(windows);
-    let Verdict::Accepted = fault else {
-        return BoundAnswer {
-            verdict: fault,
-            bound: 0,
-        };
-    };
+    room_fault(windows)?;
     if places_held(windows.n) <= k {
-        return no_bound(Refusal::UnknownPlace(k));
+        return Err(Refusal::UnknownPlace(k));
     }
-    let h = usize::from(windows.h);
+    let h = windows.h as usize;
     if plan.len() < h {
-        return no_bound(Refusal::PlanBufferShort(h));
+        return Err(Refusal::PlanBufferShort(h));
     }
-    BoundAnswer {
-        verdict: Verdict::Accepted,
-        bound: store_shown(shown, windows, k, whole, plan),
-    }
+    Ok(store_shown(shown, windows, k, whole, plan))
 }

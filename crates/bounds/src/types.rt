@@ -1,5 +1,5 @@
 // What is asked of windows, and what is answered.
-use list::types::{ENTRIES, Verdict};
+use list::types::ENTRIES;
 
 // Which of a place's two plans is shown.
 #[derive(Clone, Copy)]
@@ -13,11 +13,4 @@ pub enum Shown {
 pub struct Bounds {
     pub ends: [u16; ENTRIES],
     pub starts: [u16; ENTRIES],
-}
-
-// What storing a place's shown plan answers: its least end or greatest start beside Accepted, 0 beside a refusal.
-#[derive(Clone, Copy)]
-pub struct BoundAnswer {
-    pub verdict: Verdict,
-    pub bound: u16,
 }

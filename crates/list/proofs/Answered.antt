@@ -4,19 +4,24 @@ use mathlib.Core.Path.{◌≡◌, refl, sym, ap, ◌∙◌}
 use mathlib.Core.Bool.{cond}
 use lib.Dec.{eqb}
 use lib.ListN.{get_or}
-use Rattle.base.specs.Outcomes.{Code, Outcome, refused}
+use Rattle.base.specs.Outcomes.{Code, Outcome, refused, accepts}
 use Rattle.list.specs.Refusals.{code_of, outcome_of}
 use Rattle.list.specs.declared.types.Refusal.{Refusal}
 use Rattle.list.specs.declared.types.Refusal.TheVariants.{BytesMissing, BadDayLength, TooManyEntries, BadMapByte, DefaultWritten}
 use Rattle.list.specs.declared.types.Refusal.TheVariants.{NoMinutes, BadWindow, BytesLeftOver, Overloaded, NoPlace, PlanBufferShort}
 use Rattle.list.specs.declared.types.Refusal.TheVariants.{ListBufferShort, UnknownPlace, SerialClash, BadOpening}
 use Rattle.list.specs.declared.types.Refusal.TheVariants.{BeforeOpening, StaleStamp, DayFull, RoomCount, BadFlatLength}
-use Rattle.std.specs.Prelude.{Err, IsErrAnd, Ok, Result}
+use Rattle.std.specs.Prelude.{Result, Ok, Err, is_ok, IsErrAnd}
 use Rattle.base.proofs.Inversion.{answered_refused, refused_same}
 
 -- what an answer that is known tells of the outcome that it says
 pub by_answer : {A : Type 0} {o : Outcome A} {v t : Result A Refusal} → outcome_of v ≡ o → v ≡ t → o ≡ outcome_of t
 by_answer says e = sym says ∙ ap outcome_of e
+
+-- whether an answer is no refusal
+pub ok_accepts : {A : Type 0} (r : Result A Refusal) → is_ok r ≡ accepts (outcome_of r)
+ok_accepts (Ok a) = refl
+ok_accepts (Err x) = refl
 
 -- a `?` hands on the refusal that it met
 pub passed_on : {A : Type 0} (r : Result A Refusal) (x : Refusal) → IsErrAnd r (λ (y : Refusal). y ≡ x) → r ≡ Err x
