@@ -23,6 +23,13 @@ pub ok_accepts : {A : Type 0} (r : Result A Refusal) → is_ok r ≡ accepts (ou
 ok_accepts (Ok a) = refl
 ok_accepts (Err x) = refl
 
+-- an answer is one thing, and not both
+pub the_ok : {A : Type 0} {a b : A} → ◌≡◌ {A = Result A Refusal} (Ok a) (Ok b) → a ≡ b
+the_ok e = cc e
+
+pub not_both : {A : Type 0} {r : Result A Refusal} {a : A} {x : Refusal} → r ≡ Ok a → r ≡ Err x → ⊥
+not_both e f = answered_refused (ap outcome_of e) (ap outcome_of f)
+
 -- a `?` hands on the refusal that it met
 pub passed_on : {A : Type 0} (r : Result A Refusal) (x : Refusal) → IsErrAnd r (λ (y : Refusal). y ≡ x) → r ≡ Err x
 passed_on (Ok a) x p = absurd p
@@ -79,7 +86,7 @@ refusal_is (RoomCount x) = refl
 refusal_is (BadFlatLength x) = refl
 
 -- so no two refusals have the same number and values
-one_refusal : (j k : Refusal) → code_of j ≡ code_of k → j ≡ k
+pub one_refusal : (j k : Refusal) → code_of j ≡ code_of k → j ≡ k
 one_refusal j k e = sym (refusal_is j) ∙ ap refusal_of e ∙ refusal_is k
 
 -- so an outcome is that of one answer

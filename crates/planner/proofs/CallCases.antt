@@ -8,21 +8,17 @@ use native.Mathlib.Omega.{arith}
 use borrow.Author.Tests.{le-ltb, le-leb, lt-leb, leb-false, ltb-false}
 use lib.ListN.{length, take, drop}
 use lib.Seq.{length-take-le, take_at}
-use Rattle.base.specs.Outcomes.{Code, Row, Outcome, answered, refused, first_of, and_then}
+use Rattle.base.specs.Outcomes.{Code, code, Row, Outcome, answered, refused, first_of, and_then}
 use Rattle.base.proofs.Inversion.{answered_same, answered_refused}
-use Rattle.list.specs.Refusals.{code_of, outcome_of, verdict_of}
-use Rattle.list.specs.DayLists.{empty_list, whole_in, marked}
+use Rattle.list.specs.Refusals.{code_of, outcome_of}
+use Rattle.list.specs.DayLists.{whole_in, marked}
 use Rattle.list.specs.Checks.{check_of, WellFormed}
 use Rattle.list.specs.declared.types.Refusal.{Refusal}
-use Rattle.list.specs.declared.types.Refusal.TheVariants.{UnknownPlace}
-use Rattle.list.specs.declared.types.Verdict.{Verdict}
-use Rattle.list.specs.declared.types.Verdict.TheVariants.{Accepted, Refused}
+use Rattle.std.specs.Prelude.{Result, Ok, Err}
 use Rattle.list.specs.declared.types.DayList.{DayList}
 use Rattle.list.proofs.Sound.{sound_list}
-use Rattle.list.proofs.Verdicts.{by_verdict, by_accepted, by_refused}
 use Rattle.windows.specs.Windows.{Windows, windows_of, windows_in, Formed}
 use Rattle.windows.specs.Plans.{places_in}
-use Rattle.windows.specs.Intervals.{overload_of}
 use Rattle.windows.specs.Calls.{Holds}
 use Rattle.windows.specs.declared.types.WindowSet.{WindowSet}
 use Rattle.windows.proofs.Room.{formed_passes}
@@ -30,21 +26,21 @@ use Rattle.windows.proofs.FormedLists.{list_few, list_formed}
 use Rattle.jackson.specs.Minutes.{schedule}
 use Rattle.jackson.specs.Calls.{buffer_row, buffer_fault, FillsWindows}
 use Rattle.narrow.specs.Settling.{Widest}
-use Rattle.narrow.specs.Rounds.{Narrowed, narrowing}
-use Rattle.narrow.specs.Calls.{narrow_windows, narrowed_of, narrowed_in, settle_of, AnswersAs}
-use Rattle.narrow.specs.declared.types.WindowsAnswer.{WindowsAnswer}
-use Rattle.narrow.specs.declared.types.NarrowAnswer.{NarrowAnswer}
+use Rattle.narrow.specs.Rounds.{Narrowed}
+use Rattle.narrow.specs.Calls.{list_with, listed, narrow_windows, narrowed_by, narrowed_of, narrow_answer_of, narrowed_in, settle_of}
+use Rattle.narrow.specs.Calls.{NarrowsWindows, AnswersAs}
+use Rattle.narrow.specs.declared.types.NarrowedWindows.{NarrowedWindows}
+use Rattle.narrow.specs.declared.types.NarrowedList.{NarrowedList}
 use Rattle.narrow.proofs.OverloadPlanner.{overload_planner}
 use Rattle.narrow.proofs.StepsKeep.{Keeps}
 use Rattle.narrow.proofs.Fixpoints.{widest_formed}
 use Rattle.narrow.proofs.NarrowLaws.{narrow_law}
-use Rattle.narrow.proofs.ListAnswers.{answers_refused, settle_keeps, holds_answer}
+use Rattle.narrow.proofs.ListAnswers.{settle_keeps, holds_answer}
 use Rattle.bounds.specs.ShownPlans.{bound_of, shown_plan}
 use Rattle.bounds.specs.Ends.{least_ends, greatest_starts}
 use Rattle.bounds.specs.Calls.{in_room, HoldsBounds, place_row, show_rows, StoresPlan}
 use Rattle.bounds.specs.declared.types.Shown.{Shown}
 use Rattle.bounds.specs.declared.types.Bounds.{Bounds}
-use Rattle.bounds.specs.declared.types.BoundAnswer.{BoundAnswer}
 use Rattle.bounds.proofs.ShownFacts.{bound_kind, plan_kind}
 use Rattle.jackson.proofs.Schedules.{schedule_long}
 use Rattle.jackson.proofs.StoredPlans.{stored_long, filled_with}
@@ -55,35 +51,29 @@ use Rattle.planner.specs.Internal.{HoldsPlan, NarrowsAfter}
 use Rattle.planner.proofs.Demands.{plans_windows}
 
 -- The checks before 9.
-module _ (l : DayList) (v : Verdict) (checked : verdict_of v ≡ check_of l) where
-  module _ (x : Refusal) (e : v ≡ Refused x) where
-    failed : check_of l ≡ refused (code_of x)
-    failed = by_refused checked e
-
-    pub plan_failed : (room : ℕ) → verdict_of v ≡ plan_checks l room
+module _ (l : DayList) where
+  module _ {k : Code} (fails : refused k ≡ check_of l) where
+    pub plan_failed : (room : ℕ) → refused k ≡ plan_checks l room
     unfolding plan_checks
-    plan_failed room = rw failed (ap verdict_of e)
+    plan_failed room = rw (← fails) refl
 
-    pub shown_failed : (k room : ℕ) → verdict_of v ≡ shown_checks l k room
+    pub shown_failed : (place room : ℕ) → refused k ≡ shown_checks l place room
     unfolding shown_checks
-    shown_failed k room = rw failed (ap verdict_of e)
+    shown_failed place room = rw (← fails) refl
 
-  module _ (room : ℕ) (e : v ≡ Accepted) where
-    passed : check_of l ≡ answered tt
-    passed = by_accepted checked e
-
-    pub plan_buffer : (u : Verdict) → verdict_of u ≡ buffer_fault l.frame.h room → verdict_of u ≡ plan_checks l room
+  module _ (passes : answered tt ≡ check_of l) (room : ℕ) where
+    pub plan_buffer : buffer_fault l.frame.h room ≡ plan_checks l room
     unfolding plan_checks
-    plan_buffer u q = rw passed q
+    plan_buffer = rw (← passes) refl
 
     module _ (k : ℕ) where
-      pub place_unknown : l.n ≤ k → verdict_of (Refused (UnknownPlace k)) ≡ shown_checks l k room
+      pub place_unknown : l.n ≤ k → refused (code 13 (k ∷ [])) ≡ shown_checks l k room
       unfolding shown_checks
-      place_unknown h = rw (passed, le-leb l.n k h) refl
+      place_unknown h = rw (← passes, le-leb l.n k h) refl
 
-      pub place_known : k < l.n → (u : Verdict) → verdict_of u ≡ buffer_fault l.frame.h room → verdict_of u ≡ shown_checks l k room
+      pub place_known : k < l.n → buffer_fault l.frame.h room ≡ shown_checks l k room
       unfolding shown_checks
-      place_known h u q = rw (passed, lt-leb l.n k h) q
+      place_known h = rw (← passes, lt-leb l.n k h) refl
 
 -- what they say where they are passed
 abbrev Passed : Outcome (Unit {0}) → Type 0
@@ -122,9 +112,9 @@ module _ (l : DayList) where
 
 -- Narrowing after them, from the marks of the whole entries and the windows of the list.
 module _ (checks : Outcome (Unit {0})) (l : DayList) (formed : checks ≡ answered tt → WellFormed l) where
-  pub after_checks : (a : NarrowAnswer) → AnswersAs l (narrow_after checks l) a → NarrowsAfter checks l a
+  pub after_checks : (a : Result NarrowedList Refusal) → AnswersAs l (narrow_after checks l) a → NarrowsAfter checks l a
   unfolding settle_of
-  after_checks a answers = record { answers = answers; holds = holds_answer l a (narrow_after checks l) keeps answers }
+  after_checks a answers = record { answers = answers; holds = holds_answer l (narrow_after checks l) keeps a answers }
     where
       keeps : (v : Narrowed) → narrow_after checks l ≡ answered v → Keeps (windows_of l) v.windows × WellFormed l
       keeps v = go checks refl
@@ -133,33 +123,28 @@ module _ (checks : Outcome (Unit {0})) (l : DayList) (formed : checks ≡ answer
           go (answered t) e q = settle_keeps l v (rw (formed e) q)
           go (refused k) e q = absurd (answered_refused q refl)
 
-  module _ (marks : List Bool) (kinds : marked marks ≡ whole_in l) (s : WindowSet) (holds : Holds l s) (found : WindowsAnswer)
-      (is : narrowed_of found ≡ and_then checks (λ _. narrow_windows (marked marks) (windows_in s))) where
-    pub found_is : narrowed_of found ≡ narrow_after checks l
+  -- a refusal
+  pub narrows_not : (a : Result NarrowedList Refusal) (x : Refusal) → a ≡ Err x → narrow_after checks l ≡ refused (code_of x)
+      → NarrowsAfter checks l a
+  narrows_not a x e is = after_checks a (ap narrow_answer_of e ∙ ap (listed l) (sym is))
+
+  module _ (passed : answered tt ≡ checks) where
+    pub found_is : (marks : List Bool) → marked marks ≡ whole_in l → (s : WindowSet) → Holds l s → (found : Result NarrowedWindows Refusal)
+        → NarrowsWindows (marked marks) s found → narrowed_of found ≡ narrow_after checks l
     unfolding narrow_windows
-    found_is = is ∙ go checks refl
-      where
-        given : narrow_windows (marked marks) (windows_in s) ≡ narrow_windows (whole_in l) (windows_of l)
-        given = λ i. narrow_windows (kinds i) (holds.windows i)
+    found_is marks kinds s holds found narrows =
+        let given : narrow_windows (marked marks) (windows_in s) ≡ narrow_windows (whole_in l) (windows_of l) =
+        λ i. narrow_windows (kinds i) (holds.windows i) in
+        narrows.outcome ∙ given ∙ rw (← passed, formed_passes (windows_of l) (list_formed l (formed (sym passed)))) refl
 
-        go : (o : Outcome (Unit {0})) → checks ≡ o
-            → and_then o (λ _. narrow_windows (marked marks) (windows_in s)) ≡ and_then o
-            (λ _. narrowing overload_of (whole_in l) (windows_of l))
-        go (answered t) e = given ∙ rw (formed_passes (windows_of l) (list_formed l (formed e)))
-        go (refused k) e = refl
-
-  -- the answer that code makes of what was found, and a refusal with what stands beside it
-  module _ (found : WindowsAnswer) (is : narrowed_of found ≡ narrow_after checks l) (a : NarrowAnswer) where
-    pub narrows_after : AnswersAs l (narrowed_of found) a → NarrowsAfter checks l a
-    narrows_after answers = after_checks a (rw is at answers)
-
-    pub narrows_not : (x : Refusal) → found.verdict ≡ Refused x → a ≡ record { verdict = found.verdict; list = empty_list; moves = 0 }
-        → NarrowsAfter checks l a
-    narrows_not x e made = after_checks a (answers_refused l a (narrow_after checks l) found.verdict x made e (sym is ∙ rw e))
+  -- the answer that code makes of what was found
+  pub narrows_after : (found : NarrowedWindows) → answered (narrowed_by found) ≡ narrow_after checks l → (v : NarrowedList)
+      → v ≡ record { list = list_with l (windows_in found.windows); moves = found.moves } → NarrowsAfter checks l (Ok v)
+  narrows_after found is v made = after_checks (Ok v) (rw made (ap (listed l) is))
 
 -- the windows and moves answered
-abbrev pub settled_in : NarrowAnswer → Narrowed
-settled_in a = record { windows = windows_of a.list; moves = a.moves }
+abbrev pub settled_in : NarrowedList → Narrowed
+settled_in v = record { windows = windows_of v.list; moves = v.moves }
 
 -- checks that were passed
 checks_passed : (checks : Outcome (Unit {0})) (l : DayList) (v : Narrowed) → narrow_after checks l ≡ answered v → checks ≡ answered tt
@@ -167,34 +152,32 @@ checks_passed (answered t) l v q = refl
 checks_passed (refused k) l v q = absurd (answered_refused q refl)
 
 -- an answer that is no refusal: the list answered has the settled windows
-pub record IsSettled (checks : Outcome (Unit {0})) (l : DayList) (a : NarrowAnswer) : Type 0 where
+pub record IsSettled (checks : Outcome (Unit {0})) (l : DayList) (v : NarrowedList) : Type 0 where
   pub passed : checks ≡ answered tt
-  pub formed : WellFormed a.list
-  pub few : a.list.n ≤ 64
-  pub kinds : whole_in a.list ≡ whole_in l
-  pub outcome : narrow_after checks l ≡ answered (settled_in a)
-  pub widest : Widest (whole_in l) (windows_of l) (windows_of a.list)
+  pub formed : WellFormed v.list
+  pub few : v.list.n ≤ 64
+  pub kinds : whole_in v.list ≡ whole_in l
+  pub outcome : narrow_after checks l ≡ answered (settled_in v)
+  pub widest : Widest (whole_in l) (windows_of l) (windows_of v.list)
 
-module _ {checks : Outcome (Unit {0})} {l : DayList} {a : NarrowAnswer} (after : NarrowsAfter checks l a) where
-  pub outcome_is : (v : Verdict) → a.verdict ≡ v → narrow_after checks l ≡ outcome_of v (settled_in a)
-  outcome_is v = by_verdict (settled_in a) after.holds.narrowed
-
-  pub is_settled : a.verdict ≡ Accepted → (checks ≡ answered tt → WellFormed l) → IsSettled checks l a
-  is_settled e formed =
-      let outcome = outcome_is Accepted e in
-      let passed = checks_passed checks l (settled_in a) outcome in
-      let law = narrow_law overload_planner (whole_in l) (windows_of l) (list_formed l (formed passed)) in
-      record {
-        passed = passed;
-        formed = after.holds.formed e;
-        few = (sound_list a.list (after.holds.formed e)).header.room;
-        kinds = after.holds.kinds e;
-        outcome = outcome;
-        widest = law.widest _ (rw passed at outcome);
-      }
+pub is_settled : {checks : Outcome (Unit {0})} {l : DayList} {a : Result NarrowedList Refusal} → NarrowsAfter checks l a
+    → (v : NarrowedList) → a ≡ Ok v → (checks ≡ answered tt → WellFormed l) → IsSettled checks l v
+is_settled {checks} {l} after v e formed =
+    let outcome : narrow_after checks l ≡ answered (settled_in v) = sym after.holds.narrowed ∙ ap narrowed_in e in
+    let passed = checks_passed checks l (settled_in v) outcome in
+    let law = narrow_law overload_planner (whole_in l) (windows_of l) (list_formed l (formed passed)) in
+    let kept = after.holds.keeps v e in
+    record {
+      passed = passed;
+      formed = kept.formed;
+      few = (sound_list v.list kept.formed).header.room;
+      kinds = kept.kinds;
+      outcome = outcome;
+      widest = law.widest _ (rw passed at outcome);
+    }
 
 -- The settled list: its windows, its day and its plan.
-module _ {checks : Outcome (Unit {0})} {l : DayList} {a : NarrowAnswer} (settled : IsSettled checks l a) where
+module _ {checks : Outcome (Unit {0})} {l : DayList} {a : NarrowedList} (settled : IsSettled checks l a) where
   settled_formed : Formed (windows_of a.list)
   settled_formed = list_formed a.list settled.formed
 
@@ -209,44 +192,47 @@ module _ {checks : Outcome (Unit {0})} {l : DayList} {a : NarrowAnswer} (settled
   settled_plan = plans_windows (whole_in l) (windows_of a.list) settled_formed settled.widest.settled.plan
 
 -- the windows of the list answered are those told
-pub windows_told : (a : NarrowAnswer) (v : Narrowed) → narrowed_in a ≡ answered v
-    → (a.verdict ≡ Accepted) × (windows_of a.list ≡ v.windows)
-windows_told a v = go a.verdict refl
-  where
-    go : (t : Verdict) → a.verdict ≡ t → outcome_of t (settled_in a) ≡ answered v
-        → (a.verdict ≡ Accepted) × (windows_of a.list ≡ v.windows)
-    go Accepted e q = (e, ap (λ (x : Narrowed). x.windows) (answered_same refl q))
-    go (Refused x) e q = absurd (answered_refused q refl)
+pub windows_told : (a : Result NarrowedList Refusal) (v : Narrowed) → narrowed_in a ≡ answered v
+    → (u : NarrowedList) × (a ≡ Ok u) × (windows_of u.list ≡ v.windows)
+windows_told (Ok u) v q = (u, refl, ap (λ (x : Narrowed). x.windows) (answered_same refl q))
+windows_told (Err x) v q = absurd (answered_refused q refl)
 
 -- What the code has where nothing was refused: the settled windows in arrays, with the marks of the whole entries, and a plan buffer with
 -- room.
-pub record Planning (checks : Outcome (Unit {0})) (l : DayList) (old : List ℕ) (marks : List Bool) (found : WindowsAnswer) : Type 0 where
+pub record Planning (checks : Outcome (Unit {0})) (l : DayList) (old : List ℕ) (marks : List Bool) (found : NarrowedWindows) : Type 0 where
   pub passed : checks ≡ answered tt
-  pub outcome : narrow_after checks l ≡ answered (record { windows = windows_in found.windows; moves = found.moves })
+  pub outcome : narrow_after checks l ≡ answered (narrowed_by found)
   pub widest : Widest (whole_in l) (windows_of l) (windows_in found.windows)
   pub formed : Formed (windows_in found.windows)
   pub kinds : marked marks ≡ whole_in l
   pub room : l.frame.h ≤ length old
 
-pub is_planning : {checks : Outcome (Unit {0})} {l : DayList} {old : List ℕ} {marks : List Bool} (found : WindowsAnswer)
+is_planning : {checks : Outcome (Unit {0})} {l : DayList} {old : List ℕ} {marks : List Bool} (found : NarrowedWindows)
     → (checks ≡ answered tt → plan_checks l (length old) ≡ answered tt) → marked marks ≡ whole_in l
-    → narrowed_of found ≡ narrow_after checks l → found.verdict ≡ Accepted → Planning checks l old marks found
-is_planning {checks} {l} {old} found plan kinds is e =
-    let v : Narrowed = record { windows = windows_in found.windows; moves = found.moves } in
-    let outcome : narrow_after checks l ≡ answered v = sym is ∙ rw e in
-    let passed = checks_passed checks l v outcome in
+    → answered (narrowed_by found) ≡ narrow_after checks l → Planning checks l old marks found
+is_planning {checks} {l} {old} found plan kinds is =
+    let passed = checks_passed checks l (narrowed_by found) (sym is) in
     let given = list_formed l (plan_formed l (length old) (plan passed)) in
-    let widest = (narrow_law overload_planner (whole_in l) (windows_of l) given).widest v (rw passed at outcome) in
+    let widest =
+    (narrow_law overload_planner (whole_in l) (windows_of l) given).widest (narrowed_by found) (rw passed at (sym is)) in
     record {
       passed = passed;
-      outcome = outcome;
+      outcome = sym is;
       widest = widest;
       formed = widest_formed (whole_in l) (windows_of l) (windows_in found.windows) given widest;
       kinds = kinds;
       room = plan_room l (length old) (plan passed);
     }
 
-module _ {checks : Outcome (Unit {0})} {l : DayList} {old : List ℕ} {marks : List Bool} {found : WindowsAnswer}
+-- where the checks were passed, and narrowing found windows
+pub found_planning : (checks : Outcome (Unit {0})) (l : DayList) (old : List ℕ) → (checks ≡ answered tt → plan_checks l (length old) ≡ answered tt)
+    → answered tt ≡ checks → (marks : List Bool) → marked marks ≡ whole_in l → (s : WindowSet) → Holds l s → (found : NarrowedWindows)
+    → NarrowsWindows (marked marks) s (Ok found) → Planning checks l old marks found
+found_planning checks l old plan passes marks kinds s holds found narrows =
+    is_planning found plan kinds
+    (found_is checks l (λ e. plan_formed l (length old) (plan e)) passes marks kinds s holds (Ok found) narrows)
+
+module _ {checks : Outcome (Unit {0})} {l : DayList} {old : List ℕ} {marks : List Bool} {found : NarrowedWindows}
     (planning : Planning checks l old marks found) where
   abbrev w : Windows
   w = windows_in found.windows
@@ -276,7 +262,7 @@ module _ {checks : Outcome (Unit {0})} {l : DayList} {old : List ℕ} {marks : L
     starts_are = bounds.starts ∙ in_room_lem _ ∙ (λ i. greatest_starts (planning.kinds i) w) ∙ rw planning.outcome refl
 
   -- the day's plan
-  module _ {v : Verdict} {new : List ℕ} (fills : FillsWindows w old v new) where
+  module _ {v : Result (Unit {0}) Refusal} {new : List ℕ} (fills : FillsWindows w old v new) where
     stored : new ≡ schedule w ++ drop w.h old
     stored = filled_with w old v new fills has_room
 
@@ -305,7 +291,7 @@ module _ {checks : Outcome (Unit {0})} {l : DayList} {old : List ℕ} {marks : L
         ∙ rw planning.outcome refl
 
   -- a shown plan
-  module _ {x : Shown} {k : ℕ} (place : k < w.n) {b : BoundAnswer} {new : List ℕ}
+  module _ {x : Shown} {k : ℕ} (place : k < w.n) {b : Result ℕ Refusal} {new : List ℕ}
       (stores : StoresPlan x (marked marks k) w k old b new) where
     rows_are : show_rows w k (length old) ≡ answered tt
     unfolding show_rows
@@ -314,8 +300,16 @@ module _ {checks : Outcome (Unit {0})} {l : DayList} {old : List ℕ} {marks : L
     kind_is : marked marks k ≡ whole_in l k
     kind_is = ap (λ (whole : ℕ → Bool). whole k) planning.kinds
 
-    pub shown_bound : b.bound ≡ settled_or 0 (bound_of x (whole_in l) k) (narrow_after checks l)
-    shown_bound = rw planning.outcome ((rw rows_are at stores.bound) ∙ bound_kind x (whole_in l) _ w k kind_is)
+    is_answered : outcome_of b ≡ answered (bound_of x (λ _. marked marks k) k w)
+    is_answered = rw rows_are at stores.outcome
+
+    -- none of its rows holds
+    pub shown_some : (r : Refusal) → b ≡ Err r → ⊥
+    shown_some r e = answered_refused is_answered (ap outcome_of e)
+
+    pub shown_bound : (v : ℕ) → b ≡ Ok v → v ≡ settled_or 0 (bound_of x (whole_in l) k) (narrow_after checks l)
+    shown_bound v e =
+        rw planning.outcome (answered_same (ap outcome_of e) is_answered ∙ bound_kind x (whole_in l) _ w k kind_is)
 
     pub shown_stored : new ≡ planned (shown_plan x (whole_in l) k) old (narrow_after checks l)
     shown_stored =

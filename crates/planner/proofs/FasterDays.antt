@@ -1,6 +1,6 @@
 -- The fast way and the defined way refuse alike or agree, and the calls answer what both do.
 -- Assumes nothing.
-use mathlib.Core.Path.{◌≡◌, refl, ap, ◌∙◌}
+use mathlib.Core.Path.{◌≡◌, refl, ap, ◌∙◌, sym}
 use mathlib.Core.Bool.{Bool}
 use mathlib.Core.List.{List}
 use Prim.Native.Nat.{ℕ, ◌<◌, ◌≤◌}
@@ -12,6 +12,9 @@ use Rattle.base.proofs.Inversion.{answered_refused, then_same}
 use Rattle.list.specs.DayLists.{whole_in}
 use Rattle.list.specs.Checks.{check_of, WellFormed}
 use Rattle.list.specs.declared.types.DayList.{DayList}
+use Rattle.list.specs.declared.types.Refusal.{Refusal}
+use Rattle.list.specs.Refusals.{code_of}
+use Rattle.std.specs.Prelude.{Result, Ok, Err}
 use Rattle.windows.specs.Windows.{Windows, windows_of, with_r, with_d, Formed}
 use Rattle.windows.specs.Mirrors.{mirror, mirror_bytes}
 use Rattle.windows.specs.RunningSums.{LatestReleaseFirst}
@@ -24,7 +27,7 @@ use Rattle.jackson.proofs.StretchBytes.{stretch_law}
 use Rattle.windows.specs.Intervals.{overload_of}
 use Rattle.narrow.specs.Settling.{SettledInside, Widest}
 use Rattle.narrow.specs.Rounds.{Narrowed, narrowing}
-use Rattle.narrow.specs.Calls.{settle_of, round_of}
+use Rattle.narrow.specs.Calls.{settle_of, round_of, narrowed_in}
 use Rattle.narrow.proofs.FastLaws.{fast_law}
 use Rattle.narrow.proofs.MirrorSettled.{set_formed}
 use Rattle.narrow.proofs.NarrowLaws.{narrow_law}
@@ -34,11 +37,11 @@ use Rattle.bounds.proofs.FastBounds.{end_same, start_same, fast_bounds}
 use Rattle.bounds.specs.ShownPlans.{early_plan, late_plan, bound_of, shown_plan}
 use Rattle.bounds.specs.declared.types.Shown.{Shown}
 use Rattle.bounds.specs.declared.types.Shown.TheVariants.{Early, Late}
-use Rattle.planner.specs.Calls.{plan_checks, narrow_after, planned, ends_of, starts_of, PlansDay}
+use Rattle.planner.specs.Calls.{plan_checks, narrow_after, planned, ends_of, starts_of, narrowed_by_plan, PlansDay}
 use Rattle.planner.specs.FasterDays.{defined_told, defined_day, fast_told, fast_settle_of, fast_day, fast_round_of, fast_bound, fast_shown}
-use Rattle.planner.specs.FasterDays.{call_told, told_of}
+use Rattle.planner.specs.FasterDays.{told_of}
 use Rattle.planner.specs.FasterDays.{FasterDays}
-use Rattle.planner.specs.declared.types.PlanAnswer.{PlanAnswer}
+use Rattle.planner.specs.declared.types.PlannedDay.{PlannedDay}
 
 module _ (l : DayList) where
   abbrev whole : ℕ → Bool
@@ -107,7 +110,7 @@ module _ (l : DayList) where
     round_same = then_same (check_of l) _ _ (λ _ checked. (fast_law whole given (list_formed l checked)).one_round order sorted)
 
   -- what a call tells whose buffer is long enough
-  module _ (old : List ℕ) (a : PlanAnswer) (new : List ℕ) (plans : PlansDay l old a new) (long : l.frame.h ≤ length old) where
+  module _ (old : List ℕ) (a : Result PlannedDay Refusal) (new : List ℕ) (plans : PlansDay l old a new) (long : l.frame.h ≤ length old) where
     outcome_is : narrow_after (plan_checks l (length old)) l ≡ settle_of l
     unfolding plan_checks settle_of
     outcome_is = go (check_of l)
@@ -122,21 +125,39 @@ module _ (l : DayList) where
         go (answered _) = ap (λ (x : Outcome (Unit {0})). and_then x (λ _. narrowing overload_of whole given)) passed
         go (refused k) = refl
 
-    told_same : told_of l a new ≡ defined_day l
+    -- a refusal, and what is told beside the windows answered
+    told_refused : (x : Refusal) → a ≡ Err x → told_of l a new ≡ defined_day l
     unfolding defined_day
-    told_same =
-        ap (λ (o : Outcome Narrowed). and_then o (λ v. answered (call_told l a new v))) (plans.holds.narrowed ∙ outcome_is)
-        ∙ then_same (settle_of l) (λ v. answered (call_told l a new v)) (λ v. answered (defined_told whole v))
-        (λ v e.
+    told_refused x e =
+        let is : settle_of l ≡ refused (code_of x) =
+        sym outcome_is ∙ sym plans.holds.narrowed ∙ ap (λ (b : Result PlannedDay Refusal). narrowed_in (narrowed_by_plan b)) e in
+        rw (e, is) refl
+
+    told_planned : (p : PlannedDay) → a ≡ Ok p → told_of l a new ≡ defined_day l
+    unfolding defined_day
+    told_planned p f =
+        let v : Narrowed = record { windows = windows_of p.narrowed.list; moves = p.narrowed.moves } in
         let w = v.windows in
+        let e : settle_of l ≡ answered v =
+        sym outcome_is ∙ sym plans.holds.narrowed ∙ ap (λ (b : Result PlannedDay Refusal). narrowed_in (narrowed_by_plan b)) f in
         let is = outcome_is ∙ e in
-        let ends : a.ends ≡ least_ends whole w = plans.ends ∙ ap (ends_of whole) is in
-        let starts : a.starts ≡ greatest_starts whole w = plans.starts ∙ ap (starts_of whole) is in
-        let day : w.h ≡ l.frame.h = ap (λ (u : Windows). u.h) (widest v e).entries in
+        let day = plans.day p f in
+        let ends : p.ends ≡ least_ends whole w = day.ends ∙ ap (ends_of whole) is in
+        let starts : p.starts ≡ greatest_starts whole w = day.starts ∙ ap (starts_of whole) is in
+        let long_day : w.h ≡ l.frame.h = ap (λ (u : Windows). u.h) (widest v e).entries in
         let bytes : take l.frame.h new ≡ schedule w =
         ap (take l.frame.h) (plans.buffer ∙ ap (planned schedule old) is)
-        ∙ take_at (schedule w) _ l.frame.h (schedule_long w ∙ day) in
-        λ i. answered (record { narrowed = v; ends = ends i; starts = starts i; bytes = bytes i }))
+        ∙ take_at (schedule w) _ l.frame.h (schedule_long w ∙ long_day) in
+        let told : _ ≡ answered (defined_told whole v) =
+        λ i. answered (record { narrowed = v; ends = ends i; starts = starts i; bytes = bytes i }) in
+        rw (f, e) told
+
+    told_same : told_of l a new ≡ defined_day l
+    told_same = go a refl
+      where
+        go : (b : Result PlannedDay Refusal) → a ≡ b → told_of l a new ≡ defined_day l
+        go (Ok p) e = told_planned p e
+        go (Err x) e = told_refused x e
 
 pub faster_days : FasterDays
 faster_days =

@@ -1,18 +1,19 @@
 -- What the calls that narrow promise: "planning a list and showing an early or late plan".
-use Rattle.std.specs.Prelude.{ℕ, ◌<◌, ◌≤◌, ◌≡◌, Bool, cond, List, [], ◌∷◌, ◌++◌, length, get_or, take, drop, replicate, eqb}
+use Rattle.std.specs.Prelude.{ℕ, ◌<◌, ◌≤◌, ◌≡◌, Bool, cond, List, [], ◌∷◌, ◌++◌, length, get_or, take, drop, replicate, eqb, Result, Ok, Err}
 use Rattle.base.specs.Outcomes.{Code, code, Row, Outcome, answered, refused, first_of, and_then}
-use Rattle.list.specs.DayLists.{empty_list, whole_in, most_entries}
+use Rattle.list.specs.Refusals.{code_of}
+use Rattle.list.specs.DayLists.{whole_in, most_entries}
 use Rattle.list.specs.Checks.{check_of, WellFormed}
 use Rattle.list.specs.declared.types.DayList.{DayList}
-use Rattle.list.specs.declared.types.Verdict.{Verdict}
-use Rattle.list.specs.declared.types.Verdict.TheVariants.{Accepted}
+use Rattle.list.specs.declared.types.Refusal.{Refusal}
 use Rattle.windows.specs.Windows.{Windows, windows_of}
 use Rattle.windows.specs.Plans.{places_in}
 use Rattle.windows.specs.Intervals.{overload_of}
 use Rattle.jackson.specs.Minutes.{schedule}
 use Rattle.jackson.specs.Calls.{buffer_row}
 use Rattle.narrow.specs.Rounds.{Narrowed, narrowing}
-use Rattle.narrow.specs.Calls.{settle_of, narrowed_in, AnswersAs, HoldsAnswer}
+use Rattle.narrow.specs.Calls.{settle_of, AnswersAs, HoldsAnswer}
+use Rattle.narrow.specs.declared.types.NarrowedList.{NarrowedList}
 use Rattle.bounds.specs.Ends.{least_ends, greatest_starts}
 use Rattle.bounds.specs.ShownPlans.{early_plan, late_plan, bound_of, shown_plan}
 use Rattle.bounds.specs.Calls.{place_row}
@@ -20,9 +21,9 @@ use Rattle.bounds.specs.declared.types.Shown.{Shown}
 use Rattle.bounds.specs.declared.types.Shown.TheVariants.{Early, Late}
 use Rattle.planner.specs.BrokenEntries.{broken_in}
 use Rattle.planner.specs.Demand2.{PlansWindows}
-use Rattle.planner.specs.Demand3.{Told, Demand3}
-use Rattle.planner.specs.declared.types.PlanAnswer.{PlanAnswer}
-use Rattle.planner.specs.declared.types.ShownAnswer.{ShownAnswer}
+use Rattle.planner.specs.Demand3.{Told, told_refused, Demand3}
+use Rattle.planner.specs.declared.types.PlannedDay.{PlannedDay}
+use Rattle.planner.specs.declared.types.ShownPlan.{ShownPlan}
 
 -- "The checks before 9 are all that such a call tests before the given windows, in the table below the rows above 9": the value check,
 -- then the rows about what the call lends and asks
@@ -77,44 +78,43 @@ starts_of whole = settled_or (replicate most_entries 0) (greatest_starts whole)
 abbrev pub broken_of : (ℕ → Bool) → Outcome Narrowed → ℕ
 broken_of whole = settled_or 0 (λ w. broken_in whole w (places_in (schedule w)))
 
--- what the call tells: windows, moves and bounds as answered, and the plans that they lead to
-abbrev pub told_by_plan : PlanAnswer → Told
-told_by_plan a =
-    let w = windows_of a.narrowed.list in
-    record {
-      outcome = narrowed_in a.narrowed;
-      end = λ k. get_or a.ends k 0;
-      start = λ k. get_or a.starts k 0;
-      early = λ k. early_plan w k (get_or a.ends k 0);
-      late = λ k. late_plan w k (get_or a.starts k 0);
-    }
+-- the narrowed list of a planned day
+abbrev pub narrowed_by_plan : Result PlannedDay Refusal → Result NarrowedList Refusal
+narrowed_by_plan (Ok p) = Ok p.narrowed
+narrowed_by_plan (Err x) = Err x
 
--- the answer with this verdict and nothing planned, as it stands beside a refusal
-abbrev pub unplanned : Verdict → PlanAnswer
-unplanned v =
+-- what the call tells: windows, moves and bounds as answered, and the plans that they lead to
+abbrev pub told_by_plan : Result PlannedDay Refusal → Told
+told_by_plan (Ok p) =
+    let w = windows_of p.narrowed.list in
     record {
-      narrowed = record { verdict = v; list = empty_list; moves = 0 };
-      broken = 0;
-      ends = replicate most_entries 0;
-      starts = replicate most_entries 0;
+      outcome = answered (record { windows = w; moves = p.narrowed.moves });
+      end = λ k. get_or p.ends k 0;
+      start = λ k. get_or p.starts k 0;
+      early = λ k. early_plan w k (get_or p.ends k 0);
+      late = λ k. late_plan w k (get_or p.starts k 0);
     }
+told_by_plan (Err x) = told_refused (code_of x)
+
+-- what is answered beside the narrowed list where this is the outcome, and what the plan's bytes are
+pub record HoldsDay (whole : ℕ → Bool) (o : Outcome Narrowed) (bytes : List ℕ) (p : PlannedDay) : Type 0 where
+  pub broken : p.broken ≡ broken_of whole o
+  pub ends : p.ends ≡ ends_of whole o
+  pub starts : p.starts ≡ starts_of whole o
+  -- demand 2, of the windows answered and these bytes
+  pub demand2 : PlansWindows whole (windows_of p.narrowed.list) bytes p.broken
 
 -- what planning the list l after checks with this outcome answers, and leaves in a plan buffer that held old
-pub record PlansAfter (checks : Outcome (Unit {0})) (l : DayList) (old : List ℕ) (a : PlanAnswer) (new : List ℕ) : Type 0 where
-  pub answers : AnswersAs l (narrow_after checks l) a.narrowed
-  pub holds : HoldsAnswer l (narrow_after checks l) a.narrowed
-  pub broken : a.broken ≡ broken_of (whole_in l) (narrow_after checks l)
-  pub ends : a.ends ≡ ends_of (whole_in l) (narrow_after checks l)
-  pub starts : a.starts ≡ starts_of (whole_in l) (narrow_after checks l)
+pub record PlansAfter (checks : Outcome (Unit {0})) (l : DayList) (old : List ℕ) (a : Result PlannedDay Refusal) (new : List ℕ) : Type 0 where
+  pub answers : AnswersAs l (narrow_after checks l) (narrowed_by_plan a)
+  pub holds : HoldsAnswer l (narrow_after checks l) (narrowed_by_plan a)
+  pub day : (p : PlannedDay) → a ≡ Ok p → HoldsDay (whole_in l) (narrow_after checks l) (take l.frame.h new) p
   pub buffer : new ≡ planned schedule old (narrow_after checks l)
-  -- demand 2, of the windows answered and the bytes in the buffer
-  pub demand2 : a.narrowed.verdict ≡ Accepted
-      → PlansWindows (whole_in l) (windows_of a.narrowed.list) (take l.frame.h new) a.broken
   -- demand 3, for a list that passes the checks before 9
   pub demand3 : checks ≡ answered tt → Demand3 (whole_in l) (windows_of l) (told_by_plan a)
 
 -- what planning the list l answers, and leaves in a plan buffer that held old
-abbrev pub PlansDay : DayList → List ℕ → PlanAnswer → List ℕ → Type 0
+abbrev pub PlansDay : DayList → List ℕ → Result PlannedDay Refusal → List ℕ → Type 0
 PlansDay l old = PlansAfter (plan_checks l (length old)) l old
 
 -- Showing an early or late plan.
@@ -140,33 +140,39 @@ put_shown Late k v f Late i = cond (eqb i k) v (f Late i)
 put_shown Early k v f Late i = f Late i
 put_shown Late k v f Early i = f Early i
 
+-- the narrowed list of a shown plan
+abbrev pub narrowed_by_shown : Result ShownPlan Refusal → Result NarrowedList Refusal
+narrowed_by_shown (Ok p) = Ok p.narrowed
+narrowed_by_shown (Err r) = Err r
+
 -- what the call that shows the plan x of place k tells: of that plan the bound answered and the bytes in the buffer, of the other plan and
 -- of the other places what is defined for the windows answered
-abbrev pub told_by_shown : Shown → (ℕ → Bool) → ℕ → ShownAnswer → List ℕ → Told
-told_by_shown x whole k a bytes =
-    let w = windows_of a.narrowed.list in
-    let bound = put_shown x k a.bound (λ y i. bound_of y whole i w) in
+abbrev pub told_by_shown : Shown → (ℕ → Bool) → ℕ → Result ShownPlan Refusal → List ℕ → Told
+told_by_shown x whole k (Ok p) bytes =
+    let w = windows_of p.narrowed.list in
+    let bound = put_shown x k p.bound (λ y i. bound_of y whole i w) in
     let plan = put_shown x k bytes (λ y i. shown_plan y whole i w) in
     record {
-      outcome = narrowed_in a.narrowed;
+      outcome = answered (record { windows = w; moves = p.narrowed.moves });
       end = bound Early;
       start = bound Late;
       early = plan Early;
       late = plan Late;
     }
+told_by_shown x whole k (Err r) bytes = told_refused (code_of r)
 
 -- what showing the plan x of place k of the list l answers, and leaves in a plan buffer that held old
-pub record Shows (x : Shown) (l : DayList) (k : ℕ) (old : List ℕ) (a : ShownAnswer) (new : List ℕ) : Type 0 where
-  pub answers : AnswersAs l (shown_of l k (length old)) a.narrowed
-  pub holds : HoldsAnswer l (shown_of l k (length old)) a.narrowed
-  pub bound : a.bound ≡ settled_or 0 (bound_of x (whole_in l) k) (shown_of l k (length old))
+pub record Shows (x : Shown) (l : DayList) (k : ℕ) (old : List ℕ) (a : Result ShownPlan Refusal) (new : List ℕ) : Type 0 where
+  pub answers : AnswersAs l (shown_of l k (length old)) (narrowed_by_shown a)
+  pub holds : HoldsAnswer l (shown_of l k (length old)) (narrowed_by_shown a)
+  pub bound : (p : ShownPlan) → a ≡ Ok p → p.bound ≡ settled_or 0 (bound_of x (whole_in l) k) (shown_of l k (length old))
   pub buffer : new ≡ planned (shown_plan x (whole_in l) k) old (shown_of l k (length old))
   -- demand 3, for a list, place and buffer that pass the checks before 9
   pub demand3 : shown_checks l k (length old) ≡ answered tt
       → Demand3 (whole_in l) (windows_of l) (told_by_shown x (whole_in l) k a (take l.frame.h new))
 
-abbrev pub ShowsEarly : DayList → ℕ → List ℕ → ShownAnswer → List ℕ → Type 0
+abbrev pub ShowsEarly : DayList → ℕ → List ℕ → Result ShownPlan Refusal → List ℕ → Type 0
 ShowsEarly = Shows Early
 
-abbrev pub ShowsLate : DayList → ℕ → List ℕ → ShownAnswer → List ℕ → Type 0
+abbrev pub ShowsLate : DayList → ℕ → List ℕ → Result ShownPlan Refusal → List ℕ → Type 0
 ShowsLate = Shows Late

@@ -1,6 +1,6 @@
 -- Demand 3, "due whole, windows, refusals, lists of narrowing steps, moves, bounds and shown plans in one statement".
-use Rattle.std.specs.Prelude.{ℕ, ◌<◌, ◌≤◌, ◌≡◌, Bool, List}
-use Rattle.base.specs.Outcomes.{Outcome, answered}
+use Rattle.std.specs.Prelude.{ℕ, ◌<◌, ◌≤◌, ◌≡◌, Bool, List, []}
+use Rattle.base.specs.Outcomes.{Code, Outcome, answered, refused}
 use Rattle.windows.specs.Windows.{Windows}
 use Rattle.windows.specs.Plans.{IsEnd, IsStart}
 use Rattle.windows.specs.Intervals.{overload_of}
@@ -17,6 +17,10 @@ pub record Told : Type 0 where
   pub start : ℕ → ℕ
   pub early : ℕ → List ℕ
   pub late : ℕ → List ℕ
+
+-- a refusal has no bounds and plans beside it
+abbrev pub told_refused : Code → Told
+told_refused k = record { outcome = refused k; end = λ _. 0; start = λ _. 0; early = λ _. []; late = λ _. [] }
 
 -- Demand 3 of the given windows w, where `whole` says which entries are whole, and of what a call tells.
 pub record Demand3 (whole : ℕ → Bool) (w : Windows) (told : Told) : Type 0 where

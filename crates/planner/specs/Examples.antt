@@ -1,10 +1,9 @@
 -- Document 01's examples, (a) to (h), "a lone joint assertion about the meanings themselves", and days on which document 02's tie rule
 -- decides.
-use Rattle.std.specs.Prelude.{ℕ, ◌≤◌, ◌≡◌, List, [], ◌∷◌, ◌++◌, map, get_or}
+use Rattle.std.specs.Prelude.{ℕ, ◌≤◌, ◌≡◌, List, [], ◌∷◌, ◌++◌, map, get_or, None}
 use Rattle.base.specs.Outcomes.{Outcome, answered, refused, code}
 use Rattle.list.specs.DayLists.{entries_of, day_list, whole_in}
 use Rattle.format.specs.Reading.{read_of}
-use Rattle.list.specs.declared.types.Seal.TheVariants.{Missing}
 use Rattle.list.specs.declared.types.Kind.TheVariants.{Pause, Whole}
 use Rattle.list.specs.declared.types.Entry.{Entry}
 use Rattle.list.specs.declared.types.DayList.{DayList}
@@ -19,10 +18,10 @@ use Rattle.planner.specs.Calls.{settled_or, planning, ends_of, starts_of, broken
 
 -- entries without a seal, by serial, r, d and p
 abbrev pub pause_entry : ℕ → ℕ → ℕ → ℕ → Entry
-pause_entry serial r d p = record { serial = serial; seal = Missing; r = r; d = d; p = p; kind = Pause }
+pause_entry serial r d p = record { serial = serial; seal = None; r = r; d = d; p = p; kind = Pause }
 
 abbrev pub whole_entry : ℕ → ℕ → ℕ → ℕ → Entry
-whole_entry serial r d p = record { serial = serial; seal = Missing; r = r; d = d; p = p; kind = Whole }
+whole_entry serial r d p = record { serial = serial; seal = None; r = r; d = d; p = p; kind = Whole }
 
 -- the list with these entries on a day of h minutes
 abbrev pub day : ℕ → List Entry → DayList

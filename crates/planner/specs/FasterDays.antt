@@ -1,10 +1,12 @@
 -- Request 7: "For every list the fast way and the defined way refuse alike or agree in windows, moves, bounds and plan bytes."
 -- `faster_days` of proofs/FasterDays.antt proves it.
-use Rattle.std.specs.Prelude.{ℕ, ◌+◌, ◌*◌, ◌-◌, ◌<◌, ◌≤◌, ◌≡◌, Bool, List, length, take}
-use Rattle.base.specs.Outcomes.{Outcome, answered, and_then}
+use Rattle.std.specs.Prelude.{ℕ, ◌+◌, ◌*◌, ◌-◌, ◌<◌, ◌≤◌, ◌≡◌, Bool, List, length, take, Result, Ok, Err}
+use Rattle.base.specs.Outcomes.{Outcome, answered, refused, and_then}
 use Rattle.list.specs.DayLists.{whole_in}
 use Rattle.list.specs.Checks.{check_of}
 use Rattle.list.specs.declared.types.DayList.{DayList}
+use Rattle.list.specs.declared.types.Refusal.{Refusal}
+use Rattle.list.specs.Refusals.{code_of}
 use Rattle.windows.specs.Windows.{Windows, windows_of, with_r, with_d}
 use Rattle.windows.specs.Mirrors.{mirror, mirror_bytes}
 use Rattle.windows.specs.RunningSums.{LatestReleaseFirst}
@@ -12,14 +14,14 @@ use Rattle.jackson.specs.Minutes.{day_start, schedule}
 use Rattle.jackson.specs.Stretches.{stretch_bytes}
 use Rattle.narrow.specs.Rounds.{Narrowed}
 use Rattle.narrow.specs.FastRounds.{fast_narrowing, fast_one_round}
-use Rattle.narrow.specs.Calls.{settle_of, round_of, narrowed_in}
+use Rattle.narrow.specs.Calls.{settle_of, round_of}
 use Rattle.bounds.specs.Ends.{least_ends, greatest_starts}
 use Rattle.bounds.specs.FastEnds.{fast_end, fast_ends, fast_starts}
 use Rattle.bounds.specs.ShownPlans.{bound_of, shown_plan}
 use Rattle.bounds.specs.declared.types.Shown.{Shown}
 use Rattle.bounds.specs.declared.types.Shown.TheVariants.{Early, Late}
 use Rattle.planner.specs.Calls.{PlansDay}
-use Rattle.planner.specs.declared.types.PlanAnswer.{PlanAnswer}
+use Rattle.planner.specs.declared.types.PlannedDay.{PlannedDay}
 
 -- what is told of a planned day: the windows and moves, least ends and greatest starts by place, and the plan's bytes
 pub record DayTold : Type 0 where
@@ -68,11 +70,18 @@ fast_shown Early whole k w = stretch_plan (with_d w k (fast_bound Early whole k 
 fast_shown Late whole k w = mirror_bytes w.h (stretch_plan (mirror (with_r w k (fast_bound Late whole k w))))
 
 -- what `plan_day` tells, with the plan in the buffer that was lent to it
-abbrev pub call_told : DayList → PlanAnswer → List ℕ → Narrowed → DayTold
-call_told l a new v = record { narrowed = v; ends = a.ends; starts = a.starts; bytes = take l.frame.h new }
+abbrev pub call_told : DayList → PlannedDay → List ℕ → DayTold
+call_told l p new =
+    record {
+      narrowed = record { windows = windows_of p.narrowed.list; moves = p.narrowed.moves };
+      ends = p.ends;
+      starts = p.starts;
+      bytes = take l.frame.h new;
+    }
 
-abbrev pub told_of : DayList → PlanAnswer → List ℕ → Outcome DayTold
-told_of l a new = and_then (narrowed_in a.narrowed) (λ v. answered (call_told l a new v))
+abbrev pub told_of : DayList → Result PlannedDay Refusal → List ℕ → Outcome DayTold
+told_of l (Ok p) new = answered (call_told l p new)
+told_of l (Err x) new = refused (code_of x)
 
 pub record FasterDays : Type 0 where
   -- there is such an order of the places
@@ -87,5 +96,5 @@ pub record FasterDays : Type 0 where
   pub shown : (l : DayList) (v : Narrowed) → settle_of l ≡ answered v → (x : Shown) (k : ℕ) → k < v.windows.n
       → fast_shown x (whole_in l) k v.windows ≡ shown_plan x (whole_in l) k v.windows
   -- and the defined way's is what `plan_day` answers, by its contract; a plan buffer under H bytes is refused by 11
-  pub plans : (l : DayList) (old : List ℕ) (a : PlanAnswer) (new : List ℕ) → PlansDay l old a new → l.frame.h ≤ length old
+  pub plans : (l : DayList) (old : List ℕ) (a : Result PlannedDay Refusal) (new : List ℕ) → PlansDay l old a new → l.frame.h ≤ length old
       → told_of l a new ≡ defined_day l
