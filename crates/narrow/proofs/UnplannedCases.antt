@@ -1,11 +1,14 @@
 -- A round of windows without a plan, as code makes it: pause entries are passed over, and the first whole one is refused.
 -- Assumes nothing.
 use mathlib.Core.Path.{◌≡◌, refl, sym, ap, ◌∙◌}
-use mathlib.Core.Bool.{Bool, true, false}
-use mathlib.Core.List.{[], ◌∷◌}
+use mathlib.Core.Bool.{Bool, true, false, true≢false}
+use mathlib.Core.List.{List, [], ◌∷◌}
 use Prim.Native.Nat.{ℕ, zero, suc, ◌+◌, ◌<◌, ◌≤◌}
 use native.Mathlib.Numerals.{add-one}
 use native.Mathlib.Omega.{arith}
+use lib.ListN.{length, get_or, take}
+use lib.Seq.{get_or-take, length-take-le}
+use Rattle.list.specs.DayLists.{marked}
 use Rattle.base.proofs.Sums.{not_passed}
 use Rattle.base.specs.Outcomes.{code, answered, refused}
 use Rattle.windows.specs.Windows.{Windows, Formed}
@@ -67,3 +70,29 @@ pauses_below whole s (suc k) most none =
     rw add-one at
     (pauses_next whole s k (pauses_below whole s k (omega (arith, most)) (λ i l. none i (omega (arith, l)))) (omega (arith, most))
     (not_passed (whole k) (none k (omega arith))))
+
+-- A search for a whole entry among the marks of the first n places, by what it finds.
+module _ (marks : List Bool) (s : Narrowed) (room : s.windows.n ≤ length marks) where
+  abbrev whole : ℕ → Bool
+  whole = marked marks
+
+  abbrev xs : List Bool
+  xs = take s.windows.n marks
+
+  long : length xs ≡ s.windows.n
+  long = length-take-le s.windows.n marks room
+
+  pauses_to : (k : ℕ) → k ≤ s.windows.n → ((i : ℕ) → i < k → get_or xs i false ≡ false) → PausesBelow whole s k
+  pauses_to k most pauses =
+      pauses_below whole s k most
+      (λ i l e. true≢false (sym e ∙ sym (get_or-take s.windows.n marks i false (omega (arith, most))) ∙ pauses i l))
+
+  pub none_whole : ((i : ℕ) → i < length xs → get_or xs i false ≡ false) → answered s ≡ round overload_of whole s
+  none_whole pauses = pauses_all whole s s.windows.n (pauses_to _ (omega arith) (λ i l. pauses i (omega (arith, long)))) (omega arith)
+
+  pub one_whole : Formed s.windows → (Plannable s.windows → ⊥) → (k : ℕ)
+      → (k < length xs) × (get_or xs k false ≡ true) × ((i : ℕ) → i < k → get_or xs i false ≡ false)
+      → refused (code 10 (k ∷ [])) ≡ round overload_of whole s
+  one_whole formed none k (below, is, pauses) =
+      let place : k < s.windows.n = omega (arith, long) in
+      first_refused whole s k (pauses_to k (omega arith) pauses) place formed none (sym (get_or-take s.windows.n marks k false place) ∙ is)

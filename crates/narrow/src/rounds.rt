@@ -150,10 +150,8 @@ fn unplanned_round(whole: [bool; ENTRIES], windows: WindowSet) -> WindowsAnswer
     ensures { narrowed_of result ≡ round overload_of (marked whole) (narrowed_by windows 0) }
 {
     let count = places_held(windows.n);
-    for k in 0..count {
-        if whole[k] {
-            return refused_at(windows, 0, k);
-        }
+    if let Some(k) = whole[..count].iter().position(|w| *w) {
+        return refused_at(windows, 0, k);
     }
     WindowsAnswer {
         verdict: Verdict::Accepted,

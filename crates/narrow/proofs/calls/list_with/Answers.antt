@@ -9,6 +9,10 @@ use Rattle.base.proofs.Walk.{length_mapped}
 use Rattle.windows.specs.Windows.{windows_in}
 use Rattle.narrow.proofs.ListCases.{filled_none, filled_next, filled_all}
 use Rattle.narrow.proofs.calls.list_with.Goals as goal
+use Rattle.narrow.proofs.calls.list_with.Goals.{Start}
+
+long : (c : Start) → length c.args.list.entries ≡ 64
+long c = search (rules, length_mapped)
 
 pub loop-i-init : goal.loop-i-init
 loop-i-init c =
@@ -17,12 +21,10 @@ loop-i-init c =
 
 pub loop-i-preserved : goal.loop-i-preserved
 loop-i-preserved c =
-    let long : length c.args.list.entries ≡ 64 = search (rules, length_mapped) in
-    filled_next c.args.list (windows_in c.args.windows) _ (long) c.loop-i.entries c.loop-i.i c.loop-i.invariant _ c.loop-i-test.true
+    filled_next c.args.list (windows_in c.args.windows) _ (long (goal.at.loop-i-preserved c).Start) c.loop-i.entries c.loop-i.i c.loop-i.invariant _ c.loop-i-test.true
     c.entry_with.ensures
 
 pub returns : goal.returns
 returns c =
-    let long : length c.args.list.entries ≡ 64 = search (rules, length_mapped) in
-    filled_all c.args.list (windows_in c.args.windows) _ (long) c.loop-i.entries c.loop-i.i c.loop-i.invariant c.places_held-count.ensures
+    filled_all c.args.list (windows_in c.args.windows) _ (long (goal.at.returns c).Start) c.loop-i.entries c.loop-i.i c.loop-i.invariant c.places_held-count.ensures
     c.loop-i-test.false

@@ -1,23 +1,35 @@
--- The loop's invariant is that no whole entry was met.
+-- The first whole entry is refused, if there is one.
 -- Assumes nothing.
-use mathlib.Core.Path.{◌∙◌}
-use Rattle.list.specs.DayLists.{marked}
+use borrow.Author.Rules.{rules}
+use mathlib.Core.Path.{◌≡◌, ◌∙◌}
+use mathlib.Core.Bool.{true, false}
+use Prim.Native.Nat.{ℕ, ◌<◌, ◌≤◌}
+use native.Mathlib.Omega.{arith}
+use lib.ListN.{length, get_or, take}
+use Rattle.std.specs.Option.{MatchOption}
+use Rattle.windows.specs.Windows.{windows_in}
 use Rattle.narrow.specs.Internal.{narrowed_by}
-use Rattle.narrow.proofs.UnplannedCases.{pauses_none, pauses_next, first_refused}
+use Rattle.narrow.proofs.UnplannedCases.{none_whole, one_whole}
 use Rattle.narrow.proofs.rounds.unplanned_round.Goals as goal
+use Rattle.narrow.proofs.rounds.unplanned_round.Goals.{After-position}
 
-pub loop-k-init : goal.loop-k-init
-loop-k-init c = pauses_none (marked c.args.whole) (narrowed_by c.args.windows 0)
+-- what the search answers
+found : (c : After-position) → let xs = take c.places_held-count.result c.args.whole in
+    MatchOption c.position.result ((i : ℕ) → i < length xs → get_or xs i false ≡ false)
+    (λ k. (k < length xs) × (get_or xs k false ≡ true) × ((i : ℕ) → i < k → get_or xs i false ≡ false))
+found c = search rules
 
-pub returns-then-whole-k : goal.returns-then-whole-k
-returns-then-whole-k c =
-    let place = rw c.places_held-count.ensures at c.loop-k-test.true in
+room : (c : After-position) → (windows_in c.args.windows).n ≤ length c.args.whole
+room c = let long : length c.args.whole ≡ 64 = search rules in omega (arith, long)
+
+pub returns-in-Some : goal.returns-in-Some
+returns-in-Some c =
+    let at = (goal.at.returns-in-Some c).After-position in
     c.refused_at.ensures
-    ∙ first_refused (marked c.args.whole) (narrowed_by c.args.windows 0) c.loop-k.k c.loop-k.invariant place c.requires.formed
-    c.requires.fact
-    c.if-whole-k.true
+    ∙ one_whole c.args.whole (narrowed_by c.args.windows 0) (room at) c.requires.formed c.requires.fact c.in-Some.k
+    (rw (c.in-Some.is, c.places_held-count.ensures) at (found at))
 
-pub loop-k-preserved : goal.loop-k-preserved
-loop-k-preserved c =
-    let place = rw c.places_held-count.ensures at c.loop-k-test.true in
-    pauses_next (marked c.args.whole) (narrowed_by c.args.windows 0) c.loop-k.k c.loop-k.invariant place c.if-whole-k.false
+pub returns : goal.returns
+returns c =
+    let at = (goal.at.returns c).After-position in
+    none_whole c.args.whole (narrowed_by c.args.windows 0) (room at) (rw (c.in_default.is, c.places_held-count.ensures) at (found at))

@@ -1,9 +1,0 @@
--- The loop's invariant is that no whole entry was met.
--- Assumes nothing.
-use Rattle.list.specs.DayLists.{marked}
-use Rattle.narrow.specs.Internal.{narrowed_by}
-use Rattle.narrow.proofs.UnplannedCases.{PausesBelow}
-use Rattle.narrow.proofs.rounds.unplanned_round.Given as goal
-
-abbrev pub invariant-loop-k : goal.invariant-loop-k
-invariant-loop-k l = PausesBelow (marked l.whole) (narrowed_by l.windows 0) l.k
