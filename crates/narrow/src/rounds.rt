@@ -222,8 +222,10 @@ pub fn narrow_windows(whole: [bool; ENTRIES], windows: WindowSet) -> WindowsAnsw
     let Verdict::Accepted = verdict else {
         return unmoved_with(verdict, windows);
     };
-    let mut settled = found.windows;
-    settled.n = windows.n;
+    let settled = WindowSet {
+        n: windows.n,
+        ..found.windows
+    };
     WindowsAnswer {
         verdict: verdict,
         windows: settled,
