@@ -27,16 +27,12 @@ pub(crate) fn rooms_fault(numbers: usize) -> Verdict
 fn stage_of(number: u32) -> Stage
     ensures { result ≡ stage_of number }
 {
-    if number == 0 {
-        return Stage::Fresh;
+    match number {
+        0 => Stage::Fresh,
+        1 => Stage::Begun,
+        2 => Stage::Settled,
+        _ => Stage::Refused,
     }
-    if number == 1 {
-        return Stage::Begun;
-    }
-    if number == 2 {
-        return Stage::Settled;
-    }
-    Stage::Refused
 }
 
 fn stage_number(stage: Stage) -> u32
@@ -56,29 +52,21 @@ fn room_or(numbers: &[u32], i: usize) -> Room
 {
     if i < numbers.len() / ROOM_NUMBERS {
         let at = ROOM_NUMBERS * i;
-        let stage = stage_of(numbers[at]);
-        return Room {
-            stage: stage,
+        Room {
+            stage: stage_of(numbers[at]),
             rounds: numbers[at + 1],
             moves: numbers[at + 2],
-        };
+        }
+    } else {
+        no_row()
     }
-    no_row()
 }
 
 // The first eight rooms.
 pub(crate) fn eight_rooms(numbers: &[u32]) -> [Room; 8]
     ensures { result ≡ eight_rows (rooms_in numbers.now) no_row }
 {
-    let a = room_or(numbers, 0);
-    let b = room_or(numbers, 1);
-    let c = room_or(numbers, 2);
-    let d = room_or(numbers, 3);
-    let e = room_or(numbers, 4);
-    let f = room_or(numbers, 5);
-    let g = room_or(numbers, 6);
-    let h = room_or(numbers, 7);
-    [a, b, c, d, e, f, g, h]
+    std::array::from_fn(|i| room_or(numbers, i))
 }
 
 // The numbers of one room are stored at its place.
@@ -86,9 +74,10 @@ pub(crate) fn put_room(room: Room, k: usize, numbers: &mut [u32])
     requires { room_numbers * k + room_numbers ≤ length numbers.old }
     ensures { numbers.new ≡ sets numbers.old (room_numbers * k) (room_row room) }
 {
-    let stage = room.stage;
     let at = ROOM_NUMBERS * k;
-    numbers[at] = stage_number(stage);
-    numbers[at + 1] = room.rounds;
-    numbers[at + 2] = room.moves;
+    numbers[at..at + ROOM_NUMBERS].copy_from_slice(&[
+        stage_number(room.stage),
+        room.rounds,
+        room.moves,
+    ]);
 }

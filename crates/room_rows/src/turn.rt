@@ -6,6 +6,7 @@ ghost use Rattle.room_rows.specs.Calls.{said_number, said_values, TurnsNumbers};
 ghost use Rattle.room_rows.specs.Internal.{TurnsRooms};
 
 use crate::rows::{ROOM_NUMBERS, eight_rooms, put_room, rooms_fault};
+use codes::RefusalCode;
 use list::types::{Refusal, Verdict};
 use rooms::turn_held;
 use rooms::types::TurnAnswer;
@@ -22,12 +23,8 @@ pub struct TurnNumbers {
 fn refused_as(x: Refusal) -> TurnNumbers
     ensures { result ≡ record { number = (code_of x).number; values = three (code_of x).carries } }
 {
-    let code = codes::numbers_of(x);
-    let values = code.values;
-    TurnNumbers {
-        number: code.number,
-        values: values,
-    }
+    let RefusalCode { number, values } = codes::numbers_of(x);
+    TurnNumbers { number, values }
 }
 
 // Stores the values that a room's refusal carries, and answers its number; zeros and 0 where there is none.
@@ -59,19 +56,15 @@ fn take_numbers(
         numbers.new lists.new carried.new }
 {
     let n = numbers.len() / ROOM_NUMBERS;
-    let rows = eight_rooms(numbers);
-    let held = turn_held(rows, n, lists, number);
-    let after = held.rows;
-    let answer = held.answer;
-    match answer {
+    let held = turn_held(eight_rooms(numbers), n, lists, number);
+    match held.answer {
         TurnAnswer::NotTurned(x) => refused_as(x),
         TurnAnswer::NoneUnfinished(used) => TurnNumbers {
             number: 0,
             values: [n as u64, 0, used as u64],
         },
         TurnAnswer::Turned(k, verdict, next) => {
-            let row = after[k];
-            put_room(row, k, numbers);
+            put_room(held.rows[k], k, numbers);
             let said = put_said(verdict, carried);
             TurnNumbers {
                 number: 0,

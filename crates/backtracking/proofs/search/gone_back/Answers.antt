@@ -8,19 +8,21 @@ use mir.Syntax.{w16}
 use lib.ListN.{get_or}
 use native.Mathlib.Omega.{arith}
 use Rattle.backtracking.proofs.search.gone_back.Goals as goal
+use Rattle.backtracking.proofs.search.gone_back.Goals.{Start}
+
+fits_r : (c : Start) → Fits w16 (get_or c.args.at.windows.r c.args.k 0)
+fits_r c = search rules
 
 pub overflow_add-result : goal.overflow_add-result
 overflow_add-result c =
-    let fits_r : Fits w16 (get_or c.args.at.windows.r c.args.k 0) = search rules in
-    omega (arith, fits_r, c.from.ensures)
+    omega (arith, fits_r (goal.at.overflow_add-result c).Start, c.from.ensures)
 
 pub returns : goal.returns
 returns c =
-    let fits_r : Fits w16 (get_or c.args.at.windows.r c.args.k 0) = search rules in
     record {
       windows = c.with_window.ensures;
       place = refl;
       start = ap (λ (x : ℕ). x + 1) c.from.ensures;
-      small = omega (arith, fits_r, c.from.ensures);
+      small = omega (arith, fits_r (goal.at.returns c).Start, c.from.ensures);
       trials = refl;
     }

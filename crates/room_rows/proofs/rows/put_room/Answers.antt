@@ -1,15 +1,12 @@
--- Three stores, one after the other.
+-- The three numbers are stored one behind the other.
 -- Assumes nothing.
-use native.Mathlib.Numerals.{towards_suc}
-use native.Mathlib.Omega.{arith}
-use lib.ListN.{length-set}
+use Prim.Native.Nat.{◌*◌}
+use Rattle.room_rows.specs.RoomRows.{room_numbers, stage_number}
+use Rattle.room_rows.proofs.RowCases.{three_stored}
 use Rattle.room_rows.proofs.rows.put_room.Goals as goal
 
-pub bounds-numbers-at-2 : goal.bounds-numbers-at-2
-bounds-numbers-at-2 c = simp length-set (omega arith)
-
-pub bounds-numbers-at-3 : goal.bounds-numbers-at-3
-bounds-numbers-at-3 c = simp length-set (omega arith)
-
 pub returns : goal.returns
-returns c = rw c.stage_number.ensures (simp towards_suc)
+returns c =
+    let room = c.args.room in
+    rw (c.copy_from_slice.ensures.after, c.stage_number.ensures)
+    (three_stored c.args.numbers.now (room_numbers * c.args.k) (stage_number room.stage) room.rounds room.moves c.requires)

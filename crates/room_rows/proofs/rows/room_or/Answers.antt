@@ -7,8 +7,8 @@ use Rattle.room_rows.proofs.rows.room_or.Goals as goal
 
 pub returns-then-i-numbers : goal.returns-then-i-numbers
 returns-then-i-numbers c =
-    room_read c.args.numbers.now c.args.i c.if-i-numbers.true _ c.stage_of-stage.ensures
+    room_read c.args.numbers.now c.args.i c.if-i-numbers.true _ c.stage_of.ensures
 
-pub returns : goal.returns
-returns c =
+pub returns-else-i-numbers : goal.returns-else-i-numbers
+returns-else-i-numbers c =
     c.no_row.ensures ∙ room_past c.args.numbers.now c.args.i c.if-i-numbers.false
