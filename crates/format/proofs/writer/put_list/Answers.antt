@@ -1,7 +1,6 @@
 -- `writer::put_list` meets its contract. The loop's invariant is `StoredSoFar`: storing the rest gives the one form.
 -- Assumes nothing.
 use mathlib.Core.Path.{◌∙◌}
-use Rattle.base.proofs.Stores.{wrote_length}
 use Rattle.format.proofs.WriteCases.{header_room, list_stored, stored_start, stored_room, stored_next, stored_done}
 use Rattle.format.proofs.writer.put_list.Goals as goal
 
@@ -21,9 +20,6 @@ pub loop-e-preserved : goal.loop-e-preserved
 loop-e-preserved c =
     stored_next c.args.list _ _ _ _ _ _ _ _ c.loop-e.invariant (rw c.from.ensures at c.loop-e-test.true)
     (rw c.from.ensures at c.put_entry-at.ensures)
-
-pub shape_of-out : goal.shape_of-out
-shape_of-out c = c.loop-e.invariant.long ∙ wrote_length c.put_header-at.ensures
 
 pub returns : goal.returns
 returns c =
