@@ -1,12 +1,13 @@
 -- The list with the entries that count, and with one more, as code makes them.
 -- Assumes nothing.
-use mathlib.Core.Path.{◌≡◌, refl, sym, ap, ◌∙◌}
+use mathlib.Core.Path.{◌≡◌, ap, ◌∙◌}
 use mathlib.Core.List.{List, [], ◌∷◌, ◌++◌}
-use Prim.Native.Nat.{ℕ, suc, ◌+◌, ◌-◌, ◌<◌, ◌≤◌, min}
+use Prim.Native.Nat.{ℕ, ◌+◌, ◌-◌, ◌<◌, min}
 use native.Mathlib.Numerals.{add-one}
 use native.Mathlib.Omega.{arith}
-use lib.ListN.{length, get_or, take, drop, set, replicate, length-set, length-append, length-replicate}
-use lib.Seq.{length-take-le, take-suc, take-suc-set, take_at, drop_at}
+use lib.ListN.{length, take, drop, set, replicate, length-append, length-replicate}
+use Rattle.std.proofs.lemmas.List.{drop-replicate}
+use lib.Seq.{length-take-le, take-suc-set, take_at, drop_at}
 use Rattle.list.specs.DayLists.{entries_of, blank}
 use Rattle.list.specs.declared.types.Entry.{Entry}
 use Rattle.list.specs.declared.types.DayList.{DayList}
@@ -14,41 +15,16 @@ use Rattle.list.proofs.Filling.{blank_after, filled_list}
 use Rattle.list.proofs.Columns.{all_taken}
 use Rattle.commits.specs.Days.{trimmed, with_entry}
 
--- the first i of n entries are copied, and blank ones stand after them
-pub record Copied (es : List Entry) (n : ℕ) (entries : List Entry) (i : ℕ) : Type 0 where
-  pub room : n ≤ 64
-  pub passed : i ≤ n
-  pub long : length entries ≡ 64
-  pub done : take i entries ≡ take i es
-  pub unused : drop i entries ≡ replicate (64 - i) blank
-
-module _ (es : List Entry) (n : ℕ) where
-  pub copied_none : (entries : List Entry) → n ≤ 64 → entries ≡ replicate 64 blank → Copied es n entries 0
-  copied_none entries room e = rw e (record { room = room; passed = omega arith; long = refl; done = refl; unused = refl })
-
-  pub copied_next : (entries : List Entry) (i : ℕ) → length es ≡ 64 → Copied es n entries i → i < n
-      → Copied es n (set entries i (get_or es i blank)) (i + 1)
-  copied_next entries i long so h =
-      record {
-        room = so.room;
-        passed = omega (arith, h);
-        long = length-set entries i _ ∙ so.long;
-        done = rw add-one (take-suc-set entries i _ (omega (arith, so.long, so.room)) ∙ one);
-        unused = blank_after entries i _ (omega (arith, so.room)) so.unused;
-      }
-    where
-      one : take i entries ++ (get_or es i blank ∷ []) ≡ take (suc i) es
-      one = rw so.done (sym (take-suc es i blank (omega (arith, long, so.room))))
-
 module _ (l : DayList) (long : length l.entries ≡ 64) where
-  -- all entries that count are copied
-  pub copied_all : (entries : List Entry) (n i : ℕ) → n ≡ min l.n 64 → Copied l.entries n entries i → n ≤ i
-      → record { frame = l.frame; n = n; entries = entries } ≡ trimmed l
-  copied_all entries n i e so h =
-      let z : i ≡ n = omega (arith, so.passed) in
+  -- the n entries that count, copied over blank ones
+  pub all_copied : (n : ℕ) (front old : List Entry) → n ≡ min l.n 64 → front ≡ take n l.entries → old ≡ replicate 64 blank
+      → record { frame = l.frame; n = n; entries = front ++ drop n old } ≡ trimmed l
+  all_copied n front old e copied blanks =
       let taken : take n l.entries ≡ entries_of l = rw e (all_taken l long) in
-      let size : length (take n l.entries) ≡ n = length-take-le n l.entries (omega (arith, long, so.room)) in
-      filled_list l.frame n (entries_of l) entries (rw taken at size) (rw (z, taken) at so.done) (rw z at so.unused)
+      let size : length front ≡ n = rw copied (length-take-le n l.entries (omega (arith, long, e))) in
+      let rest : drop n old ≡ replicate (64 - n) blank = rw blanks (drop-replicate n 64 blank) in
+      filled_list l.frame n (entries_of l) (front ++ drop n old) (rw (copied, taken) at size)
+      (take_at front (drop n old) n size ∙ copied ∙ taken) (drop_at front (drop n old) n size ∙ rest)
 
   -- one more, at place n
   pub one_more : (e : Entry) → l.n < 64

@@ -1,7 +1,6 @@
 // The calls on a day: making one, asking for one more entry, and committing it.
 ghost use Rattle.std.specs.Prelude.{◌≡◌};
 ghost use Rattle.list.specs.Refusals.{verdict_of};
-ghost use Rattle.commits.specs.Days.{next_stamp};
 ghost use Rattle.commits.specs.Calls.{empty_day, ask_fault, commit_fault, day_after, MakesDay, Asks, Commits};
 ghost use Rattle.commits.specs.Internal.{HasRoom, PlansLonger};
 
@@ -88,13 +87,6 @@ pub fn ask(day: StampedDay, e: Entry, plan: &mut [u8]) -> AskAnswer
     }
 }
 
-// The stamp after a success.
-fn next_stamp(stamp: u16) -> u16
-    ensures { result ≡ next_stamp stamp }
-{
-    if stamp == 65535 { stamp } else { stamp + 1 }
-}
-
 // The day after a commit of the entry with this verdict: longer by it after a success, and else as it was.
 fn day_after(day: StampedDay, e: Entry, verdict: Verdict) -> StampedDay
     requires { HasRoom (verdict_of verdict) day.list }
@@ -105,7 +97,7 @@ fn day_after(day: StampedDay, e: Entry, verdict: Verdict) -> StampedDay
     };
     StampedDay {
         list: with_entry(day.list, e),
-        stamp: next_stamp(day.stamp),
+        stamp: day.stamp.saturating_add(1),
     }
 }
 

@@ -10,18 +10,13 @@ use list::{empty_list, places_held};
 pub(crate) fn trimmed(list: DayList) -> DayList
     ensures { result ≡ trimmed list }
 {
-    let empty = empty_list();
-    let mut entries = empty.entries;
     let count = places_held(list.n);
-    let mut i: usize = 0;
-    while i < count {
-        entries[i] = list.entries[i];
-        i += 1;
-    }
+    let mut entries = empty_list().entries;
+    entries[..count].copy_from_slice(&list.entries[..count]);
     DayList {
         frame: list.frame,
         n: count as u8,
-        entries: entries,
+        entries,
     }
 }
 
@@ -31,8 +26,7 @@ pub(crate) fn with_entry(list: DayList, e: Entry) -> DayList
     ensures { result ≡ with_entry list e }
 {
     let mut longer = trimmed(list);
-    let place = list.n as usize;
-    longer.entries[place] = e;
+    longer.entries[usize::from(list.n)] = e;
     longer.n = list.n + 1;
     longer
 }

@@ -63,7 +63,7 @@ module _ {xs : List ℕ} {entries : List Entry} {i : ℕ} (s : ReadInSoFar xs en
 
 -- i entries were stored as numbers
 pub record NumbersPut (l : DayList) (fields : List ℕ) (i : ℕ) : Type 0 where
-  pub passed : i ≤ 64
+  pub all : length l.entries ≡ 64
   pub long : length fields ≡ 451
   pub rest : sets fields (3 + 7 * i) (flat_entries (drop i l.entries)) ≡ flat_of l
 
@@ -81,22 +81,22 @@ numbers_start l old h k =
     let short : length old ≤ 0 + length (flat_of l) = omega (arith, h, flat) in
     let none : drop (0 + length (flat_of l)) old ≡ [] = drop_of_length-le old short in
     record {
-      passed = omega arith;
+      all = k;
       long = length-set two 2 l.frame.opening ∙ length-set one 1 l.n ∙ length-set old 0 l.frame.h ∙ h;
       rest = sets-eq (flat_of l) old 0 (omega (arith, h, flat)) ∙ rw none (append-nil (flat_of l));
     }
 
-module _ {l : DayList} {fields : List ℕ} {i : ℕ} (s : NumbersPut l fields i) (k : length l.entries ≡ 64) where
+module _ {l : DayList} {fields : List ℕ} {i : ℕ} (s : NumbersPut l fields i) where
   pub numbers_next : (new : List ℕ) (e₀ : Entry) → i < 64 → new ≡ sets fields (3 + 7 * i) (flat_entry (get_or l.entries i e₀))
       → NumbersPut l new (i + 1)
   unfolding flat_entries
   numbers_next new e₀ h q =
       let e = get_or l.entries i e₀ in
       let more = drop (i + 1) l.entries in
-      let next : drop i l.entries ≡ e ∷ more = rw (add-one i) (drop-cons l.entries i e₀ (omega (arith, k))) in
+      let next : drop i l.entries ≡ e ∷ more = rw (add-one i) (drop-cons l.entries i e₀ (omega (arith, s.all))) in
       let z : 3 + 7 * i + 7 ≡ 3 + 7 * (i + 1) = omega arith in
       record {
-        passed = omega arith;
+        all = s.all;
         long = rw q (length-sets fields (3 + 7 * i) (flat_entry e) ∙ s.long);
         rest = rw (q, ← z) (sym (sets_append fields (3 + 7 * i) (flat_entry e) (flat_entries more)) ∙ rw next at s.rest);
       }
@@ -104,5 +104,5 @@ module _ {l : DayList} {fields : List ℕ} {i : ℕ} (s : NumbersPut l fields i)
   pub numbers_done : 64 ≤ i → fields ≡ flat_of l
   unfolding flat_entries
   numbers_done h =
-      let short : length l.entries ≤ i = omega (arith, k) in
+      let short : length l.entries ≤ i = omega (arith, s.all) in
       rw (drop_of_length-le l.entries short) at s.rest

@@ -33,11 +33,9 @@ fn day_value(row: &[u32]) -> StampedDay
     requires { length row.now ≡ day_numbers }
     ensures { result ≡ day_of row.now }
 {
-    let count = NUMBERS;
-    let list = value_in(&row[..count]);
     StampedDay {
-        list: list,
-        stamp: u16_of(row[count]),
+        list: value_in(&row[..NUMBERS]),
+        stamp: u16_of(row[NUMBERS]),
     }
 }
 
@@ -60,9 +58,8 @@ fn put_day_numbers(day: StampedDay, row: &mut [u32])
     requires { length row.old ≡ day_numbers }
     ensures { row.new ≡ day_row day }
 {
-    let count = NUMBERS;
-    put_numbers(day.list, &mut row[..count]);
-    row[count] = day.stamp as u32;
+    put_numbers(day.list, &mut row[..NUMBERS]);
+    row[NUMBERS] = u32::from(day.stamp);
 }
 
 // The same for a row of any length; one of another length than 452 keeps its numbers.

@@ -8,20 +8,20 @@ ghost use Rattle.flat.specs.Flat.{present, number_of, whole_of, flat_entry, flat
 ghost use Rattle.flat.specs.Flat.{flat_fault, flat_beside, ReadsFlat, StoresFlat};
 
 use crate::NUMBERS;
-use list::types::{DayList, ENTRIES, Entry, Frame, Kind, ReadAnswer, Refusal, Seal, Verdict};
+use list::types::{DayList, Entry, Frame, Kind, ReadAnswer, Refusal, Seal, Verdict};
 use list::{empty_list, read_refused};
 
 // The largest u16 for a number that is too large, and likewise below.
 pub(crate) fn u16_of(x: u32) -> u16
     ensures { result ≡ min x 65535 }
 {
-    if x < 65536 { x as u16 } else { 65535 }
+    u16::try_from(x).unwrap_or(u16::MAX)
 }
 
 fn u8_of(x: u32) -> u8
     ensures { result ≡ min x 255 }
 {
-    if x < 256 { x as u8 } else { 255 }
+    u8::try_from(x).unwrap_or(u8::MAX)
 }
 
 // The seal that a flag and a number say, and likewise the kind and the entry below. Any flag but 0 stands.
@@ -45,15 +45,13 @@ pub(crate) fn entry_in(fields: &[u32], at: usize) -> Entry
     requires { at + 7 ≤ length fields.now }
     ensures { result ≡ entry_in fields.now at }
 {
-    let seal = seal_in(fields[at + 1], fields[at + 2]);
-    let kind = kind_in(fields[at + 6]);
     Entry {
         serial: fields[at],
-        seal: seal,
+        seal: seal_in(fields[at + 1], fields[at + 2]),
         r: u16_of(fields[at + 3]),
         d: u16_of(fields[at + 4]),
         p: u16_of(fields[at + 5]),
-        kind: kind,
+        kind: kind_in(fields[at + 6]),
     }
 }
 
@@ -62,12 +60,9 @@ pub(crate) fn value_in(fields: &[u32]) -> DayList
     requires { length fields.now ≡ flat_numbers }
     ensures { result ≡ value_of fields.now }
 {
-    let none = empty_list();
-    let mut entries = none.entries;
-    let mut i: usize = 0;
-    while i < ENTRIES {
-        entries[i] = entry_in(fields, 3 + 7 * i);
-        i += 1;
+    let mut entries = empty_list().entries;
+    for (i, e) in entries.iter_mut().enumerate() {
+        *e = entry_in(fields, 3 + 7 * i);
     }
     DayList {
         frame: Frame {
@@ -75,7 +70,7 @@ pub(crate) fn value_in(fields: &[u32]) -> DayList
             opening: u16_of(fields[2]),
         },
         n: u8_of(fields[1]),
-        entries: entries,
+        entries,
     }
 }
 
@@ -126,25 +121,22 @@ fn seal_number(seal: Seal) -> u32
 fn whole_flag(kind: Kind) -> u32
     ensures { result ≡ whole_of kind }
 {
-    match kind {
-        Kind::Pause => 0,
-        Kind::Whole => 1,
-    }
+    u32::from(matches!(kind, Kind::Whole))
 }
 
 fn put_entry_numbers(e: Entry, fields: &mut [u32], at: usize)
     requires { at + 7 ≤ length fields.old }
     ensures { fields.new ≡ sets fields.old at (flat_entry e) }
 {
-    let seal = e.seal;
-    let kind = e.kind;
-    fields[at] = e.serial;
-    fields[at + 1] = seal_flag(seal);
-    fields[at + 2] = seal_number(seal);
-    fields[at + 3] = e.r as u32;
-    fields[at + 4] = e.d as u32;
-    fields[at + 5] = e.p as u32;
-    fields[at + 6] = whole_flag(kind);
+    fields[at..at + 7].copy_from_slice(&[
+        e.serial,
+        seal_flag(e.seal),
+        seal_number(e.seal),
+        u32::from(e.r),
+        u32::from(e.d),
+        u32::from(e.p),
+        whole_flag(e.kind),
+    ]);
 }
 
 // Stores the numbers that say a list value.
@@ -152,14 +144,11 @@ pub(crate) fn put_numbers(list: DayList, fields: &mut [u32])
     requires { length fields.old ≡ flat_numbers }
     ensures { fields.new ≡ flat_of list }
 {
-    let frame = list.frame;
-    fields[0] = frame.h as u32;
-    fields[1] = list.n as u32;
-    fields[2] = frame.opening as u32;
-    let mut i: usize = 0;
-    while i < ENTRIES {
-        put_entry_numbers(list.entries[i], fields, 3 + 7 * i);
-        i += 1;
+    fields[0] = u32::from(list.frame.h);
+    fields[1] = u32::from(list.n);
+    fields[2] = u32::from(list.frame.opening);
+    for (i, e) in list.entries.iter().enumerate() {
+        put_entry_numbers(*e, fields, 3 + 7 * i);
     }
 }
 

@@ -1,7 +1,7 @@
 -- Runs of a plan, as code finds them.
 -- Assumes nothing.
 use mathlib.Core.Path.{◌≡◌, sym, ◌∙◌}
-use mathlib.Core.Bool.{true, false, not}
+use mathlib.Core.Bool.{not}
 use mathlib.Core.List.{List}
 use Prim.Native.Nat.{ℕ, ◌+◌, ◌-◌, ◌<◌, ◌≤◌}
 use native.Mathlib.Omega.{arith}
@@ -14,20 +14,18 @@ use Rattle.windows.proofs.PlanFacts.{place_read}
 use Rattle.base.proofs.Searches.{first_below_lem, one_first}
 use Rattle.report.specs.Runs.{begins_run, run_end}
 
-module _ (plan : List ℕ) (t : ℕ) (below : t < length plan) where
+module _ (plan : List ℕ) (t : ℕ) (below : t < length plan) (other : get_or plan t 0 ≡ 255 → ⊥) (before : ℕ) where
   here : get_or plan t 0 ≡ places_in plan t
   here = place_read plan t below
 
-  pub begins_idle : get_or plan t 0 ≡ 255 → false ≡ begins_run (places_in plan) t
-  begins_idle e = simp (eq-eqb _ _ (sym here ∙ e))
+  -- nobody has a minute before minute 0
+  pub begins_first : t ≡ 0 → before ≡ 255 → not (eqb before (get_or plan t 0)) ≡ begins_run (places_in plan) t
+  begins_first z e = simp (e, ne_eqb _ _ (λ q. other (sym q)), ne_eqb _ _ (λ q. other (here ∙ q)), eq-eqb _ _ z)
 
-  pub begins_first : (get_or plan t 0 ≡ 255 → ⊥) → t ≡ 0 → true ≡ begins_run (places_in plan) t
-  begins_first other z = simp (ne_eqb _ _ (λ e. other (here ∙ e)), eq-eqb _ _ z)
-
-  pub begins_later : (get_or plan t 0 ≡ 255 → ⊥) → (t ≡ 0 → ⊥)
-      → not (eqb (get_or plan (t - 1) 0) (get_or plan t 0)) ≡ begins_run (places_in plan) t
-  begins_later other z =
-      simp (ne_eqb _ _ (λ e. other (here ∙ e)), ne_eqb _ _ z, here, place_read plan (t - 1) (omega (arith, below)))
+  pub begins_later : (t ≡ 0 → ⊥) → before ≡ get_or plan (t - 1) 0
+      → not (eqb before (get_or plan t 0)) ≡ begins_run (places_in plan) t
+  begins_later z e =
+      simp (ne_eqb _ _ (λ q. other (here ∙ q)), ne_eqb _ _ z, e, here, place_read plan (t - 1) (omega (arith, below)))
 
 -- the entry of minute t has all minutes from t to e
 pub record Extends (plan : List ℕ) (t e : ℕ) : Type 0 where
@@ -56,8 +54,8 @@ module _ (plan : List ℕ) (t : ℕ) where
         (first_below_lem (length plan - t) _) in
         omega (arith, back, found)
 
-    pub ends_day : length plan ≤ e → e ≡ run_end (length plan) (places_in plan) t
-    ends_day end = end_if (λ l. absurd (omega arith))
+    pub ends_day : length plan ≤ e → length plan ≡ run_end (length plan) (places_in plan) t
+    ends_day end = let z : length plan ≡ e = omega (arith, so.within) in z ∙ end_if (λ l. absurd (omega arith))
 
     module _ (below : e < length plan) (first : t < length plan) where
       pub ends_here : (get_or plan e 0 ≡ get_or plan t 0 → ⊥) → e ≡ run_end (length plan) (places_in plan) t

@@ -22,12 +22,9 @@ fn put_entries(
     requires { list.n ≤ most_entries }
     ensures { Puts out.old at (entries_text list ends starts) out.new result }
 {
-    let n = list.n as usize;
     let mut next = at;
-    let mut i: usize = 0;
-    while i < n {
+    for i in 0..usize::from(list.n) {
         next = put_entry_line(out, next, i, list.entries[i], ends[i], starts[i]);
-        i += 1;
     }
     next
 }

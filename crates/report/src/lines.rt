@@ -13,10 +13,10 @@ use list::types::{Entry, Kind, Seal};
 pub(crate) fn put_head(out: &mut [u8], at: usize, h: u16, n: u8, moves: u32, broken: u8) -> usize
     ensures { Puts out.old at (head_line h n moves broken) out.new result }
 {
-    let a = put_after(out, at, b"day ", h as u64);
-    let b = put_after(out, a, b" entries ", n as u64);
-    let c = put_after(out, b, b" moves ", moves as u64);
-    let d = put_after(out, c, b" broken ", broken as u64);
+    let a = put_after(out, at, b"day ", u64::from(h));
+    let b = put_after(out, a, b" entries ", u64::from(n));
+    let c = put_after(out, b, b" moves ", u64::from(moves));
+    let d = put_after(out, c, b" broken ", u64::from(broken));
     put_bytes(out, d, b"\n")
 }
 
@@ -44,11 +44,11 @@ fn put_kind_text(out: &mut [u8], at: usize, kind: Kind) -> usize
 fn put_times_text(out: &mut [u8], at: usize, e: Entry, end: u16, start: u16) -> usize
     ensures { Puts out.old at (times_text e end start) out.new result }
 {
-    let a = put_after(out, at, b" ", e.r as u64);
-    let b = put_after(out, a, b" ", e.d as u64);
-    let c = put_after(out, b, b" ", e.p as u64);
-    let d = put_after(out, c, b" ", end as u64);
-    let last = put_after(out, d, b" ", start as u64);
+    let a = put_after(out, at, b" ", u64::from(e.r));
+    let b = put_after(out, a, b" ", u64::from(e.d));
+    let c = put_after(out, b, b" ", u64::from(e.p));
+    let d = put_after(out, c, b" ", u64::from(end));
+    let last = put_after(out, d, b" ", u64::from(start));
     put_bytes(out, last, b"\n")
 }
 
@@ -63,12 +63,10 @@ pub(crate) fn put_entry_line(
 ) -> usize
     ensures { Puts out.old at (entry_line place e end start) out.new result }
 {
-    let seal = e.seal;
-    let kind = e.kind;
     let a = put_decimal(out, at, place as u64);
-    let b = put_after(out, a, b" ", e.serial as u64);
-    let c = put_seal_text(out, b, seal);
-    let d = put_kind_text(out, c, kind);
+    let b = put_after(out, a, b" ", u64::from(e.serial));
+    let c = put_seal_text(out, b, e.seal);
+    let d = put_kind_text(out, c, e.kind);
     put_times_text(out, d, e, end, start)
 }
 
@@ -78,7 +76,7 @@ pub(crate) fn put_run(out: &mut [u8], at: usize, start: usize, end: usize, place
 {
     let a = put_decimal(out, at, start as u64);
     let b = put_after(out, a, b" ", end as u64);
-    let c = put_after(out, b, b" ", place as u64);
+    let c = put_after(out, b, b" ", u64::from(place));
     put_bytes(out, c, b"\n")
 }
 
@@ -101,8 +99,7 @@ fn put_carried(out: &mut [u8], at: usize, number: u64, values: [u64; 3]) -> usiz
 pub(crate) fn put_refusal(out: &mut [u8], code: RefusalCode) -> usize
     ensures { Puts out.old 0 (line_of code) out.new result }
 {
-    let values = code.values;
     let a = put_after(out, 0, b"refused ", code.number);
-    let b = put_carried(out, a, code.number, values);
+    let b = put_carried(out, a, code.number, code.values);
     put_bytes(out, b, b"\n")
 }

@@ -12,13 +12,8 @@ fn begins_run(plan: &[u8], t: usize) -> bool
     ensures { result ≡ begins_run (places_in plan.now) t }
 {
     let place = plan[t];
-    if place == 255 {
-        return false;
-    }
-    if t == 0 {
-        return true;
-    }
-    plan[t - 1] != place
+    let before = if t == 0 { 255 } else { plan[t - 1] };
+    place != 255 && before != place
 }
 
 // The first minute from t on that the entry of minute t does not have, or the day's end.
@@ -27,14 +22,12 @@ fn run_end(plan: &[u8], t: usize) -> usize
     ensures { result ≡ run_end (length plan.now) (places_in plan.now) t }
 {
     let place = plan[t];
-    let mut e = t;
-    while e < plan.len() {
+    for e in t..plan.len() {
         if plan[e] != place {
-            break;
+            return e;
         }
-        e += 1;
     }
-    e
+    plan.len()
 }
 
 // The line of the run that begins at minute t, if one does.
@@ -43,9 +36,10 @@ fn put_run_at(out: &mut [u8], at: usize, plan: &[u8], t: usize) -> usize
     ensures { Puts out.old at (run_text_at plan.now t) out.new result }
 {
     if begins_run(plan, t) {
-        return put_run(out, at, t, run_end(plan, t), plan[t]);
+        put_run(out, at, t, run_end(plan, t), plan[t])
+    } else {
+        at
     }
-    at
 }
 
 // The lines of all runs of a plan.
@@ -53,10 +47,8 @@ pub(crate) fn put_runs(out: &mut [u8], at: usize, plan: &[u8]) -> usize
     ensures { Puts out.old at (runs_text plan.now) out.new result }
 {
     let mut next = at;
-    let mut t: usize = 0;
-    while t < plan.len() {
+    for t in 0..plan.len() {
         next = put_run_at(out, next, plan, t);
-        t += 1;
     }
     next
 }

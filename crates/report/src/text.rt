@@ -9,19 +9,18 @@ fn put_byte(out: &mut [u8], at: usize, x: u8) -> usize
 {
     if at < out.len() {
         out[at] = x;
-        return at + 1;
+        at + 1
+    } else {
+        at
     }
-    at
 }
 
 pub(crate) fn put_bytes(out: &mut [u8], at: usize, text: &[u8]) -> usize
     ensures { Puts out.old at text.now out.new result }
 {
     let mut next = at;
-    let mut i: usize = 0;
-    while i < text.len() {
-        next = put_byte(out, next, text[i]);
-        i += 1;
+    for x in text {
+        next = put_byte(out, next, *x);
     }
     next
 }
@@ -31,10 +30,10 @@ pub(crate) fn put_decimal(out: &mut [u8], at: usize, x: u64) -> usize
     ensures { Puts out.old at (decimal x) out.new result }
 {
     if x < 10 {
-        return put_byte(out, at, 48 + x as u8);
+        return put_byte(out, at, b'0' + x as u8);
     }
     let next = put_decimal(out, at, x / 10);
-    put_byte(out, next, 48 + (x % 10) as u8)
+    put_byte(out, next, b'0' + (x % 10) as u8)
 }
 
 // A number after a text.

@@ -8,4 +8,4 @@ pub with_entry-requires : goal.with_entry-requires
 with_entry-requires c = c.requires (ap verdict_of c.in-Accepted.is)
 
 pub returns : goal.returns
-returns c = rw (c.in-Accepted.is, c.with_entry.ensures, c.next_stamp.ensures) refl
+returns c = rw (c.in-Accepted.is, c.with_entry.ensures, c.saturating_add.ensures) refl

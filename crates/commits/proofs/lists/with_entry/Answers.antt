@@ -10,4 +10,4 @@ use Rattle.commits.proofs.lists.with_entry.Goals as goal
 pub returns : goal.returns
 returns c =
     let long : length c.args.list.entries ≡ 64 = search (rules, length_mapped) in
-    rw c.trimmed-longer.ensures (one_more c.args.list (long) c.args.e c.requires)
+    rw (c.trimmed-longer.ensures, c.from.ensures) (one_more c.args.list long c.args.e c.requires)

@@ -7,9 +7,3 @@ use Rattle.flat.proofs.day.day_value.Goals as goal
 -- The list in the first numbers, and the stamp after them.
 pub slice_bounds-value_in-end : goal.slice_bounds-value_in-end
 slice_bounds-value_in-end c = sym (front_long c.args.row.now c.requires)
-
-pub value_in-list-requires : goal.value_in-list-requires
-value_in-list-requires c = front_long c.args.row.now c.requires
-
-pub returns : goal.returns
-returns c = rw (c.value_in-list.ensures, c.u16_of.ensures)

@@ -16,4 +16,4 @@ put_numbers-requires c = front_long c.args.row.now c.requires
 pub returns : goal.returns
 returns c =
     let long : length c.args.day.list.entries ≡ 64 = search (rules, length_mapped) in
-    day_stored c.args.day c.args.row.now _ (long) c.requires c.put_numbers.ensures
+    rw c.from.ensures (day_stored c.args.day c.args.row.now _ long c.requires c.put_numbers.ensures)

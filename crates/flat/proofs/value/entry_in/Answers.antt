@@ -5,5 +5,5 @@ use Rattle.flat.proofs.value.entry_in.Goals as goal
 
 pub returns : goal.returns
 returns c =
-    entry_in_is c.args.fields.now c.args.at c.seal_in-seal.ensures c.u16_of.ensures
-    c.u16_of-2.ensures c.u16_of-3.ensures c.kind_in-kind.ensures
+    entry_in_is c.args.fields.now c.args.at c.seal_in.ensures c.u16_of.ensures
+    c.u16_of-2.ensures c.u16_of-3.ensures c.kind_in.ensures

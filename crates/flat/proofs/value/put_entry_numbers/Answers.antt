@@ -1,31 +1,18 @@
--- Seven stores, one after the other.
+-- Seven numbers, copied at once.
 -- Assumes nothing.
-use native.Mathlib.Numerals.{towards_suc}
-use native.Mathlib.Omega.{arith}
-use lib.ListN.{length-set}
+use mathlib.Core.Path.{refl}
+use Rattle.format.proofs.Copied.{copied}
+use Rattle.flat.specs.Flat.{flat_entry}
 use Rattle.flat.proofs.value.put_entry_numbers.Goals as goal
-
-pub bounds-fields-at-2 : goal.bounds-fields-at-2
-bounds-fields-at-2 c = simp length-set (omega arith)
-
-pub bounds-fields-at-3 : goal.bounds-fields-at-3
-bounds-fields-at-3 c = simp length-set (omega arith)
-
-pub bounds-fields-at-4 : goal.bounds-fields-at-4
-bounds-fields-at-4 c = simp length-set (omega arith)
-
-pub bounds-fields-at-5 : goal.bounds-fields-at-5
-bounds-fields-at-5 c = simp length-set (omega arith)
-
-pub bounds-fields-at-6 : goal.bounds-fields-at-6
-bounds-fields-at-6 c = simp length-set (omega arith)
-
-pub bounds-fields-at-7 : goal.bounds-fields-at-7
-bounds-fields-at-7 c = simp length-set (omega arith)
-
-pub shape_of-fields : goal.shape_of-fields
-shape_of-fields c = simp length-set
 
 pub returns : goal.returns
 returns c =
-    rw (c.seal_number.ensures, c.seal_flag.ensures, c.whole_flag.ensures) (simp towards_suc)
+    let fields = rw (
+      c.seal_flag.ensures,
+      c.seal_number.ensures,
+      c.from.ensures,
+      c.from-2.ensures,
+      c.from-3.ensures,
+      c.whole_flag.ensures,
+    ) at c.copy_from_slice.ensures.after in
+    copied c.args.fields.now _ (flat_entry c.args.e) c.args.at 7 c.requires refl fields

@@ -1,4 +1,4 @@
--- The loop's invariant is `NumbersPut`, the measure what is left of 64.
+-- The loop's invariant is `NumbersPut`.
 -- Assumes nothing.
 use borrow.Author.Rules.{rules}
 use mathlib.Core.Path.{◌≡◌}
@@ -9,15 +9,12 @@ use Rattle.flat.proofs.value.put_numbers.Goals as goal
 
 pub loop-i-init : goal.loop-i-init
 loop-i-init c =
-    let k : length c.args.list.entries ≡ 64 = search (rules, length_mapped) in
-    numbers_start c.args.list c.args.fields.now c.requires k
+    let long : length c.args.list.entries ≡ 64 = search (rules, length_mapped) in
+    rw (c.from.ensures, c.from-2.ensures, c.from-3.ensures) (numbers_start c.args.list c.args.fields.now c.requires long)
 
 pub loop-i-preserved : goal.loop-i-preserved
 loop-i-preserved c =
-    let k : length c.args.list.entries ≡ 64 = search (rules, length_mapped) in
-    numbers_next c.loop-i.invariant k _ _ c.loop-i-test.true c.put_entry_numbers.ensures
+    numbers_next c.loop-i.invariant _ _ c.loop-i-test.true c.put_entry_numbers.ensures
 
 pub returns : goal.returns
-returns c =
-    let k : length c.args.list.entries ≡ 64 = search (rules, length_mapped) in
-    numbers_done c.loop-i.invariant k c.loop-i-test.false
+returns c = numbers_done c.loop-i.invariant c.loop-i-test.false

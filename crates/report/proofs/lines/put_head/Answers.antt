@@ -8,5 +8,7 @@ use Rattle.report.proofs.lines.put_head.Goals as goal
 pub returns : goal.returns
 unfolding head_line line ascii
 returns c =
-    puts_then c.put_after-a.ensures (puts_then c.put_after-b.ensures (puts_then c.put_after-c.ensures
-    (puts_then c.put_after-d.ensures c.put_bytes.ensures)))
+    puts_then (rw c.from.ensures at c.put_after-a.ensures)
+    (puts_then (rw c.from-2.ensures at c.put_after-b.ensures)
+    (puts_then (rw c.from-3.ensures at c.put_after-c.ensures)
+    (puts_then (rw c.from-4.ensures at c.put_after-d.ensures) c.put_bytes.ensures)))

@@ -8,5 +8,5 @@ use Rattle.report.proofs.lines.put_run.Goals as goal
 pub returns : goal.returns
 unfolding run_line line ascii
 returns c =
-    puts_then c.put_decimal-a.ensures (puts_then c.put_after-b.ensures (puts_then c.put_after-c.ensures
+    puts_then c.put_decimal-a.ensures (puts_then c.put_after-b.ensures (puts_then (rw c.from.ensures at c.put_after-c.ensures)
     c.put_bytes.ensures))

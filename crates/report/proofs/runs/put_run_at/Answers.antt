@@ -9,5 +9,5 @@ returns-then-begins_run c =
     let begins = sym c.if-begins_run.true ∙ c.begins_run.ensures in
     run_put c.args.plan.now _ c.run_end.result c.requires begins c.run_end.ensures c.put_run.ensures
 
-pub returns : goal.returns
-returns c = run_none c.args.plan.now _ (sym c.if-begins_run.false ∙ c.begins_run.ensures)
+pub returns-else-begins_run : goal.returns-else-begins_run
+returns-else-begins_run c = run_none c.args.plan.now _ (sym c.if-begins_run.false ∙ c.begins_run.ensures)

@@ -1,4 +1,4 @@
--- `runs::put_runs` meets its contract. The loop's invariant is `PutSoFar`, the measure what is left of the day.
+-- `runs::put_runs` meets its contract. The loop's invariant is `PutSoFar`.
 -- Assumes nothing.
 use lib.ListN.{length}
 use Rattle.report.specs.Text.{texts}
@@ -15,9 +15,6 @@ pub loop-t-preserved : goal.loop-t-preserved
 loop-t-preserved c =
     texts_next (length c.args.plan.now) (run_text_at c.args.plan.now) c.loop-t.invariant c.loop-t-test.true c.put_run_at-next.auto.out
     c.put_run_at-next.ensures
-
-pub shape_of-out : goal.shape_of-out
-shape_of-out c = c.loop-t.invariant.long
 
 pub returns : goal.returns
 unfolding run_lines

@@ -6,5 +6,5 @@ use Rattle.report.proofs.text.put_byte.Goals as goal
 pub returns-then-at-out : goal.returns-then-at-out
 returns-then-at-out c = puts_one _ _ _
 
-pub returns : goal.returns
-returns c = puts_none _ _ _ c.if-at-out.false
+pub returns-else-at-out : goal.returns-else-at-out
+returns-else-at-out c = puts_none _ _ _ c.if-at-out.false
