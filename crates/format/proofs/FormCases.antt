@@ -15,7 +15,7 @@ use Rattle.list.specs.declared.types.Entry.{Entry}
 use Rattle.list.specs.declared.types.Frame.{Frame}
 use Rattle.format.specs.declared.map.Fields.{Fields}
 use Rattle.format.proofs.Places.{p_place_small}
-use Rattle.base.proofs.Stores.{wrote_one, wrote_then}
+use Rattle.base.proofs.Stores.{wrote_one, wrote_then, room_first, room_after_lem}
 
 pub seal_length : (s : Option ℕ) → length (seal_bytes s) ≡ cond (sealed s) 4 0
 seal_length None = refl
@@ -54,9 +54,24 @@ module _ (f : Frame) (e : Entry) where
   unfolding entry_bytes
   entry_parts m k p q = ap (λ (n : Fields). parts_of n (map_of n)) (sym p) ∙ ap (λ (x : ℕ). parts_of m x) (sym q)
 
-  pub entry_room : (m : Fields) (k at n : ℕ) → m ≡ fields_in f e → k ≡ map_of m → at + length (entry_bytes f e) ≤ n
-      → at + length (parts_of m k) ≤ n
-  entry_room m k at n p q h = rw (entry_parts m k p q) at h
+  -- the room that is left after the map byte, after the serial and after the seal
+  module _ {m : Fields} {k : ℕ} (p : m ≡ fields_in f e) (q : k ≡ map_of m) (old : List ℕ) (at : ℕ)
+      (room : at + length (entry_bytes f e) ≤ length old) where
+    after_map_room : at + 1 + length (after_map m e) ≤ length (set old at k)
+    after_map_room = room_after_lem (wrote_one old at k) (after_map m e) (rw (entry_parts m k p q) at room)
+
+    pub serial_room : at + 1 + length (u32_bytes e.serial) ≤ length (set old at k)
+    serial_room = room_first (u32_bytes e.serial) (after_serial m e) _ _ after_map_room
+
+    module _ {o : List ℕ} {a : ℕ} (w : Wrote (set old at k) (at + 1) (u32_bytes e.serial) o a) where
+      after_serial_room : a + length (after_serial m e) ≤ length o
+      after_serial_room = room_after_lem w (after_serial m e) after_map_room
+
+      pub seal_room : a + length (seal_bytes e.seal) ≤ length o
+      seal_room = room_first (seal_bytes e.seal) (times_bytes m e) _ _ after_serial_room
+
+      pub times_room : {o₂ : List ℕ} {b : ℕ} → Wrote o a (seal_bytes e.seal) o₂ b → b + length (times_bytes m e) ≤ length o₂
+      times_room v = room_after_lem v (times_bytes m e) after_serial_room
 
   -- the map byte and the fields one after the other
   pub entry_stored : {old o₁ o₂ new : List ℕ} {at a b next k : ℕ} {m : Fields}

@@ -2,6 +2,7 @@
 -- map bytes and those that refusals carry; the longest one form; and that the first 966 bytes decide how an input is read. The crates above
 -- may cite what is public.
 mod MapBytes
+pub mod Copied
 pub mod Places
 mod CarriedPlaces
 pub mod FieldTrip

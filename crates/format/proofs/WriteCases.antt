@@ -5,10 +5,11 @@ use mathlib.Core.Bool.{Bool}
 use mathlib.Core.List.{List, [], ◌∷◌, ◌++◌}
 use Prim.Native.Nat.{ℕ, ◌+◌, ◌*◌, ◌≤◌, ◌<◌}
 use native.Mathlib.Nat.{zero-add}
+use native.Mathlib.Numerals.{add-one}
 use native.Mathlib.Omega.{arith}
 use borrow.Author.Tests.{le-ltb}
-use lib.ListN.{length, get_or, drop, set, length-append, length-set, length-take}
-use lib.Seq.{sets}
+use lib.ListN.{length, get_or, drop, set, length-append, length-set, length-take, drop_of_length-le}
+use lib.Seq.{sets, drop-cons}
 use Rattle.base.specs.Outcomes.{answered}
 use Rattle.format.specs.Maps.{size_of}
 use Rattle.format.specs.LittleEndian.{u16_bytes}
@@ -26,7 +27,6 @@ use Rattle.list.proofs.Sound.{sound_list}
 use Rattle.base.proofs.Stores.{wrote_one, wrote_length, wrote_more, wrote_then, room_first, room_after_lem}
 use Rattle.format.proofs.FormCases.{entry_length, entry_short}
 use Rattle.format.proofs.HeaderTrip.{header_length, header_short}
-use Rattle.base.proofs.Walk.{walk_next, walk_done}
 
 -- the header, from whether the room opens after midnight and the count byte that code found
 module _ (f : Frame) (n k : ℕ) (w : Bool) (p : w ≡ opens_later f) (q : k ≡ count_byte w n) where
@@ -52,59 +52,55 @@ abbrev pub rest_bytes : DayList → ℕ → List ℕ
 rest_bytes l i = bytes_of_entries l.frame (drop i (entries_of l))
 
 -- the bytes of i entries were counted
-pub record SizedSoFar (l : DayList) (size i : ℕ) : Type 0 where
-  pub passed : i ≤ l.n
-  pub total : size + length (rest_bytes l i) ≡ length (bytes_of l)
+abbrev pub SizedSoFar : DayList → ℕ → ℕ → Type 0
+SizedSoFar l size i = size + length (rest_bytes l i) ≡ length (bytes_of l)
 
 -- i entries were stored, up to place at, in a buffer that held from after the header, which ends at place start
 pub record StoredSoFar (l : DayList) (from : List ℕ) (start : ℕ) (out : List ℕ) (at i : ℕ) : Type 0 where
-  pub passed : i ≤ l.n
   pub long : length out ≡ length from
   pub room : at + length (rest_bytes l i) ≤ length out
   pub rest : sets out at (rest_bytes l i) ≡ sets from start (rest_bytes l 0)
 
-module _ (l : DayList) (enough : l.n ≤ length l.entries) where
-  rest_next : (i : ℕ) (e₀ : Entry) → i < l.n → rest_bytes l i ≡ entry_bytes l.frame (get_or l.entries i e₀) ++ rest_bytes l (i + 1)
+module _ (l : DayList) where
+  rest_next : (i : ℕ) (e₀ : Entry) → i < length (entries_of l)
+      → rest_bytes l i ≡ entry_bytes l.frame (get_or (entries_of l) i e₀) ++ rest_bytes l (i + 1)
   unfolding bytes_of_entries
-  rest_next i e₀ h = rw (walk_next l.entries l.n enough i e₀ h)
+  rest_next i e₀ h = rw (drop-cons (entries_of l) i e₀ h, add-one)
 
-  rest_done : (i : ℕ) → l.n ≤ i → rest_bytes l i ≡ []
+  rest_done : (i : ℕ) → length (entries_of l) ≤ i → rest_bytes l i ≡ []
   unfolding bytes_of_entries
-  rest_done i h = rw (walk_done l.entries l.n enough i h)
+  rest_done i h = rw (drop_of_length-le (entries_of l) h)
 
-  pub sized_next : (size k i : ℕ) (e₀ : Entry) (m : Fields) → SizedSoFar l size i → i < l.n
-      → m ≡ fields_in l.frame (get_or l.entries i e₀) → k ≡ size_of m → SizedSoFar l (size + k) (i + 1)
+  pub sized_next : (size k i : ℕ) (e₀ : Entry) (m : Fields) → SizedSoFar l size i → i < length (entries_of l)
+      → m ≡ fields_in l.frame (get_or (entries_of l) i e₀) → k ≡ size_of m → SizedSoFar l (size + k) (i + 1)
   sized_next size k i e₀ m c h p z =
-      let e = get_or l.entries i e₀ in
+      let e = get_or (entries_of l) i e₀ in
       let q : length (rest_bytes l i) ≡ length (entry_bytes l.frame e) + length (rest_bytes l (i + 1)) =
       rw (rest_next i e₀ h) (length-append (entry_bytes l.frame e) (rest_bytes l (i + 1))) in
       let w : k ≡ length (entry_bytes l.frame e) = z ∙ ap size_of p ∙ sym (entry_length l.frame e) in
-      record {
-        passed = omega arith;
-        total = omega (arith, c.total, q, w);
-      }
+      omega (arith, c, q, w)
 
-  pub sized_done : (size i : ℕ) → SizedSoFar l size i → l.n ≤ i → size ≡ length (bytes_of l)
-  sized_done size i c h = omega (arith, c.total, ap (λ (bs : List ℕ). length bs) (rest_done i h))
+  pub sized_done : (size i : ℕ) → SizedSoFar l size i → length (entries_of l) ≤ i → size ≡ length (bytes_of l)
+  sized_done size i c h = omega (arith, c, ap (λ (bs : List ℕ). length bs) (rest_done i h))
 
-  pub stored_room : (from : List ℕ) (start : ℕ) (out : List ℕ) (at i : ℕ) (e₀ : Entry) → StoredSoFar l from start out at i → i < l.n
-      → at + length (entry_bytes l.frame (get_or l.entries i e₀)) ≤ length out
+  pub stored_room : (from : List ℕ) (start : ℕ) (out : List ℕ) (at i : ℕ) (e₀ : Entry) → StoredSoFar l from start out at i
+      → i < length (entries_of l)
+      → at + length (entry_bytes l.frame (get_or (entries_of l) i e₀)) ≤ length out
   stored_room from start out at i e₀ s h =
-      room_first (entry_bytes l.frame (get_or l.entries i e₀)) (rest_bytes l (i + 1)) at (length out) (rw (rest_next i e₀ h) at s.room)
+      room_first (entry_bytes l.frame (get_or (entries_of l) i e₀)) (rest_bytes l (i + 1)) at (length out) (rw (rest_next i e₀ h) at s.room)
 
   pub stored_next : (from : List ℕ) (start : ℕ) (out new : List ℕ) (at next i : ℕ) (e₀ : Entry) → StoredSoFar l from start out at i
-      → i < l.n
-      → Wrote out at (entry_bytes l.frame (get_or l.entries i e₀)) new next → StoredSoFar l from start new next (i + 1)
+      → i < length (entries_of l)
+      → Wrote out at (entry_bytes l.frame (get_or (entries_of l) i e₀)) new next → StoredSoFar l from start new next (i + 1)
   stored_next from start out new at next i e₀ s h w =
       record {
-        passed = omega arith;
         long = wrote_length w ∙ s.long;
         room = room_after_lem w (rest_bytes l (i + 1)) (rw (rest_next i e₀ h) at s.room);
         rest = wrote_more w (rest_bytes l (i + 1)) ∙ (rw (rest_next i e₀ h) at s.rest);
       }
 
-  pub stored_done : (from : List ℕ) (start : ℕ) (out : List ℕ) (at i : ℕ) → StoredSoFar l from start out at i → l.n ≤ i
-      → out ≡ sets from start (rest_bytes l 0)
+  pub stored_done : (from : List ℕ) (start : ℕ) (out : List ℕ) (at i : ℕ) → StoredSoFar l from start out at i
+      → length (entries_of l) ≤ i → out ≡ sets from start (rest_bytes l 0)
   stored_done from start out at i s h = rw (rest_done i h) at s.rest
 
 -- each entry takes 15 bytes at most
@@ -124,7 +120,7 @@ module _ (l : DayList) where
       omega (arith, form_length, header, entries_short l.frame (entries_of l), length-take l.n l.entries)
 
   pub sized_start : (size : ℕ) → size ≡ header_size (opens_later l.frame) → SizedSoFar l size 0
-  sized_start size e = record { passed = omega arith; total = rw e (sym form_length) }
+  sized_start size e = rw e (sym form_length)
 
   -- room for the header, and then the entries after it
   pub header_room : (room : ℕ) → length (bytes_of l) ≤ room → length (header_bytes l.frame l.n) ≤ room
@@ -140,7 +136,6 @@ module _ (l : DayList) where
   unfolding bytes_of
   stored_start old o next w h =
       record {
-        passed = omega arith;
         long = refl;
         room = room_after_lem w (rest_bytes l 0) (rw zero-add h);
         rest = refl;

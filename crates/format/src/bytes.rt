@@ -30,6 +30,6 @@ pub(crate) fn put_u32(out: &mut [u8], at: usize, x: u32) -> usize
     requires { at + 4 ≤ length out.old }
     ensures { Wrote out.old at (u32_bytes x) out.new result }
 {
-    let half = put_u16(out, at, (x % 65536) as u16);
-    put_u16(out, half, (x / 65536) as u16)
+    out[at..at + 4].copy_from_slice(&x.to_le_bytes());
+    at + 4
 }

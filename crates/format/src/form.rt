@@ -67,8 +67,8 @@ pub(crate) fn list_size(list: DayList) -> usize
     ensures { result ≡ length (bytes_of list) }
 {
     let mut size = header_size(list.frame);
-    for i in 0..usize::from(list.n) {
-        size += size_of(fields_in(list.frame, list.entries[i]));
+    for e in &list.entries[..usize::from(list.n)] {
+        size += size_of(fields_in(list.frame, *e));
     }
     size
 }

@@ -7,7 +7,7 @@ ghost use Rattle.format.specs.Headers.{header_size, opens_later, count_byte, hea
 
 use crate::bytes::put_u16;
 use crate::form::put_minute;
-use crate::map::{bit, plus_if};
+use crate::map::bit;
 use list::types::Frame;
 
 // Whether a count byte says that the opening minute follows.
@@ -28,14 +28,14 @@ fn opens_later(frame: Frame) -> bool
 pub(crate) fn header_size(frame: Frame) -> usize
     ensures { result ≡ header_size (opens_later frame) }
 {
-    plus_if(3, opens_later(frame), 2)
+    if opens_later(frame) { 5 } else { 3 }
 }
 
 fn count_byte(written: bool, n: u8) -> u8
     requires { n ≤ most_entries }
     ensures { result ≡ count_byte written n }
 {
-    if written { n + 128 } else { n }
+    if written { n | 0x80 } else { n }
 }
 
 // A header's one form, at the start of the buffer; the place after it.

@@ -51,7 +51,7 @@ fn kind_of(whole: bool) -> Kind
 }
 
 // x, with y added where a field follows.
-pub(crate) fn plus_if(x: usize, follows: bool, y: usize) -> usize
+fn plus_if(x: usize, follows: bool, y: usize) -> usize
     requires { x + y < 2 ^ 64 }
     ensures { result ≡ x + cond follows y 0 }
 {
@@ -62,11 +62,8 @@ pub(crate) fn plus_if(x: usize, follows: bool, y: usize) -> usize
 pub(crate) fn map_of(m: Fields) -> u8
     ensures { result ≡ map_of m }
 {
-    let bits = plus_if(plus_if(plus_if(17, m.seal, 2), m.r, 4), m.d, 8);
-    match m.kind {
-        Kind::Pause => bits as u8,
-        Kind::Whole => (bits + 32) as u8,
-    }
+    let whole = matches!(m.kind, Kind::Whole);
+    17 | u8::from(m.seal) << 1 | u8::from(m.r) << 2 | u8::from(m.d) << 3 | u8::from(whole) << 5
 }
 
 // Where r starts in an entry, counted from its map byte; the serial is at 1, the seal at 5.

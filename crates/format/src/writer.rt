@@ -16,8 +16,8 @@ fn put_list(list: DayList, out: &mut [u8])
     ensures { out.new ≡ sets out.old 0 (bytes_of list) }
 {
     let mut at = put_header(out, list.frame, list.n);
-    for i in 0..usize::from(list.n) {
-        at = put_entry(out, at, list.frame, list.entries[i]);
+    for e in &list.entries[..usize::from(list.n)] {
+        at = put_entry(out, at, list.frame, *e);
     }
 }
 

@@ -4,5 +4,5 @@
 use Rattle.format.proofs.WriteCases.{SizedSoFar}
 use Rattle.format.proofs.form.list_size.Given as goal
 
-abbrev pub invariant-loop-i : goal.invariant-loop-i
-invariant-loop-i l = SizedSoFar l.list l.size l.i
+abbrev pub invariant-loop-e : goal.invariant-loop-e
+invariant-loop-e l = SizedSoFar l.fn.list l.size l.e-index

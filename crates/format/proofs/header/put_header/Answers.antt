@@ -1,9 +1,7 @@
 -- `header::put_header` meets its contract: H, the count byte and the opening minute one after the other.
 -- Assumes nothing.
 use native.Mathlib.Omega.{arith}
-use Rattle.base.specs.Storing.{Wrote}
 use Rattle.base.proofs.Stores.{wrote_length}
-use Rattle.format.specs.Headers.{header_bytes}
 use Rattle.format.proofs.HeaderTrip.{header_length}
 use Rattle.format.proofs.WriteCases.{minute_room, header_stored}
 use Rattle.format.proofs.header.put_header.Goals as goal
@@ -21,16 +19,7 @@ put_minute-requires c =
     minute_room c.args.frame c.args.n c.count_byte.result _ c.opens_later-written.ensures c.count_byte.ensures c.put_u16.ensures
     c.requires.1
 
-pub shape_of-out : goal.shape_of-out
-shape_of-out c =
-    let stored : Wrote c.args.out.now 0 (header_bytes c.args.frame c.args.n) c.put_minute.new.out c.put_minute.result =
-    header_stored c.args.frame c.args.n c.count_byte.result _ c.opens_later-written.ensures c.count_byte.ensures c.put_u16.ensures
-    c.put_minute.ensures in
-    wrote_length stored
-
 pub returns : goal.returns
 returns c =
-    let stored : Wrote c.args.out.now 0 (header_bytes c.args.frame c.args.n) c.put_minute.new.out c.put_minute.result =
     header_stored c.args.frame c.args.n c.count_byte.result _ c.opens_later-written.ensures c.count_byte.ensures c.put_u16.ensures
-    c.put_minute.ensures in
-    stored
+    c.put_minute.ensures

@@ -3,5 +3,5 @@
 use Rattle.format.proofs.WriteCases.{StoredSoFar}
 use Rattle.format.proofs.writer.put_list.Given as goal
 
-abbrev pub invariant-loop-i : goal.invariant-loop-i
-invariant-loop-i l = StoredSoFar l.list l.initial.out l.initial.at l.out l.at l.i
+abbrev pub invariant-loop-e : goal.invariant-loop-e
+invariant-loop-e l = StoredSoFar l.fn.list l.initial.out l.initial.at l.out l.at l.e-index
