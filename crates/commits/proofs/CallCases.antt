@@ -1,6 +1,6 @@
 -- The calls in each case that the code meets.
 -- Assumes nothing.
-use mathlib.Core.Path.{◌≡◌, refl, ap, ◌∙◌}
+use mathlib.Core.Path.{◌≡◌, refl, sym, ap, ◌∙◌}
 use mathlib.Core.List.{List}
 use Prim.Native.Nat.{ℕ, ◌<◌}
 use native.Mathlib.Omega.{arith}
@@ -10,65 +10,59 @@ use Rattle.base.specs.Outcomes.{Outcome, answered, refused, and_then}
 use Rattle.base.proofs.Inversion.{answered_refused}
 use Rattle.list.specs.DayLists.{most_entries}
 use Rattle.list.specs.Checks.{check_of}
-use Rattle.list.specs.Refusals.{code_of, outcome_of, verdict_of}
+use Rattle.list.specs.Refusals.{code_of, outcome_of}
 use Rattle.list.specs.declared.types.Entry.{Entry}
 use Rattle.list.specs.declared.types.DayList.{DayList}
 use Rattle.list.specs.declared.types.Refusal.{Refusal}
-use Rattle.list.specs.declared.types.Verdict.{Verdict}
-use Rattle.list.specs.declared.types.Verdict.TheVariants.{Accepted, Refused}
+use Rattle.std.specs.Prelude.{Result, Ok, Err}
 use Rattle.windows.specs.Windows.{windows_of}
-use Rattle.list.proofs.Verdicts.{by_verdict}
-use Rattle.narrow.specs.Rounds.{Narrowed}
-use Rattle.narrow.specs.Calls.{settle_of, Settles}
-use Rattle.narrow.specs.declared.types.NarrowAnswer.{NarrowAnswer}
-use Rattle.planner.specs.Calls.{plan_checks, narrow_after, planning, unplanned, PlansDay}
-use Rattle.planner.specs.declared.types.PlanAnswer.{PlanAnswer}
+use Rattle.narrow.specs.Calls.{settle_of, narrowed_in, Settles}
+use Rattle.narrow.specs.declared.types.NarrowedList.{NarrowedList}
+use Rattle.planner.specs.Calls.{plan_checks, narrow_after, planning, narrowed_by_plan, PlansDay}
+use Rattle.planner.specs.declared.types.PlannedDay.{PlannedDay}
 use Rattle.planner.proofs.AnswerCases.{plan_refused}
-use Rattle.commits.specs.Days.{trimmed, with_entry}
-use Rattle.commits.specs.Calls.{empty_day, longer_checks, day_after, MakesDay}
+use Rattle.commits.specs.Days.{trimmed, with_entry, next_stamp}
+use Rattle.commits.specs.Calls.{longer_checks, day_after, Succeeds, MakesDay}
 use Rattle.commits.specs.Internal.{HasRoom, PlansLonger}
 use Rattle.commits.specs.declared.types.StampedDay.{StampedDay}
-use Rattle.commits.specs.declared.types.StampedAnswer.{StampedAnswer}
-
--- the windows and moves answered
-abbrev settled_in : NarrowAnswer → Narrowed
-settled_in a = record { windows = windows_of a.list; moves = a.moves }
 
 -- Planning the longer list: refused by the rows before it, or not.
-module _ (v : Verdict) (l : DayList) (e : Entry) (old : List ℕ) (a : PlanAnswer) where
-  pub longer_refused : (x : Refusal) → v ≡ Refused x → a ≡ unplanned v → PlansLonger (verdict_of v) l e old a old
-  longer_refused x is made =
-      let z : longer_checks (verdict_of v) l e (length old) ≡ refused (code_of x) = rw is refl in
-      plan_refused (longer_checks (verdict_of v) l e (length old)) (with_entry l e) (λ q. absurd (answered_refused q z)) old v x is
+module _ (v : Result (Unit {0}) Refusal) (l : DayList) (e : Entry) (old : List ℕ) (a : Result PlannedDay Refusal) where
+  pub longer_refused : (x : Refusal) → v ≡ Err x → a ≡ Err x → PlansLonger (outcome_of v) l e old a old
+  longer_refused x is turned =
+      let z : longer_checks (outcome_of v) l e (length old) ≡ refused (code_of x) = rw is refl in
+      plan_refused (longer_checks (outcome_of v) l e (length old)) (with_entry l e) (λ q. absurd (answered_refused q z)) old a x turned
       (rw z refl)
-      a made
 
-  pub longer_planned : (new : List ℕ) → v ≡ Accepted → PlansDay (with_entry l e) old a new → PlansLonger (verdict_of v) l e old a new
+  pub longer_planned : (new : List ℕ) → v ≡ Ok tt → PlansDay (with_entry l e) old a new → PlansLonger (outcome_of v) l e old a new
   longer_planned new is plans = rw is plans
 
 -- The day after a commit.
-module _ (o : Outcome (Unit {0})) (l : DayList) (e : Entry) (old : List ℕ) (a : PlanAnswer) (new : List ℕ)
+module _ (o : Outcome (Unit {0})) (l : DayList) (e : Entry) (old : List ℕ) (a : Result PlannedDay Refusal) (new : List ℕ)
     (plans : PlansLonger o l e old a new) where
-  -- rows that leave room were passed where the commit succeeded
-  pub success_room : HasRoom o l → HasRoom (verdict_of a.narrowed.verdict) l
-  success_room room = go a.narrowed.verdict refl o refl
-    where
-      go : (t : Verdict) → a.narrowed.verdict ≡ t → (u : Outcome (Unit {0})) → o ≡ u → verdict_of t ≡ answered tt → l.n < most_entries
-      go (Refused x) is u passed q = absurd (answered_refused q refl)
-      go Accepted is (answered w) passed q = room passed
-      go Accepted is (refused k) passed q =
-          absurd
-          (answered_refused {x = k}
-          (by_verdict (settled_in a.narrowed) plans.holds.narrowed is)
-          (rw passed refl))
+  outcome_is : narrowed_in (narrowed_by_plan a) ≡ narrow_after (longer_checks o l e (length old)) (with_entry l e)
+  outcome_is = plans.holds.narrowed
 
-  pub day_by_verdict : (d : StampedDay)
-      → day_after d e (verdict_of a.narrowed.verdict) ≡ day_after d e (narrow_after (longer_checks o l e (length old)) (with_entry l e))
-  day_by_verdict d = go a.narrowed.verdict ∙ ap (day_after d e) plans.holds.narrowed
+  -- rows that leave room were passed where the commit succeeded
+  pub success_room : HasRoom o l → Succeeds a → l.n < most_entries
+  success_room room (p, is) = go o refl
     where
-      go : (t : Verdict) → day_after d e (verdict_of t) ≡ day_after d e (outcome_of t (settled_in a.narrowed))
-      go Accepted = refl
-      go (Refused y) = refl
+      told : answered (record { windows = windows_of p.narrowed.list; moves = p.narrowed.moves }) ≡ narrow_after (longer_checks o l e (length old)) (with_entry l e)
+      told = sym (ap (λ (b : Result PlannedDay Refusal). narrowed_in (narrowed_by_plan b)) is) ∙ outcome_is
+
+      go : (u : Outcome (Unit {0})) → o ≡ u → l.n < most_entries
+      go (answered w) passed = room passed
+      go (refused k) passed = absurd (answered_refused {x = k} refl (told ∙ rw passed refl))
+
+  pub day_after_success : Succeeds a → (d : StampedDay) → record { list = with_entry d.list e; stamp = next_stamp d.stamp }
+      ≡ day_after d e (narrow_after (longer_checks o l e (length old)) (with_entry l e))
+  day_after_success (p, is) d =
+      ap (day_after d e) (sym (ap (λ (b : Result PlannedDay Refusal). narrowed_in (narrowed_by_plan b)) is) ∙ outcome_is)
+
+  pub day_after_refusal : (x : Refusal) → a ≡ Err x → (d : StampedDay)
+      → d ≡ day_after d e (narrow_after (longer_checks o l e (length old)) (with_entry l e))
+  day_after_refusal x is d =
+      ap (day_after d e) (sym (ap (λ (b : Result PlannedDay Refusal). narrowed_in (narrowed_by_plan b)) is) ∙ outcome_is)
 
 -- A fresh day. Where row 11 is passed over, planning has the outcome of narrowing.
 pub planning_settles : (l : DayList) → planning l ≡ settle_of l
@@ -79,14 +73,11 @@ planning_settles l = rw (le-ltb l.frame.h l.frame.h (omega arith)) (go (check_of
     go (answered t) = refl
     go (refused k) = refl
 
-module _ (l : DayList) (a : NarrowAnswer) (settles : Settles l a) where
-  planning_is : (t : Verdict) → a.verdict ≡ t → planning l ≡ outcome_of t (settled_in a)
-  planning_is t e = planning_settles l ∙ by_verdict (settled_in a) settles.holds.narrowed e
+module _ (l : DayList) where
+  pub fresh_refused : (a : Result StampedDay Refusal) (x : Refusal) → a ≡ Err x → Settles l (Err x) → MakesDay l a
+  fresh_refused a x e settles =
+      let z : planning l ≡ refused (code_of x) = planning_settles l ∙ sym settles.holds.narrowed in rw (z, e) refl
 
-  pub fresh_refused : (x : Refusal) → a.verdict ≡ Refused x → (b : StampedAnswer) → b ≡ record { verdict = a.verdict; day = empty_day }
-      → MakesDay l b
-  fresh_refused x e b is = let z = planning_is (Refused x) e in record { outcome = rw (z, is, e) refl; beside = rw (z, is) refl }
-
-  pub fresh_made : a.verdict ≡ Accepted → (b : DayList) → b ≡ trimmed l
-      → MakesDay l (record { verdict = a.verdict; day = record { list = b; stamp = 0 } })
-  fresh_made e b is = let z = planning_is Accepted e in record { outcome = rw (z, e, is) refl; beside = rw (z, is) refl }
+  pub fresh_made : (v : NarrowedList) → Settles l (Ok v) → (b : DayList) → b ≡ trimmed l → MakesDay l (Ok (record { list = b; stamp = 0 }))
+  fresh_made v settles b is =
+      let z : planning l ≡ answered _ = planning_settles l ∙ sym settles.holds.narrowed in rw (z, is) refl

@@ -9,16 +9,17 @@ use Rattle.list.specs.DayLists.{day_list, SameList}
 use Rattle.list.specs.declared.types.Entry.{Entry}
 use Rattle.list.specs.declared.types.DayList.{DayList}
 use Rattle.list.proofs.Alike.{same_checked}
-use Rattle.list.proofs.Verdicts.{one_verdict}
+use Rattle.list.proofs.Answered.{one_answer}
+use Rattle.list.specs.declared.types.Refusal.{Refusal}
+use Rattle.std.specs.Prelude.{Result}
 use Rattle.narrow.specs.Rounds.{Narrowed}
 use Rattle.narrow.proofs.Alike.{same_times}
 use Rattle.planner.specs.Calls.{plan_checks, plan_of, planning, narrow_after}
 use Rattle.planner.proofs.Alike.{times_planned}
 use Rattle.planner.proofs.OneAnswer.{one_planned}
 use Rattle.commits.specs.Days.{trimmed, with_entry, next_stamp}
-use Rattle.commits.specs.Calls.{fresh_of, day_or, ask_fault, commit_fault, commit_of, day_after, MakesDay, SameDay, Asks, Commits}
+use Rattle.commits.specs.Calls.{fresh_of, ask_fault, commit_fault, commit_of, day_after, MakesDay, SameDay, Asks, Commits}
 use Rattle.commits.specs.declared.types.StampedDay.{StampedDay}
-use Rattle.commits.specs.declared.types.StampedAnswer.{StampedAnswer}
 use Rattle.commits.specs.declared.types.AskAnswer.{AskAnswer}
 use Rattle.commits.specs.declared.types.CommitAnswer.{CommitAnswer}
 
@@ -35,11 +36,8 @@ module _ {a b : DayList} (s : SameList a b) where
       times_planned (same_times s) (same_checked s) a.frame.h ∙ (λ j. plan_of b (s.frame j).h) in
       λ j. and_then (plans j) (λ _. answered (record { list = same_trimmed j; stamp = 0 }))
 
-  pub one_fresh : (x y : StampedAnswer) → MakesDay a x → MakesDay b y → x ≡ y
-  one_fresh x y p q =
-      let verdicts : x.verdict ≡ y.verdict = one_verdict x.verdict y.verdict _ _ (p.outcome ∙ same_fresh ∙ sym q.outcome) in
-      let days : x.day ≡ y.day = p.beside ∙ ap day_or same_fresh ∙ sym q.beside in
-      λ i. record { verdict = verdicts i; day = days i }
+  pub one_fresh : (x y : Result StampedDay Refusal) → MakesDay a x → MakesDay b y → x ≡ y
+  one_fresh x y p q = one_answer x y (p ∙ same_fresh ∙ sym q)
 
 module _ {a b : StampedDay} (s : SameDay a b) where
   same_ask : ask_fault a ≡ ask_fault b

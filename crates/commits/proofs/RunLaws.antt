@@ -10,31 +10,30 @@ use Rattle.base.specs.Outcomes.{Code, code, Outcome, answered, refused, and_then
 use Rattle.base.proofs.Inversion.{answered_same, refused_same, answered_refused}
 use Rattle.list.specs.DayLists.{most_entries, entries_of, blank, is_whole, day_list, whole_in}
 use Rattle.list.specs.Checks.{check_of, WellFormed}
-use Rattle.list.specs.Refusals.{outcome_of, verdict_of}
+use Rattle.list.specs.Refusals.{outcome_of}
 use Rattle.list.specs.declared.types.Entry.{Entry}
 use Rattle.list.specs.declared.types.DayList.{DayList}
-use Rattle.list.specs.declared.types.Verdict.{Verdict}
-use Rattle.list.specs.declared.types.Verdict.TheVariants.{Accepted, Refused}
-use Rattle.list.proofs.Verdicts.{by_verdict}
+use Rattle.std.specs.Prelude.{Result, Ok, Err}
+use Rattle.list.specs.declared.types.Refusal.{Refusal}
 use Rattle.list.proofs.Sound.{sound_list, list_apart, well_formed}
 use Rattle.windows.specs.Windows.{windows_of}
 use Rattle.windows.specs.Intervals.{overload_of}
 use Rattle.narrow.specs.Rounds.{Narrowed, narrowing}
-use Rattle.narrow.specs.Calls.{settle_of}
+use Rattle.narrow.specs.Calls.{settle_of, narrowed_in}
 use Rattle.narrow.proofs.ListAnswers.{settle_keeps}
-use Rattle.planner.specs.Calls.{plan_checks, narrow_after, plan_of, planning}
+use Rattle.planner.specs.Calls.{plan_checks, narrow_after, plan_of, planning, narrowed_by_plan}
+use Rattle.planner.specs.declared.types.PlannedDay.{PlannedDay}
 use Rattle.planner.proofs.OneAnswer.{one_planned}
 use Rattle.commits.specs.Days.{trimmed, with_entry}
-use Rattle.commits.specs.Calls.{fresh_of, commit_fault, longer_checks, MakesDay, Asks, Commits}
+use Rattle.commits.specs.Calls.{commit_fault, longer_checks, MakesDay, Succeeds, Asks, Commits}
 use Rattle.commits.specs.Runs.{Event, asked, committed, Happens, none, ask, commit, HandsOn, entry_if, committed_in, commits_in}
 use Rattle.commits.specs.Runs.{RunsSo}
 use Rattle.commits.specs.declared.types.StampedDay.{StampedDay}
-use Rattle.commits.specs.declared.types.StampedAnswer.{StampedAnswer}
 use Rattle.commits.specs.declared.types.AskAnswer.{AskAnswer}
 use Rattle.commits.specs.declared.types.CommitAnswer.{CommitAnswer}
 use Rattle.commits.proofs.RowFacts.{commit_passed, stamp_right, stamp_stale}
 use Rattle.commits.proofs.EntryLaws.{entries_are}
-use Rattle.commits.proofs.CommitLaws.{settled, outcome, day_is, commit_law}
+use Rattle.commits.proofs.CommitLaws.{outcome, day_is, commit_law}
 use Rattle.commits.proofs.CallCases.{planning_settles}
 
 -- A list that can be planned.
@@ -100,17 +99,14 @@ record Stands (l : DayList) (cs : List Entry) (d : StampedDay) : Type 0 where
   can : CanBePlanned d.list
   few : length (entries_of l) + length cs ≤ most_entries
 
-fresh_stands : (l : DayList) (a : StampedAnswer) → MakesDay l a → a.verdict ≡ Accepted → Stands l [] a.day
-fresh_stands l a made e = go (planning l) refl
+fresh_stands : (l : DayList) (d : StampedDay) → MakesDay l (Ok d) → Stands l [] d
+fresh_stands l d told = go (planning l) refl
   where
-    told : fresh_of l ≡ answered a.day
-    told = by_verdict a.day made.outcome e
-
-    go : (o : Outcome Narrowed) → planning l ≡ o → Stands l [] a.day
-    go (refused k) q = absurd (answered_refused {x = k} told (rw q refl))
+    go : (o : Outcome Narrowed) → planning l ≡ o → Stands l [] d
+    go (refused k) q = absurd (answered_refused {x = k} (sym told) (rw q refl))
     go (answered v) q =
         let can : CanBePlanned l = rw q refl in
-        let day : a.day ≡ record { list = trimmed l; stamp = 0 } = answered_same refl (sym told ∙ rw q refl) in
+        let day : d ≡ record { list = trimmed l; stamp = 0 } = answered_same (sym told) (rw q refl) in
         rw day
         (record {
           list = ap (day_list l.frame) (sym (append-nil (entries_of l)));
@@ -126,39 +122,39 @@ module _ {l : DayList} {cs : List Entry} {d : StampedDay} (so : Stands l cs d) {
   es = entries_of l
 
   -- what a success tells
-  success : (o : Outcome (Unit {0})) → narrow_after (longer_checks o d.list e (length old)) (with_entry d.list e) ≡ answered (settled w)
-      → (o ≡ answered tt) × (plan_of (with_entry d.list e) (length old) ≡ answered (settled w))
+  success : {v : Narrowed} (o : Outcome (Unit {0})) → narrow_after (longer_checks o d.list e (length old)) (with_entry d.list e) ≡ answered v
+      → (o ≡ answered tt) × (plan_of (with_entry d.list e) (length old) ≡ answered v)
   success (answered t) q = (refl, q)
   success (refused k) q = absurd (answered_refused q refl)
 
-  longer_is : with_entry d.list e ≡ day_list l.frame (es ++ (cs ++ (e ∷ [])))
-  longer_is =
+  longer_list : with_entry d.list e ≡ day_list l.frame (es ++ (cs ++ (e ∷ [])))
+  longer_list =
       let z : day_list l.frame ((es ++ cs) ++ (e ∷ [])) ≡ _ = ap (day_list l.frame) (append_assoc es cs (e ∷ [])) in
       rw (so.list, entries_are l.frame (es ++ cs)) z
 
-  committed_stands : a.planned.narrowed.verdict ≡ Accepted → Stands l (cs ++ (e ∷ [])) a.day
-  committed_stands q =
-      let told = success (commit_fault d s) (outcome w Accepted q) in
+  committed_stands : Succeeds a.planned → Stands l (cs ++ (e ∷ [])) a.day
+  committed_stands (p, q) =
+      let told = success (commit_fault d s) (outcome w (Ok p) q) in
       let room : d.list.n < most_entries = commit_passed d s told.0 in
       let count : d.list.n ≡ length es + length cs = ap (λ (k : DayList). k.n) so.list ∙ length-append es cs in
       let more : length (cs ++ (e ∷ [])) ≡ length cs + 1 = length-append cs (e ∷ []) in
-      rw (day_is w Accepted q)
+      rw (day_is w (Ok p) q)
       (record {
-        list = longer_is;
+        list = longer_list;
         stamp = omega (arith, so.stamp, so.few, more);
-        can = planned_can (with_entry d.list e) (length old) (settled w) told.1;
+        can = planned_can (with_entry d.list e) (length old) _ told.1;
         few = omega (arith, room, count, more);
       })
 
-  commit_stands : Stands l (cs ++ entry_if a.planned.narrowed.verdict e) a.day
-  commit_stands = go a.planned.narrowed.verdict refl
+  commit_stands : Stands l (cs ++ entry_if a.planned e) a.day
+  commit_stands = go a.planned refl
     where
-      go : (t : Verdict) → a.planned.narrowed.verdict ≡ t → Stands l (cs ++ entry_if t e) a.day
-      go Accepted q = committed_stands q
-      go (Refused x) q = rw (append-nil cs, day_is w (Refused x) q) so
+      go : (b : Result PlannedDay Refusal) → a.planned ≡ b → Stands l (cs ++ entry_if b e) a.day
+      go (Ok p) q = committed_stands (p, q)
+      go (Err x) q = rw (append-nil cs, day_is w (Err x) q) so
 
   -- the stamp after a success, while stamps are small
-  next_is : a.planned.narrowed.verdict ≡ Accepted → a.day.stamp ≡ d.stamp + 1
+  next_is : Succeeds a.planned → a.day.stamp ≡ d.stamp + 1
   next_is q = sym w.stamp ∙ (commit_law w).counts q (omega (arith, so.stamp, so.few))
 
 -- All events.
@@ -168,7 +164,7 @@ unfolding committed_in
 run_stands {l} {cs} so none = rw (append-nil cs) so
 run_stands so (ask w rest) = run_stands so rest
 run_stands {l} {cs} so (commit {e = e} {a = a} {es = more} w rest) =
-    rw (← (append_assoc cs (entry_if a.planned.narrowed.verdict e) (committed_in more))) (run_stands (commit_stands so w) rest)
+    rw (← (append_assoc cs (entry_if a.planned e) (committed_in more))) (run_stands (commit_stands so w) rest)
 
 without_asks : {d last : StampedDay} {es : List Event} → Happens d es last → Happens d (commits_in es) last
 unfolding commits_in
@@ -197,20 +193,19 @@ same_answer d e old c left a new w q = one_planned (rw (stamp_right d d.stamp re
 
 -- a commit with another stamp
 stale_answer : (d : StampedDay) (e : Entry) (s : ℕ) (old : List ℕ) (a : CommitAnswer) (new : List ℕ) → (s ≡ d.stamp → ⊥)
-    → Commits d e s old a new → verdict_of a.planned.narrowed.verdict ≡ refused (code 17 (d.stamp ∷ []))
-stale_answer d e s old a new other w =
-    go a.planned.narrowed.verdict _ (w.plans.holds.narrowed ∙ rw (stamp_stale d s other) refl)
+    → Commits d e s old a new → outcome_of a.planned ≡ refused (code 17 (d.stamp ∷ []))
+stale_answer d e s old a new other w = go a.planned (w.plans.holds.narrowed ∙ rw (stamp_stale d s other) refl)
   where
     k : Code
     k = code 17 (d.stamp ∷ [])
 
-    go : (t : Verdict) (x : Narrowed) → outcome_of t x ≡ refused k → verdict_of t ≡ refused k
-    go Accepted x q = absurd (answered_refused refl q)
-    go (Refused y) x q = ap refused (refused_same refl q)
+    go : (b : Result PlannedDay Refusal) → narrowed_in (narrowed_by_plan b) ≡ refused k → outcome_of b ≡ refused k
+    go (Ok p) q = absurd (answered_refused refl q)
+    go (Err y) q = ap refused (refused_same refl q)
 
 pub run_law : RunsSo
-run_law l a made e es d happens =
-    let so : Stands l (committed_in es) d = run_stands (fresh_stands l a made e) happens in
+run_law l fresh made es d happens =
+    let so : Stands l (committed_in es) d = run_stands (fresh_stands l fresh made) happens in
     record {
       list = so.list;
       stamp = so.stamp;

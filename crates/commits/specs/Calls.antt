@@ -1,15 +1,16 @@
 -- What the calls on a day answer: "Ask for a late box, then commit it."
-use Rattle.std.specs.Prelude.{ℕ, ◌≡◌, not, List, [], ◌∷◌, length, eqb, leb}
+use Rattle.std.specs.Prelude.{ℕ, ◌≡◌, not, List, [], ◌∷◌, length, eqb, leb, Result, Ok}
 use Rattle.base.specs.Outcomes.{Row, row, Outcome, answered, refused, first_of, and_then}
-use Rattle.list.specs.DayLists.{most_entries, empty_list, SameList}
+use Rattle.list.specs.DayLists.{most_entries, SameList}
 use Rattle.list.specs.Refusals.{outcome_of}
 use Rattle.list.specs.declared.types.Entry.{Entry}
 use Rattle.list.specs.declared.types.DayList.{DayList}
+use Rattle.list.specs.declared.types.Refusal.{Refusal}
 use Rattle.narrow.specs.Rounds.{Narrowed}
 use Rattle.planner.specs.Calls.{plan_checks, narrow_after, planning, PlansAfter}
+use Rattle.planner.specs.declared.types.PlannedDay.{PlannedDay}
 use Rattle.commits.specs.Days.{trimmed, with_entry, next_stamp}
 use Rattle.commits.specs.declared.types.StampedDay.{StampedDay}
-use Rattle.commits.specs.declared.types.StampedAnswer.{StampedAnswer}
 use Rattle.commits.specs.declared.types.AskAnswer.{AskAnswer}
 use Rattle.commits.specs.declared.types.CommitAnswer.{CommitAnswer}
 
@@ -17,23 +18,9 @@ use Rattle.commits.specs.declared.types.CommitAnswer.{CommitAnswer}
 abbrev pub fresh_of : DayList → Outcome StampedDay
 fresh_of l = and_then (planning l) (λ _. answered (record { list = trimmed l; stamp = 0 }))
 
--- what stands beside a refusal
-abbrev pub empty_day : StampedDay
-empty_day = record { list = empty_list; stamp = 0 }
-
--- what stands beside the verdict
-abbrev pub day_or : Outcome StampedDay → StampedDay
-day_or (answered d) = d
-day_or (refused k) = empty_day
-
--- an answer with a day
-abbrev pub stamped_answer_of : StampedAnswer → Outcome StampedDay
-stamped_answer_of a = outcome_of a.verdict a.day
-
 -- what `fresh_day` answers of the list l
-pub record MakesDay (l : DayList) (a : StampedAnswer) : Type 0 where
-  pub outcome : stamped_answer_of a ≡ fresh_of l
-  pub beside : a.day ≡ day_or (fresh_of l)
+abbrev pub MakesDay : DayList → Result StampedDay Refusal → Type 0
+MakesDay l a = outcome_of a ≡ fresh_of l
 
 -- "A stamp that is not the day's is refused as 17 ..., and a day of 64 entries or more as 18 ..; both carry the day's stamp."
 abbrev pub stamp_row : StampedDay → ℕ → Row
@@ -70,6 +57,10 @@ commit_of d e s room = narrow_after (commit_checks d e s room) (with_entry d.lis
 abbrev pub day_after : {A : Type 0} → StampedDay → Entry → Outcome A → StampedDay
 day_after d e (answered a) = record { list = with_entry d.list e; stamp = next_stamp d.stamp }
 day_after d e (refused k) = d
+
+-- an answer with a plan, which is a commit's success
+abbrev pub Succeeds : Result PlannedDay Refusal → Type 0
+Succeeds a = (p : PlannedDay) × (a ≡ Ok p)
 
 -- two days are equal if their lists are by the documents' rule, and their stamps
 pub record SameDay (a b : StampedDay) : Type 0 where

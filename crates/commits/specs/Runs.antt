@@ -1,18 +1,16 @@
 -- "We want one statement over every list of asks and commits from a fresh day."
-use Rattle.std.specs.Prelude.{ℕ, ◌+◌, ◌≤◌, ◌≡◌, true, List, [], ◌∷◌, ◌++◌, length}
+use Rattle.std.specs.Prelude.{ℕ, ◌+◌, ◌≤◌, ◌≡◌, true, List, [], ◌∷◌, ◌++◌, length, Err, Ok, Result}
 use Rattle.base.specs.Outcomes.{code, refused, accepts}
 use Rattle.list.specs.DayLists.{most_entries, entries_of, day_list}
-use Rattle.list.specs.Refusals.{verdict_of}
+use Rattle.list.specs.Refusals.{outcome_of}
 use Rattle.list.specs.Checks.{WellFormed}
 use Rattle.list.specs.declared.types.Entry.{Entry}
 use Rattle.list.specs.declared.types.DayList.{DayList}
-use Rattle.list.specs.declared.types.Verdict.{Verdict}
-use Rattle.list.specs.declared.types.Verdict.TheVariants.{Accepted, Refused}
+use Rattle.list.specs.declared.types.Refusal.{Refusal}
 use Rattle.planner.specs.Calls.{planning}
-use Rattle.planner.specs.declared.types.PlanAnswer.{PlanAnswer}
-use Rattle.commits.specs.Calls.{MakesDay, Asks, Commits}
+use Rattle.planner.specs.declared.types.PlannedDay.{PlannedDay}
+use Rattle.commits.specs.Calls.{MakesDay, Succeeds, Asks, Commits}
 use Rattle.commits.specs.declared.types.StampedDay.{StampedDay}
-use Rattle.commits.specs.declared.types.StampedAnswer.{StampedAnswer}
 use Rattle.commits.specs.declared.types.AskAnswer.{AskAnswer}
 use Rattle.commits.specs.declared.types.CommitAnswer.{CommitAnswer}
 
@@ -36,20 +34,16 @@ abbrev pub HandsOn : StampedDay → Event → StampedDay → Type 0
 HandsOn d (asked e old a new) last = Asks d e old a new × (last ≡ d)
 HandsOn d (committed e s old a new) last = Commits d e s old a new × (last ≡ a.day)
 
--- an answer with a plan, which is a commit's success
-abbrev pub Succeeds : PlanAnswer → Type 0
-Succeeds a = a.narrowed.verdict ≡ Accepted
-
--- the entry, if the verdict is a success
-abbrev pub entry_if : Verdict → Entry → List Entry
-entry_if Accepted e = e ∷ []
-entry_if (Refused x) e = []
+-- the entry, if the answer is a success
+abbrev pub entry_if : Result PlannedDay Refusal → Entry → List Entry
+entry_if (Ok p) e = e ∷ []
+entry_if (Err x) e = []
 
 -- "the entries committed with success, in order"
 unfoldable pub committed_in : List Event → List Entry
 committed_in [] = []
 committed_in (asked e old a new ∷ es) = committed_in es
-committed_in (committed e s old a new ∷ es) = entry_if a.planned.narrowed.verdict e ++ committed_in es
+committed_in (committed e s old a new ∷ es) = entry_if a.planned e ++ committed_in es
 
 -- the events without the asks
 unfoldable pub commits_in : List Event → List Event
@@ -72,7 +66,7 @@ pub record RunLaw (l : DayList) (fresh : StampedDay) (es : List Event) (d : Stam
   -- asks answer "the stamp" and commits "the stamp the day then has": the number of successes so far, a commit's own among them
   pub asked_stamp : (e : Entry) (old : List ℕ) (a : AskAnswer) (new : List ℕ) → Asks d e old a new → a.stamp ≡ length (committed_in es)
   pub committed_stamp : (e : Entry) (s : ℕ) (old : List ℕ) (a : CommitAnswer) (new : List ℕ) → Commits d e s old a new
-      → a.stamp ≡ length (committed_in es ++ entry_if a.planned.narrowed.verdict e)
+      → a.stamp ≡ length (committed_in es ++ entry_if a.planned e)
   -- whatever an ask or a commit answers here, refused or not, the events go on with it; and wherever they are cut in two, the first lead to
   -- a day on which the others happen
   pub goes_on : (x : Event) (last : StampedDay) → HandsOn d x last → Happens fresh (es ++ (x ∷ [])) last
@@ -84,10 +78,10 @@ pub record RunLaw (l : DayList) (fresh : StampedDay) (es : List Event) (d : Stam
   -- and of two commits with the stamp that the day has here, where the first succeeds the second gets 17
   pub one_of_two : (e f : Entry) (old now : List ℕ) (a b : CommitAnswer) (new then : List ℕ)
       → Commits d e d.stamp old a new → Succeeds a.planned → Commits a.day f d.stamp now b then
-      → verdict_of b.planned.narrowed.verdict ≡ refused (code 17 ((d.stamp + 1) ∷ []))
+      → outcome_of b.planned ≡ refused (code 17 ((d.stamp + 1) ∷ []))
 
 -- `run_law` of proofs/RunLaws.antt
 abbrev pub RunsSo : Type 0
 RunsSo =
-    (l : DayList) (a : StampedAnswer) → MakesDay l a → a.verdict ≡ Accepted → (es : List Event) (d : StampedDay) → Happens a.day es d
-    → RunLaw l a.day es d
+    (l : DayList) (fresh : StampedDay) → MakesDay l (Ok fresh) → (es : List Event) (d : StampedDay) → Happens fresh es d
+    → RunLaw l fresh es d
