@@ -9,17 +9,10 @@ use lib.ListN.{length, get_or, take, drop, set, length-set, length-append, lengt
 use lib.Seq.{length-take-le, take_all, take_at, take-suc-set, get_or_at}
 use Rattle.base.specs.Outcomes.{answered}
 use Rattle.list.specs.Machine.{NumbersFit}
-use Rattle.list.specs.Refusals.{verdict_of}
 use Rattle.list.specs.declared.types.DayList.{DayList}
-use Rattle.list.specs.declared.types.Refusal.{Refusal}
-use Rattle.list.specs.declared.types.Verdict.{Verdict}
-use Rattle.list.specs.declared.types.Verdict.TheVariants.{Accepted, Refused}
-use Rattle.list.proofs.Verdicts.{by_accepted, by_refused}
-use Rattle.commits.specs.Calls.{empty_day}
 use Rattle.commits.specs.declared.types.StampedDay.{StampedDay}
-use Rattle.commits.specs.declared.types.StampedAnswer.{StampedAnswer}
 use Rattle.flat.specs.Flat.{flat_numbers, flat_of, value_of}
-use Rattle.flat.specs.DayRows.{day_numbers, day_row, day_of, day_fault, day_in, ReadsDay, StoresDay}
+use Rattle.flat.specs.DayRows.{day_numbers, day_row, day_in, StoresDay}
 use Rattle.flat.proofs.FlatCases.{flat_length}
 use Rattle.flat.proofs.FlatTrip.{value_back}
 
@@ -29,14 +22,6 @@ front_long xs long = length-take-le flat_numbers xs (omega (arith, long))
 
 row_long : (l : DayList) → length l.entries ≡ 64 → length (flat_of l) ≡ flat_numbers
 row_long l long = omega (arith, flat_length l.entries)
-
--- what the test of the length leads to
-module _ (xs : List ℕ) (v : Verdict) (w : verdict_of v ≡ day_fault (length xs)) where
-  pub day_read : (d : StampedDay) → v ≡ Accepted → d ≡ day_of xs → ReadsDay xs (record { verdict = v; day = d })
-  day_read d a q = let z = by_accepted w a in record { outcome = rw (z, a, q); beside = rw (z, q) }
-
-  pub day_refused : (x : Refusal) → v ≡ Refused x → (a : StampedAnswer) → a ≡ record { verdict = v; day = empty_day } → ReadsDay xs a
-  day_refused x e a q = let z = by_refused w e in record { outcome = rw (z, q, e); beside = rw (z, q) }
 
 -- the list's numbers, then the stamp
 pub day_stored : (d : StampedDay) (old front : List ℕ) → length d.list.entries ≡ 64 → length old ≡ day_numbers → front ≡ flat_of d.list

@@ -10,21 +10,27 @@ use lib.Seq.{take-suc-set, take_all, drop-cons, sets, sets-eq, length-sets}
 use mathlib.Core.Bool.{not}
 use lib.Dec.{eqb}
 use Rattle.list.specs.declared.types.Kind.{Kind}
-use Rattle.list.specs.declared.types.Seal.{Seal}
+use mir.Val.{bool_byte}
+use Rattle.std.specs.Prelude.{Option, None, Some, is_some}
 use Rattle.format.specs.EntryFields.{seal_of}
 use Rattle.format.specs.Maps.{kind_of}
 use Rattle.list.specs.declared.types.Entry.{Entry}
 use Rattle.list.specs.declared.types.DayList.{DayList}
 use Rattle.base.proofs.Stores.{sets_append}
-use Rattle.flat.specs.Flat.{flat_entry, flat_entries, flat_of, entry_in, entries_in}
+use Rattle.flat.specs.Flat.{present, flat_entry, flat_entries, flat_of, entry_in, entries_in}
 
 -- `entry_in`, field by field
-pub entry_in_is : (xs : List ℕ) (at : ℕ) {seal : Seal} {r d p : ℕ} {kind : Kind}
+pub entry_in_is : (xs : List ℕ) (at : ℕ) {seal : Option ℕ} {r d p : ℕ} {kind : Kind}
     → seal ≡ seal_of (not (eqb (get_or xs (at + 1) 0) 0)) (get_or xs (at + 2) 0)
     → r ≡ min (get_or xs (at + 3) 0) 65535 → d ≡ min (get_or xs (at + 4) 0) 65535 → p ≡ min (get_or xs (at + 5) 0) 65535
     → kind ≡ kind_of (not (eqb (get_or xs (at + 6) 0) 0))
     → record { serial = get_or xs at 0; seal = seal; r = r; d = d; p = p; kind = kind } ≡ entry_in xs at
 entry_in_is xs at s r d p k = rw (s, r, d, p, k)
+
+-- whether a seal is a number, as a number
+pub present_is : (s : Option ℕ) → bool_byte (is_some s) ≡ present s
+present_is None = refl
+present_is (Some x) = refl
 
 -- i entries were read from the numbers
 pub record ReadInSoFar (xs : List ℕ) (entries : List Entry) (i : ℕ) : Type 0 where

@@ -13,8 +13,7 @@ use lib.Seq.{drop-drop, get_or-drop}
 use Rattle.base.specs.Outcomes.{answered}
 use Rattle.list.specs.DayLists.{blank}
 use Rattle.list.specs.Machine.{MinutesFit, NumbersFit}
-use Rattle.list.specs.declared.types.Seal.{Seal}
-use Rattle.list.specs.declared.types.Seal.TheVariants.{Missing, Number}
+use Rattle.std.specs.Prelude.{None, Option, Some}
 use Rattle.list.specs.declared.types.Kind.{Kind}
 use Rattle.list.specs.declared.types.Kind.TheVariants.{Pause, Whole}
 use Rattle.list.specs.declared.types.Entry.{Entry}
@@ -25,9 +24,9 @@ use Rattle.flat.specs.Flat.{present, number_of, whole_of, flat_entry, flat_entri
 use Rattle.flat.specs.Flat.{flat_numbers, list_in}
 use Rattle.flat.proofs.FlatCases.{flat_length}
 
-seal_back : (s : Seal) → seal_of (not (eqb (present s) 0)) (number_of s) ≡ s
-seal_back Missing = refl
-seal_back (Number x) = refl
+seal_back : (s : Option ℕ) → seal_of (not (eqb (present s) 0)) (number_of s) ≡ s
+seal_back None = refl
+seal_back (Some x) = refl
 
 kind_back : (k : Kind) → kind_of (not (eqb (whole_of k) 0)) ≡ k
 kind_back Pause = refl

@@ -1,10 +1,8 @@
 -- A stamped day as a row of numbers.
 use Rattle.std.specs.Prelude.{ℕ, min, ◌≡◌, cond, List, [], ◌∷◌, ◌++◌, length, get_or, take, eqb}
-use Rattle.base.specs.Outcomes.{Outcome, answered, first_of, and_then}
-use Rattle.commits.specs.Calls.{day_or, stamped_answer_of}
+use Rattle.base.specs.Outcomes.{Outcome, answered, and_then}
 use Rattle.commits.specs.declared.types.StampedDay.{StampedDay}
-use Rattle.commits.specs.declared.types.StampedAnswer.{StampedAnswer}
-use Rattle.flat.specs.Flat.{flat_numbers, flat_of, value_of, length_row}
+use Rattle.flat.specs.Flat.{flat_numbers, flat_of, value_of, length_fault}
 
 -- how many numbers say a stamped day: those of its list, then its stamp
 abbrev pub day_numbers : ℕ
@@ -19,16 +17,11 @@ day_of xs = record { list = value_of (take flat_numbers xs); stamp = min (get_or
 
 -- row 100 for a day's row
 abbrev pub day_fault : ℕ → Outcome (Unit {0})
-day_fault numbers = first_of (length_row day_numbers numbers ∷ []) (answered tt)
+day_fault = length_fault day_numbers
 
 -- the day that a row says
 abbrev pub day_in : List ℕ → Outcome StampedDay
 day_in xs = and_then (day_fault (length xs)) (λ _. answered (day_of xs))
-
--- what `day_in` answers of a row
-pub record ReadsDay (xs : List ℕ) (a : StampedAnswer) : Type 0 where
-  pub outcome : stamped_answer_of a ≡ day_in xs
-  pub beside : a.day ≡ day_or (day_in xs)
 
 -- what a row that held old holds after a day was stored in it; one of another length keeps its numbers
 abbrev pub day_row_after : StampedDay → List ℕ → List ℕ

@@ -1,18 +1,15 @@
 -- A list value as a row of numbers.
 use Rattle.std.specs.Prelude.{ℕ, zero, suc, ◌+◌, ◌*◌, min, ◌≡◌, not, cond, List, [], ◌∷◌, ◌++◌, length, get_or, eqb}
+use Rattle.std.specs.Prelude.{Option, None, Some}
+use Rattle.std.specs.Option.{unwrap_or}
 use Rattle.base.specs.Outcomes.{Outcome, answered, Row, row, first_of, and_then}
 use Rattle.format.specs.Maps.{kind_of}
 use Rattle.format.specs.EntryFields.{seal_of}
-use Rattle.format.specs.Reading.{list_or}
-use Rattle.list.specs.Refusals.{read_answer_of}
 use Rattle.list.specs.DayLists.{most_entries}
-use Rattle.list.specs.declared.types.Seal.{Seal}
-use Rattle.list.specs.declared.types.Seal.TheVariants.{Missing, Number}
 use Rattle.list.specs.declared.types.Kind.{Kind}
 use Rattle.list.specs.declared.types.Kind.TheVariants.{Pause, Whole}
 use Rattle.list.specs.declared.types.Entry.{Entry}
 use Rattle.list.specs.declared.types.DayList.{DayList}
-use Rattle.list.specs.declared.types.ReadAnswer.{ReadAnswer}
 
 -- how many numbers say a list value: H, n, the opening minute, and seven for each place; and how many its bounds, two for each place
 abbrev pub flat_numbers : ℕ
@@ -26,13 +23,12 @@ abbrev pub entry_numbers : ℕ
 entry_numbers = 7
 
 -- whether a seal is a number, and that number (0 where it is missing)
-abbrev pub present : Seal → ℕ
-present Missing = 0
-present (Number x) = 1
+abbrev pub present : Option ℕ → ℕ
+present None = 0
+present (Some x) = 1
 
-abbrev pub number_of : Seal → ℕ
-number_of Missing = 0
-number_of (Number x) = x
+abbrev pub number_of : Option ℕ → ℕ
+number_of s = unwrap_or s 0
 
 -- whether an entry is whole
 abbrev pub whole_of : Kind → ℕ
@@ -83,9 +79,12 @@ value_of xs =
 abbrev pub length_row : ℕ → ℕ → Row
 length_row asked numbers = row 100 (not (eqb numbers asked)) asked
 
+abbrev pub length_fault : ℕ → ℕ → Outcome (Unit {0})
+length_fault asked numbers = first_of (length_row asked numbers ∷ []) (answered tt)
+
 -- a row of another length is no list value
 abbrev pub flat_fault : ℕ → Outcome (Unit {0})
-flat_fault numbers = first_of (length_row flat_numbers numbers ∷ []) (answered tt)
+flat_fault = length_fault flat_numbers
 
 -- the list value that a row says
 abbrev pub list_in : List ℕ → Outcome DayList
@@ -94,11 +93,6 @@ list_in xs = and_then (flat_fault (length xs)) (λ _. answered (value_of xs))
 -- likewise where a row of the length given is lent beside it: row 100 for xs, then for the lent one
 abbrev pub flat_beside : List ℕ → ℕ → Outcome DayList
 flat_beside xs lent = and_then (list_in xs) (λ l. and_then (flat_fault lent) (λ _. answered l))
-
--- what `list_in` answers of a row
-pub record ReadsFlat (xs : List ℕ) (a : ReadAnswer) : Type 0 where
-  pub outcome : read_answer_of a ≡ list_in xs
-  pub beside : a.list ≡ list_or (list_in xs)
 
 -- what a row that held old holds after a list value was stored in it; one of another length keeps its numbers
 abbrev pub flat_after : DayList → List ℕ → List ℕ

@@ -1,31 +1,19 @@
 // A stamped day as a row of 452 numbers, and one entry as seven.
 ghost use Rattle.std.specs.Prelude.{◌≡◌, length};
-ghost use Rattle.list.specs.Refusals.{verdict_of};
+ghost use Rattle.list.specs.Refusals.{outcome_of};
 ghost use Rattle.flat.specs.Flat.{entry_in};
-ghost use Rattle.flat.specs.DayRows.{day_numbers, day_row, day_of, day_fault, ReadsDay, StoresDay};
+ghost use Rattle.flat.specs.DayRows.{day_numbers, day_row, day_of, day_in, StoresDay};
 
-use crate::value::{entry_in, put_numbers, u16_of, value_in};
+use crate::value::{entry_in, length_fault, put_numbers, u16_of, value_in};
 use crate::{DAY_NUMBERS, ENTRY_NUMBERS, NUMBERS};
-use commits::no_day;
-use commits::types::{StampedAnswer, StampedDay};
-use list::types::{Entry, Refusal, Verdict};
+use commits::types::StampedDay;
+use list::types::{Entry, Refusal};
 
 // The entry that seven numbers say, whatever they are.
 pub fn entry_of(numbers: &[u32; ENTRY_NUMBERS]) -> Entry
     ensures { result ≡ entry_in numbers.now 0 }
 {
     entry_in(numbers, 0)
-}
-
-// Row 100 for a day's row of this length.
-pub fn day_fault(numbers: usize) -> Verdict
-    ensures { verdict_of result ≡ day_fault numbers }
-{
-    if numbers == DAY_NUMBERS {
-        Verdict::Accepted
-    } else {
-        Verdict::Refused(Refusal::BadFlatLength(DAY_NUMBERS))
-    }
 }
 
 // The day that the numbers say, whatever they are.
@@ -40,17 +28,11 @@ fn day_value(row: &[u32]) -> StampedDay
 }
 
 // The day that a row says, or row 100.
-pub fn day_in(row: &[u32]) -> StampedAnswer
-    ensures { ReadsDay row.now result }
+pub fn day_in(row: &[u32]) -> Result<StampedDay, Refusal>
+    ensures { outcome_of result ≡ day_in row.now }
 {
-    let fault = day_fault(row.len());
-    let Verdict::Accepted = fault else {
-        return no_day(fault);
-    };
-    StampedAnswer {
-        verdict: fault,
-        day: day_value(row),
-    }
+    length_fault(DAY_NUMBERS, row.len())?;
+    Ok(day_value(row))
 }
 
 // Stores the numbers that say a day.

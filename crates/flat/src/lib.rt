@@ -1,7 +1,7 @@
 // A list value and a stamped day as rows of numbers, and numbers by place, as they cross to other languages.
-// Promises: `list_in` is the list value that a row says, whatever its numbers are, or 100 for a row of another length, which `flat_fault`
-// tests alone, and `list_beside` also of a row that is lent beside it; `put_flat` stores the numbers that say a list value, and nothing in
-// a row of another length; `day_in`, `day_fault` and `put_day` do the same for a day, and `entry_of` is the entry that seven numbers say;
+// Promises: `list_in` is the list value that a row says, whatever its numbers are, or 100 for a row of another length, which
+// `length_fault` tests alone, and `list_beside` also of a row that is lent beside it; `put_flat` stores the numbers that say a list value,
+// and nothing in a row of another length; `day_in` and `put_day` do the same for a day, and `entry_of` is the entry that seven numbers say;
 // `place_numbers` are the minutes of the 64 places, `joined` is least ends and greatest starts one after the other. Each is total: its
 // contract states the answer by equality with definitions of specs/. Uses the types and the empty list of the crate list, the stamped day
 // of commits, three definitions of format, and laws of stores of base.
@@ -11,9 +11,9 @@ mod day;
 mod places;
 mod value;
 
-pub use day::{day_fault, day_in, entry_of, put_day};
+pub use day::{day_in, entry_of, put_day};
 pub use places::{joined, place_numbers};
-pub use value::{flat_fault, list_beside, list_in, put_flat};
+pub use value::{length_fault, list_beside, list_in, put_flat};
 
 // The numbers of a list value: H, n, the opening minute, and seven for each place.
 pub const NUMBERS: usize = 451;

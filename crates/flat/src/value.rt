@@ -3,13 +3,13 @@ ghost use Rattle.std.specs.Prelude.{◌≡◌, not, ◌+◌, ◌≤◌, min, len
 ghost use Rattle.std.proofs.lemmas.List.Edits.{sets};
 ghost use Rattle.format.specs.Maps.{kind_of};
 ghost use Rattle.format.specs.EntryFields.{seal_of};
-ghost use Rattle.list.specs.Refusals.{verdict_of, read_answer_of};
-ghost use Rattle.flat.specs.Flat.{present, number_of, whole_of, flat_entry, flat_of, entry_in, value_of, flat_numbers};
-ghost use Rattle.flat.specs.Flat.{flat_fault, flat_beside, ReadsFlat, StoresFlat};
+ghost use Rattle.list.specs.Refusals.{outcome_of};
+ghost use Rattle.flat.specs.Flat.{whole_of, flat_entry, flat_of, entry_in, value_of, flat_numbers};
+ghost use Rattle.flat.specs.Flat.{length_fault, list_in, flat_beside, StoresFlat};
 
 use crate::NUMBERS;
-use list::types::{DayList, Entry, Frame, Kind, ReadAnswer, Refusal, Seal, Verdict};
-use list::{empty_list, read_refused};
+use list::empty_list;
+use list::types::{DayList, Entry, Frame, Kind, Refusal};
 
 // The largest u16 for a number that is too large, and likewise below.
 pub(crate) fn u16_of(x: u32) -> u16
@@ -25,14 +25,10 @@ fn u8_of(x: u32) -> u8
 }
 
 // The seal that a flag and a number say, and likewise the kind and the entry below. Any flag but 0 stands.
-fn seal_in(flag: u32, number: u32) -> Seal
+fn seal_in(flag: u32, number: u32) -> Option<u32>
     ensures { result ≡ seal_of (not (eqb flag 0)) number }
 {
-    if flag == 0 {
-        Seal::Missing
-    } else {
-        Seal::Number(number)
-    }
+    (flag != 0).then_some(number)
 }
 
 fn kind_in(flag: u32) -> Kind
@@ -74,50 +70,26 @@ pub(crate) fn value_in(fields: &[u32]) -> DayList
     }
 }
 
-// Row 100 for a row of this length.
-pub fn flat_fault(numbers: usize) -> Verdict
-    ensures { verdict_of result ≡ flat_fault numbers }
+// Row 100 for a row that has another length than the one asked for.
+pub fn length_fault(asked: usize, numbers: usize) -> Result<(), Refusal>
+    ensures { outcome_of result ≡ length_fault asked numbers }
 {
-    if numbers == NUMBERS {
-        Verdict::Accepted
+    if numbers == asked {
+        Ok(())
     } else {
-        Verdict::Refused(Refusal::BadFlatLength(NUMBERS))
+        Err(Refusal::BadFlatLength(asked))
     }
 }
 
 // The list value that a row says, or row 100.
-pub fn list_in(fields: &[u32]) -> ReadAnswer
-    ensures { ReadsFlat fields.now result }
+pub fn list_in(fields: &[u32]) -> Result<DayList, Refusal>
+    ensures { outcome_of result ≡ list_in fields.now }
 {
-    let fault = flat_fault(fields.len());
-    match fault {
-        Verdict::Accepted => ReadAnswer {
-            verdict: Verdict::Accepted,
-            list: value_in(fields),
-        },
-        Verdict::Refused(x) => read_refused(x),
-    }
+    length_fault(NUMBERS, fields.len())?;
+    Ok(value_in(fields))
 }
 
-// The numbers that say a seal and a kind.
-fn seal_flag(seal: Seal) -> u32
-    ensures { result ≡ present seal }
-{
-    match seal {
-        Seal::Missing => 0,
-        Seal::Number(_) => 1,
-    }
-}
-
-fn seal_number(seal: Seal) -> u32
-    ensures { result ≡ number_of seal }
-{
-    match seal {
-        Seal::Missing => 0,
-        Seal::Number(x) => x,
-    }
-}
-
+// Whether an entry is whole, as a number.
 fn whole_flag(kind: Kind) -> u32
     ensures { result ≡ whole_of kind }
 {
@@ -130,8 +102,8 @@ fn put_entry_numbers(e: Entry, fields: &mut [u32], at: usize)
 {
     fields[at..at + 7].copy_from_slice(&[
         e.serial,
-        seal_flag(e.seal),
-        seal_number(e.seal),
+        u32::from(e.seal.is_some()),
+        e.seal.unwrap_or(0),
         u32::from(e.r),
         u32::from(e.d),
         u32::from(e.p),
@@ -162,17 +134,10 @@ pub fn put_flat(list: DayList, fields: &mut [u32])
 }
 
 // The list value that `fields` says, where a row of the length `lent` is lent beside it; row 100 for either.
-pub fn list_beside(fields: &[u32], lent: usize) -> ReadAnswer
-    ensures { read_answer_of result ≡ flat_beside fields.now lent }
+pub fn list_beside(fields: &[u32], lent: usize) -> Result<DayList, Refusal>
+    ensures { outcome_of result ≡ flat_beside fields.now lent }
 {
-    let given = list_in(fields);
-    let verdict = given.verdict;
-    let Verdict::Accepted = verdict else {
-        return given;
-    };
-    let fault = flat_fault(lent);
-    match fault {
-        Verdict::Accepted => given,
-        Verdict::Refused(x) => read_refused(x),
-    }
+    let list = list_in(fields)?;
+    length_fault(NUMBERS, lent)?;
+    Ok(list)
 }
