@@ -1,0 +1,25 @@
+-- The places at the first positions of an order, as an array and a slice of it hold them.
+-- Assumes nothing.
+use mathlib.Core.Path.{◌≡◌}
+use mathlib.Core.List.{List}
+use Prim.Native.Nat.{ℕ, ◌<◌, ◌≤◌}
+use native.Mathlib.Omega.{arith}
+use lib.ListN.{length, get_or, take, length-take}
+use lib.Seq.{get_or-take}
+use Rattle.base.specs.Counting.{EachOnce}
+use Rattle.base.proofs.Permutations.{once_in}
+use Rattle.order.specs.Orders.{value_at}
+use Rattle.edges.specs.Internal.{ListsPlaces}
+
+module _ (n : ℕ) (order : List ℕ) where
+  -- an order that has each place once lists places alone
+  pub lists_places : n ≤ 64 → EachOnce n (value_at order) → ListsPlaces n order
+  lists_places few once x below = omega (arith, once_in n (value_at order) once x below)
+
+  -- what a slice of its first n places has
+  module _ (x : ℕ) (inside : x < length (take n order)) where
+    pub front_below : x < n
+    front_below = let below = simp length-take at inside in omega arith
+
+    pub front_at : get_or (take n order) x 0 ≡ value_at order x
+    front_at = get_or-take n order x 0 front_below
