@@ -1,6 +1,6 @@
 -- The loop's invariant is what the first x positions stored, along an order of places.
 -- Assumes nothing.
-use Rattle.edges.proofs.OrderFronts.{lists_places, front_below, front_at}
+use Rattle.edges.proofs.Fronts.{lists_places, front_below, front_at}
 use Rattle.edges.proofs.EndCases.{places_none, places_next}
 use Rattle.edges.proofs.ends.at_places.Goals as goal
 

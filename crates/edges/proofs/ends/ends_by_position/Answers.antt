@@ -1,7 +1,7 @@
 -- The loop's invariant is the ends that the right ends met so far ask.
 -- Assumes nothing.
 use native.Mathlib.Omega.{arith}
-use Rattle.edges.proofs.OrderFronts.{lists_places, front_at}
+use Rattle.edges.proofs.Fronts.{lists_places, front_at}
 use Rattle.edges.proofs.EndCases.{ends_first, ends_next}
 use Rattle.edges.proofs.ends.ends_by_position.Goals as goal
 

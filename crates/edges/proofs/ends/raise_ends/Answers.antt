@@ -5,7 +5,7 @@ use native.Mathlib.Omega.{arith}
 use mathlib.Core.Path.{◌≡◌}
 use Prim.Native.Nat.{◌+◌, ◌-◌, ◌≤◌, max}
 use lib.ListN.{get_or}
-use Rattle.edges.proofs.OrderFronts.{lists_places}
+use Rattle.edges.proofs.Fronts.{lists_places}
 use Rattle.edges.proofs.EndCases.{raising_start, raising_less, raising_next}
 use Rattle.edges.proofs.ends.raise_ends.Goals as goal
 

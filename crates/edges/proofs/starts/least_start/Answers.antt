@@ -4,7 +4,7 @@ use borrow.Author.Rules.{rules}
 use mathlib.Core.Path.{◌≡◌, sym, ◌∙◌}
 use native.Mathlib.Omega.{arith}
 use lib.ListN.{length}
-use Rattle.edges.proofs.OrderFronts.{lists_places}
+use Rattle.edges.proofs.Fronts.{lists_places}
 use Rattle.edges.proofs.StartCases.{search_none, search_found, search_less, search_next, none_found, start_found}
 use Rattle.edges.proofs.starts.least_start.Goals as goal
 

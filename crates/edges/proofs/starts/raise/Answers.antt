@@ -1,6 +1,6 @@
 -- The loop's invariant is the walk so far.
 -- Assumes nothing.
-use Rattle.edges.proofs.OrderFronts.{front_at}
+use Rattle.edges.proofs.Fronts.{front_at}
 use Rattle.edges.proofs.StartCases.{raising_none, raising_out, raising_in}
 use Rattle.edges.proofs.starts.raise.Goals as goal
 use Rattle.edges.proofs.starts.raise.Goals.{then-windows-i, else-windows-i}
