@@ -6,7 +6,7 @@ use mathlib.Core.List.{List}
 use Prim.Native.Nat.{ℕ, suc, ◌+◌, ◌-◌, ◌*◌, ◌<◌, ◌≤◌, max}
 use native.Mathlib.Numerals.{add-one}
 use native.Mathlib.Omega.{arith}
-use borrow.Author.Tests.{le-leb, lt-leb, lt-ltb, le-ltb}
+use borrow.Author.Tests.{lt-ltb, le-ltb}
 use lib.Dec.{leb, ltb}
 use lib.ListN.{length, set, replicate, length-set, length-replicate, get_or-replicate}
 use Rattle.base.specs.Counting.{sum, EachOnce}
@@ -14,47 +14,23 @@ use Rattle.base.proofs.Sums.{le_or_lt, same_cases}
 use Rattle.base.proofs.Permutations.{once_in, once_has, once_one, once_sum}
 use Rattle.base.proofs.Listed.{list_is}
 use Rattle.list.specs.DayLists.{by_place}
-use Rattle.order.specs.Orders.{value_at, HoldsOrder}
-use Rattle.windows.specs.Windows.{Windows, columns}
-use Rattle.windows.specs.Intervals.{work}
+use Rattle.order.specs.Orders.{value_at}
+use Rattle.windows.specs.Windows.{Windows}
 use Rattle.windows.specs.RunningSums.{LatestReleaseFirst, entered}
 use Rattle.windows.proofs.Puts.{put_cases}
 use Rattle.windows.proofs.ArrayCases.{set_put}
-use Rattle.windows.specs.Windows.{held_in}
 use Rattle.edges.specs.Ends.{largest, closed_end}
-use Rattle.edges.specs.Internal.{MinutesBy, DueBy, LaterEnd, work_end, latest_end, asked_after, asked_at}
+use Rattle.edges.specs.Internal.{MinutesBy, DueBy, work_end, latest_end, asked_after, asked_at}
 use Rattle.edges.specs.Internal.{EndsBy, Raises, FirstEnds, AtPlaces}
 use Rattle.edges.proofs.EndWalks.{ends_closed}
 
--- one entry's minutes
-module _ (b d p : ℕ) where
-  pub adds_none : b < d → MinutesBy b d p 0
-  adds_none h = record { is = rw (lt-leb d b h) refl; small = omega arith }
-
-  pub adds_all : d ≤ b → p ≤ 65535 → MinutesBy b d p p
-  adds_all h small = record { is = rw (le-leb d b h) refl; small = small }
-
--- an end raised, or not
-module _ (end latest b d p : ℕ) where
-  pub raised_due : d ≤ b → end ≡ max end (asked_after b latest d p)
-  raised_due h = rw (le-ltb b d h) (omega arith)
-
-  pub raised_early : b < d → latest + p ≤ b → end ≡ max end (asked_after b latest d p)
-  raised_early h l = rw (lt-ltb b d h, le-ltb b (latest + p) l) (omega arith)
-
-  pub raised_less : b < d → b < latest + p → latest + p ≤ end → end ≡ max end (asked_after b latest d p)
-  raised_less h l less = rw (lt-ltb b d h, lt-ltb b (latest + p) l) (omega arith)
-
-  pub raised_more : b < d → b < latest + p → end < latest + p → latest + p ≡ max end (asked_after b latest d p)
-  raised_more h l more = rw (lt-ltb b d h, lt-ltb b (latest + p) l) (omega arith)
-
 -- the sum of the first i entries
-module _ (d p : List ℕ) (b : ℕ) where
-  pub due_start : DueBy 0 d p b 0
+module _ (w : Windows) (b : ℕ) where
+  pub due_start : DueBy w 0 b 0
   unfolding sum
   due_start = record { is = refl; small = omega arith }
 
-  pub due_next : (kept i x : ℕ) → DueBy i d p b kept → MinutesBy b (value_at d i) (value_at p i) x → DueBy (i + 1) d p b (kept + x)
+  pub due_next : (kept i x : ℕ) → DueBy w i b kept → MinutesBy b (w.d i) (w.p i) x → DueBy w (i + 1) b (kept + x)
   unfolding sum
   due_next kept i x so adds =
       record { is = rw add-one (omega (arith, so.is, adds.is)); small = omega (arith, so.small, adds.small) }
@@ -63,23 +39,6 @@ module _ (d p : List ℕ) (b : ℕ) where
 stored : (xs : List ℕ) (i v : ℕ) → i < length xs → (P : ℕ → Type 0) (k : ℕ) → (k ≡ i → P v) → ((k ≡ i → ⊥) → P (value_at xs k))
     → P (value_at (set xs i v) k)
 stored xs i v fits P k here there = rw (set_put xs i v fits k) (put_cases i v (value_at xs) P k here there)
-
--- r + p of the first m positions
-module _ (r p : List ℕ) (o : ℕ → ℕ) where
-  pub first_none : FirstEnds r p o 0 (replicate 64 0)
-  first_none = record { long = length-replicate {A = ℕ} 64 0; each = λ x l. absurd (omega arith) }
-
-  pub first_next : (m : ℕ) (xs : List ℕ) (v : ℕ) → m < 64 → FirstEnds r p o m xs → v ≡ value_at r (o m) + value_at p (o m)
-      → FirstEnds r p o (m + 1) (set xs m v)
-  first_next m xs v few so e =
-      record {
-        long = length-set xs m v ∙ so.long;
-        each =
-            λ x l.
-            stored xs m v (omega (arith, so.long)) (λ z. z ≡ value_at r (o x) + value_at p (o x)) x
-            (λ q. rw q e)
-            (λ ne. so.each x (omega (arith, l, ne)));
-      }
 
 -- the numbers of the first m positions at their places
 module _ (n : ℕ) (o : ℕ → ℕ) (xs : List ℕ) where
@@ -107,9 +66,6 @@ module _ (n : ℕ) (o : ℕ → ℕ) (xs : List ℕ) where
 
 -- One right end b: the walk has come down to position x.
 pub record Raising (w : Windows) (o : ℕ → ℕ) (b : ℕ) (old new : List ℕ) (kept latest x : ℕ) : Type 0 where
-  pub few : w.n ≤ 64
-  pub once : EachOnce w.n o
-  pub within : x ≤ w.n
   pub long : length new ≡ 64
   pub kept_is : kept ≡ entered w o b w.p x
   pub kept_small : kept ≤ 65535 * 64
@@ -136,16 +92,13 @@ module _ (w : Windows) (o : ℕ → ℕ) (b : ℕ) where
   entered_next x = refl
 
   -- before the first step
-  pub raising_start : (old : List ℕ) (kept : ℕ) → w.n ≤ 64 → EachOnce w.n o → length old ≡ 64
-      → kept ≡ sum w.n (λ i. cond (leb (w.d i) b) (w.p i) 0) → kept ≤ 65535 * w.n → Raising w o b old old kept 0 w.n
-  raising_start old kept few once long is small =
+  pub raising_start : (old : List ℕ) (kept : ℕ) → w.n ≤ 64 → EachOnce w.n o → length old ≡ 64 → DueBy w w.n b kept
+      → Raising w o b old old kept 0 w.n
+  raising_start old kept few once long due =
       record {
-        few = few;
-        once = once;
-        within = omega arith;
         long = long;
-        kept_is = is ∙ sym (once_sum w.n o once (λ i. cond (leb (w.d i) b) (w.p i) 0));
-        kept_small = omega arith;
+        kept_is = due.is ∙ sym (once_sum w.n o once (λ i. cond (leb (w.d i) b) (w.p i) 0));
+        kept_small = omega (arith, due.small);
         latest_is = sym latest_none;
         latest_small = omega arith;
         passed = λ y l u. absurd (omega arith);
@@ -153,12 +106,8 @@ module _ (w : Windows) (o : ℕ → ℕ) (b : ℕ) where
       }
 
   module _ (old new : List ℕ) (kept latest x : ℕ) (so : Raising w o b old new kept latest x) where
-    -- the position is one of the order
-    pub raising_place : 0 < x → o (x - 1) < w.n
-    raising_place some = once_in w.n o so.once (x - 1) (omega (arith, so.within))
-
     -- a step down
-    module _ (some : 0 < x) (m : ℕ) (adds : MinutesBy b (w.d (o (x - 1))) (w.p (o (x - 1))) m) where
+    module _ (within : x ≤ w.n) (few : w.n ≤ 64) (some : 0 < x) (m : ℕ) (adds : MinutesBy b (w.d (o (x - 1))) (w.p (o (x - 1))) m) where
       abbrev u : ℕ
       u = x - 1
 
@@ -171,28 +120,25 @@ module _ (w : Windows) (o : ℕ → ℕ) (b : ℕ) where
       pub raising_less : m ≤ kept
       raising_less = omega (arith, kept_before, entered_next u, adds.is)
 
-      pub raising_next : (later v : ℕ) → LaterEnd latest (w.r (o u)) kept later
+      pub raising_next : (later v : ℕ) → later ≡ max latest (w.r (o u) + kept) → w.r (o u) ≤ 65535
           → v ≡ max (value_at new u) (asked_after b later (w.d (o u)) (w.p (o u))) → Raising w o b old (set new u v) (kept - m) later u
-      raising_next later v ends e =
-          let fits : u < length new = omega (arith, so.long, so.within, so.few) in
+      raising_next later v ends small e =
+          let fits : u < length new = omega (arith, so.long) in
           let at : later ≡ latest_end w o b u =
           omega (
             arith,
-            ends.is,
+            ends,
             so.latest_is,
             ap (latest_end w o b) next,
             kept_before,
-            latest_next u (omega (arith, so.within)),
+            latest_next u (omega arith),
           ) in
           record {
-            few = so.few;
-            once = so.once;
-            within = omega (arith, so.within);
             long = length-set new u v ∙ so.long;
             kept_is = omega (arith, kept_before, entered_next u, adds.is);
             kept_small = omega (arith, so.kept_small);
             latest_is = at;
-            latest_small = ends.small;
+            latest_small = omega (arith, ends, small, so.latest_small, so.kept_small);
             passed =
                 λ y l below.
                 stored new u v fits (λ z. z ≡ max (value_at old y) (asked_at w o b y)) y
@@ -205,9 +151,6 @@ module _ (w : Windows) (o : ℕ → ℕ) (b : ℕ) where
                 λ y l.
                 stored new u v fits (λ z. z ≡ value_at old y) y (λ q. absurd (omega (arith, q, l))) (λ _. so.rest y (omega (arith, l)));
           }
-
-    pub raising_done : x ≤ 0 → Raises w o b old new
-    raising_done end = record { long = so.long; each = λ y l. so.passed y (omega arith) l }
 
 -- The right ends of the first j places.
 module _ (w : Windows) (o : ℕ → ℕ) where
@@ -233,22 +176,7 @@ module _ (w : Windows) (o : ℕ → ℕ) where
       ∙ (at.each z.0 z.1
       ∙ (so.each z.0 z.1 ∙ (ends_closed w o order z.0 z.1 ∙ ap (closed_end w) z.2))))))))
 
--- where so many places are held, the order has each once
-pub held_once : (n count : ℕ) → count ≡ n → (f : ℕ → ℕ) (order : List ℕ) → HoldsOrder n f order → EachOnce count (value_at order)
-held_once n count held f order so = rw held so.order.once
-
--- arrays: the first ends, and that least ends ask for no H
-module _ (n : ℕ) (r d p : List ℕ) where
-  pub ends_first : (o : ℕ → ℕ) (xs : List ℕ) → FirstEnds r p o n xs → EndsBy (held_in n r d p) o 0 xs
-  unfolding largest
-  ends_first o xs first = record { long = first.long; each = first.each }
-
-  any_day : (h : ℕ) → by_place n (closed_end (held_in n r d p)) ≡ by_place n (closed_end (columns h n r d p))
-  unfolding closed_end work
-  any_day h = refl
-
-  pub ends_held : (count : ℕ) → count ≡ n → (order : List ℕ) → HoldsOrder n (value_at r) order → (h : ℕ) (xs ys : List ℕ)
-      → EndsBy (held_in count r d p) (value_at order) count xs → AtPlaces count (value_at order) xs count ys
-      → ys ≡ by_place n (closed_end (columns h n r d p))
-  ends_held count held order so h xs ys ends at =
-      ends_all (held_in n r d p) (value_at order) xs ys so.order (rw held at ends) (rw held at at) ∙ any_day h
+-- no right ends: the first ends
+pub ends_first : (w : Windows) (o : ℕ → ℕ) (xs : List ℕ) → FirstEnds w o w.n xs → EndsBy w o 0 xs
+unfolding largest
+ends_first w o xs first = record { long = first.long; each = first.each }

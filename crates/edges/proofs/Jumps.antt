@@ -21,12 +21,6 @@ use Rattle.edges.specs.Starts.{jumped, raised, considers, passed}
 
 -- One left end.
 module _ (b p a work s : ℕ) where
-  pub jump_behind : a + work ≤ s → s ≡ jumped b p a work s
-  jump_behind h = rw (le-ltb s (a + work) h)
-
-  pub jump_fits : s < a + work → min a s + work + p ≤ b → s ≡ jumped b p a work s
-  jump_fits h g = rw (lt-ltb s (a + work) h, le-ltb b (min a s + work + p) g)
-
   pub jump_goes : s < a + work → b < min a s + work + p → a + work ≡ jumped b p a work s
   jump_goes h g = rw (lt-ltb s (a + work) h, lt-ltb b (min a s + work + p) g)
 

@@ -9,6 +9,7 @@ pub mod EndLaws
 -- That the walks over the left ends give them.
 mod EndWalks
 -- What the code's proofs cite, case by case.
+mod Fronts
 mod StartCases
 mod EndCases
 -- Examples.

@@ -28,8 +28,8 @@ pub record MinutesBy (b d p x : ℕ) : Type 0 where
   pub small : x ≤ 65535
 
 -- the minutes of the first n entries that have a d of at most b
-pub record DueBy (n : ℕ) (d p : List ℕ) (b x : ℕ) : Type 0 where
-  pub is : x ≡ sum n (λ i. cond (leb (value_at d i) b) (value_at p i) 0)
+pub record DueBy (w : Windows) (n b x : ℕ) : Type 0 where
+  pub is : x ≡ sum n (λ i. cond (leb (w.d i) b) (w.p i) 0)
   pub small : x ≤ 65535 * n
 
 -- when the work kept at position y of the order, which begins at its r, is done at the earliest
@@ -39,11 +39,6 @@ work_end w o b y = w.r (o y) + entered w o b w.p (suc y)
 -- the latest of these from position x on
 unfoldable pub latest_end : Windows → (ℕ → ℕ) → ℕ → ℕ → ℕ
 latest_end w o b x = largest 0 (w.n - x) (λ y. work_end w o b (w.n - suc y))
-
--- the later of two, as long as both have fewer than 32 bits
-pub record LaterEnd (latest r kept x : ℕ) : Type 0 where
-  pub is : x ≡ max latest (r + kept)
-  pub small : x ≤ 65535 * 65
 
 -- what the right end b asks of an entry, where the latest work before it is done at this minute
 abbrev pub asked_after : ℕ → ℕ → ℕ → ℕ → ℕ
@@ -68,9 +63,9 @@ pub record Raises (w : Windows) (o : ℕ → ℕ) (b : ℕ) (old new : List ℕ)
   pub each : (x : ℕ) → x < w.n → value_at new x ≡ max (value_at old x) (asked_at w o b x)
 
 -- r + p of the entries at the first m positions
-pub record FirstEnds (r p : List ℕ) (o : ℕ → ℕ) (m : ℕ) (xs : List ℕ) : Type 0 where
+pub record FirstEnds (w : Windows) (o : ℕ → ℕ) (m : ℕ) (xs : List ℕ) : Type 0 where
   pub long : length xs ≡ most_entries
-  pub each : (x : ℕ) → x < m → value_at xs x ≡ value_at r (o x) + value_at p (o x)
+  pub each : (x : ℕ) → x < m → value_at xs x ≡ w.r (o x) + w.p (o x)
 
 -- the numbers of the first m positions, each at its place; 0 from n on
 pub record AtPlaces (n : ℕ) (o : ℕ → ℕ) (xs : List ℕ) (m : ℕ) (ys : List ℕ) : Type 0 where

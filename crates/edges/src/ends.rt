@@ -1,12 +1,11 @@
 // Least ends in closed form: for each right end one walk over the left ends, from the smallest r up, for all entries at once.
-ghost use Rattle.std.specs.Prelude.{◌≡◌, ◌+◌, ◌*◌, ◌≤◌, max, length};
+ghost use Rattle.std.specs.Prelude.{◌≡◌, ◌*◌, ◌≤◌, max, length};
 ghost use Rattle.base.specs.Counting.{EachOnce};
 ghost use Rattle.list.specs.DayLists.{most_entries};
 ghost use Rattle.order.specs.Orders.{value_at};
 ghost use Rattle.windows.specs.Windows.{windows_in};
-ghost use Rattle.windows.specs.Windows.{held_in};
 ghost use Rattle.edges.specs.Calls.{GivesEnds};
-ghost use Rattle.edges.specs.Internal.{MinutesBy, DueBy, LaterEnd, asked_after, EndsBy, Raises, FirstEnds, AtPlaces};
+ghost use Rattle.edges.specs.Internal.{ListsPlaces, MinutesBy, DueBy, asked_after, EndsBy, Raises, FirstEnds, AtPlaces};
 
 use list::places_held;
 use list::types::ENTRIES;
@@ -17,37 +16,18 @@ use windows::types::WindowSet;
 fn minutes_by(b: u16, d: u16, p: u16) -> u32
     ensures { MinutesBy b d p result }
 {
-    if b < d {
-        return 0;
-    }
-    p as u32
+    if d <= b { u32::from(p) } else { 0 }
 }
 
 // The minutes of all entries whose d is at most b.
-fn work_by(count: usize, d: &[u16; ENTRIES], p: &[u16; ENTRIES], b: u16) -> u32
-    requires { count ≤ most_entries }
-    ensures { DueBy count d.now p.now b result }
+fn work_by(windows: &WindowSet, b: u16) -> u32
+    ensures { DueBy (windows_in windows.now) (windows_in windows.now).n b result }
 {
-    let mut kept: u32 = 0;
-    let mut i: usize = 0;
-    while i < count {
-        kept += minutes_by(b, d[i], p[i]);
-        i += 1;
+    let mut kept = 0;
+    for i in 0..places_held(windows.n) {
+        kept += minutes_by(b, windows.d[i], windows.p[i]);
     }
     kept
-}
-
-// The later of two minutes: `latest`, and when the work kept is done that begins at r.
-fn later_end(latest: u32, r: u16, kept: u32) -> u32
-    requires kept_bound { kept ≤ 65535 * most_entries }
-    requires latest_bound { latest ≤ 65535 * 65 }
-    ensures { LaterEnd latest r kept result }
-{
-    let end = r as u32 + kept;
-    if end <= latest {
-        return latest;
-    }
-    end
 }
 
 // An entry's end, raised to what the right end b asks of it.
@@ -55,94 +35,51 @@ fn later_asked(end: u32, latest: u32, b: u16, d: u16, p: u16) -> u32
     requires { latest ≤ 65535 * 65 }
     ensures { result ≡ max end (asked_after b latest d p) }
 {
-    let asked = latest + p as u32;
-    if d <= b {
-        return end;
+    let asked = latest + u32::from(p);
+    if b < d && u32::from(b) < asked {
+        end.max(asked)
+    } else {
+        end
     }
-    if asked <= b as u32 {
-        return end;
-    }
-    if asked <= end {
-        return end;
-    }
-    asked
 }
 
 // Raises the ends, by position, to what the right end b asks.
-fn raise_ends(
-    count: usize,
-    r: &[u16; ENTRIES],
-    d: &[u16; ENTRIES],
-    p: &[u16; ENTRIES],
-    order: &[usize; ENTRIES],
-    b: u16,
-    ends: &mut [u32; ENTRIES],
-)
-    requires count_le_most_entries { count ≤ most_entries }
-    requires each_once { EachOnce count (value_at order.now) }
+fn raise_ends(windows: &WindowSet, order: &[usize; ENTRIES], b: u16, ends: &mut [u32; ENTRIES])
+    requires each_once { EachOnce (windows_in windows.now).n (value_at order.now) }
     requires ends_len { length ends.old ≡ most_entries }
-    ensures { Raises (held_in count r.now d.now p.now) (value_at order.now) b ends.old
-        ends.new }
+    ensures { Raises (windows_in windows.now) (value_at order.now) b ends.old ends.new }
 {
-    let mut kept = work_by(count, d, p, b);
-    let mut latest: u32 = 0;
-    let mut x = count;
-    while 0 < x {
-        x -= 1;
+    let mut kept = work_by(windows, b);
+    let mut latest = 0;
+    for x in (0..places_held(windows.n)).rev() {
         let i = order[x];
-        let due = d[i];
-        let minutes = p[i];
-        latest = later_end(latest, r[i], kept);
-        ends[x] = later_asked(ends[x], latest, b, due, minutes);
-        kept -= minutes_by(b, due, minutes);
+        let (d, p) = (windows.d[i], windows.p[i]);
+        latest = latest.max(u32::from(windows.r[i]) + kept);
+        ends[x] = later_asked(ends[x], latest, b, d, p);
+        kept -= minutes_by(b, d, p);
     }
 }
 
-// When an entry ends at the earliest that begins at r.
-fn earliest_end(r: u16, p: u16) -> u32
-    ensures { result ≡ r + p }
-{
-    r as u32 + p as u32
-}
-
 // r + p, by position.
-fn first_ends(
-    count: usize,
-    r: &[u16; ENTRIES],
-    p: &[u16; ENTRIES],
-    order: &[usize; ENTRIES],
-) -> [u32; ENTRIES]
-    requires count_le_most_entries { count ≤ most_entries }
-    requires each_once { EachOnce count (value_at order.now) }
-    ensures { FirstEnds r.now p.now (value_at order.now) count result }
+fn first_ends(windows: &WindowSet, order: &[usize; ENTRIES]) -> [u32; ENTRIES]
+    requires { ListsPlaces (windows_in windows.now).n order.now }
+    ensures { FirstEnds (windows_in windows.now) (value_at order.now) (windows_in windows.now).n result }
 {
-    let mut ends: [u32; ENTRIES] = [0; ENTRIES];
-    let mut x: usize = 0;
-    while x < count {
-        let i = order[x];
-        ends[x] = earliest_end(r[i], p[i]);
-        x += 1;
+    let mut ends = [0; ENTRIES];
+    for (x, &i) in order[..places_held(windows.n)].iter().enumerate() {
+        ends[x] = u32::from(windows.r[i]) + u32::from(windows.p[i]);
     }
     ends
 }
 
 // The ends, by position, that all right ends ask.
-fn ends_by_position(
-    count: usize,
-    r: &[u16; ENTRIES],
-    d: &[u16; ENTRIES],
-    p: &[u16; ENTRIES],
-    order: &[usize; ENTRIES],
-) -> [u32; ENTRIES]
-    requires count_le_most_entries { count ≤ most_entries }
-    requires each_once { EachOnce count (value_at order.now) }
-    ensures { EndsBy (held_in count r.now d.now p.now) (value_at order.now) count result }
+fn ends_by_position(windows: &WindowSet, order: &[usize; ENTRIES]) -> [u32; ENTRIES]
+    requires { EachOnce (windows_in windows.now).n (value_at order.now) }
+    ensures { EndsBy (windows_in windows.now) (value_at order.now) (windows_in windows.now).n result }
 {
-    let mut ends = first_ends(count, r, p, order);
-    let mut j: usize = 0;
-    while j < count {
-        raise_ends(count, r, d, p, order, d[j], &mut ends);
-        j += 1;
+    let mut ends = first_ends(windows, order);
+    for &b in &windows.d[..places_held(windows.n)] {
+        raise_ends(windows, order, b, &mut ends);
     }
     ends
 }
@@ -153,12 +90,9 @@ fn at_places(count: usize, order: &[usize; ENTRIES], ends: &[u32; ENTRIES]) -> [
     requires each_once { EachOnce count (value_at order.now) }
     ensures { AtPlaces count (value_at order.now) ends.now count result }
 {
-    let mut places: [u32; ENTRIES] = [0; ENTRIES];
-    let mut x: usize = 0;
-    while x < count {
-        let i = order[x];
+    let mut places = [0; ENTRIES];
+    for (x, &i) in order[..count].iter().enumerate() {
         places[i] = ends[x];
-        x += 1;
     }
     places
 }
@@ -167,11 +101,7 @@ fn at_places(count: usize, order: &[usize; ENTRIES], ends: &[u32; ENTRIES]) -> [
 pub fn closed_ends(windows: WindowSet) -> [u32; ENTRIES]
     ensures { GivesEnds (windows_in windows) result }
 {
-    let count = places_held(windows.n);
-    let r = windows.r;
-    let d = windows.d;
-    let p = windows.p;
-    let order = largest_first(windows.n, &r);
-    let ends = ends_by_position(count, &r, &d, &p, &order);
-    at_places(count, &order, &ends)
+    let order = largest_first(windows.n, &windows.r);
+    let ends = ends_by_position(&windows, &order);
+    at_places(places_held(windows.n), &order, &ends)
 }

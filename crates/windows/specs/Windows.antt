@@ -43,10 +43,6 @@ pub record SameWindows (a b : DayList) : Type 0 where
 abbrev pub columns : ℕ → ℕ → List ℕ → List ℕ → List ℕ → Windows
 columns h n r d p = record { h = h; n = n; r = λ i. get_or r i 0; d = λ i. get_or d i 0; p = λ i. get_or p i 0 }
 
--- the windows of n entries held in arrays: their work and their intervals ask for no H
-abbrev pub held_in : ℕ → List ℕ → List ℕ → List ℕ → Windows
-held_in n r d p = columns 0 n r d p
-
 -- the windows that a value of the code's type holds: its arrays have 64 places, whatever its n
 abbrev pub windows_in : WindowSet → Windows
 windows_in s = columns s.h (min s.n most_entries) s.r s.d s.p

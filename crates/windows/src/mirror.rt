@@ -8,8 +8,7 @@ use crate::types::WindowSet;
 use list::places_held;
 use list::types::ENTRIES;
 
-// One side of the mirrored windows: of the first count entries the minutes from the other side to the day's end, of the rest the side as it
-// is.
+// One side of the mirrored windows: of the first count entries h minus the other side, of the rest the side as it is.
 fn mirrored_side(
     h: u16,
     count: usize,

@@ -1,78 +1,30 @@
--- The loop's invariant is `Raising`, the measure how many positions are left.
+-- The loop's invariant is `Raising`, along an order of places.
 -- Assumes nothing.
 use borrow.Author.Rules.{rules}
-use Rattle.edges.proofs.EndCases.{raising_start, raising_place, raising_less, raising_next, raising_done}
+use native.Mathlib.Omega.{arith}
+use mathlib.Core.Path.{◌≡◌}
+use Prim.Native.Nat.{◌+◌, ◌-◌, ◌≤◌, max}
+use lib.ListN.{get_or}
+use Rattle.edges.proofs.Fronts.{lists_places}
+use Rattle.edges.proofs.EndCases.{raising_start, raising_less, raising_next}
 use Rattle.edges.proofs.ends.raise_ends.Goals as goal
 
 pub loop-x-init : goal.loop-x-init
 loop-x-init c =
-    let kept_says = c.work_by-kept.ensures in
-    raising_start _ _ _ _ _ c.requires.count_le_most_entries c.requires.each_once c.requires.ends_len kept_says.is kept_says.small
-
-pub offset_bounds-order-x : goal.offset_bounds-order-x
-offset_bounds-order-x c =
-    search (rules, c.loop-x.invariant.within, c.loop-x.invariant.few)
-
-pub bounds-order-x : goal.bounds-order-x
-bounds-order-x c =
-    search (rules, c.loop-x.invariant.within, c.loop-x.invariant.few)
-
-pub offset_bounds-d-i : goal.offset_bounds-d-i
-offset_bounds-d-i c =
-    search (rules, raising_place _ _ _ _ _ _ _ _ c.loop-x.invariant c.loop-x-test.true, c.loop-x.invariant.few)
-
-pub bounds-d-i : goal.bounds-d-i
-bounds-d-i c =
-    search (rules, raising_place _ _ _ _ _ _ _ _ c.loop-x.invariant c.loop-x-test.true, c.loop-x.invariant.few)
-
-pub offset_bounds-p-i : goal.offset_bounds-p-i
-offset_bounds-p-i c =
-    search (rules, raising_place _ _ _ _ _ _ _ _ c.loop-x.invariant c.loop-x-test.true, c.loop-x.invariant.few)
-
-pub bounds-p-i : goal.bounds-p-i
-bounds-p-i c =
-    search (rules, raising_place _ _ _ _ _ _ _ _ c.loop-x.invariant c.loop-x-test.true, c.loop-x.invariant.few)
-
-pub offset_bounds-r-i : goal.offset_bounds-r-i
-offset_bounds-r-i c =
-    search (rules, raising_place _ _ _ _ _ _ _ _ c.loop-x.invariant c.loop-x-test.true, c.loop-x.invariant.few)
-
-pub bounds-r-i : goal.bounds-r-i
-bounds-r-i c =
-    search (rules, raising_place _ _ _ _ _ _ _ _ c.loop-x.invariant c.loop-x-test.true, c.loop-x.invariant.few)
-
-pub later_end-latest-requires : goal.later_end-latest-requires
-later_end-latest-requires c =
-    search (rules, c.loop-x.invariant.kept_small, c.loop-x.invariant.latest_small)
-
-pub offset_bounds-ends-x : goal.offset_bounds-ends-x
-offset_bounds-ends-x c =
-    search (rules, c.loop-x.invariant.within, c.loop-x.invariant.few, c.loop-x.invariant.long)
-
-pub bounds-ends-x : goal.bounds-ends-x
-bounds-ends-x c =
-    search (rules, c.loop-x.invariant.within, c.loop-x.invariant.few, c.loop-x.invariant.long)
-
-pub later_asked-requires : goal.later_asked-requires
-later_asked-requires c = search (rules, c.later_end-latest.ensures.small)
-
-pub offset_bounds-ends-x-in-loop-x : goal.offset_bounds-ends-x-in-loop-x
-offset_bounds-ends-x-in-loop-x c =
-    search (rules, c.loop-x.invariant.within, c.loop-x.invariant.few, c.loop-x.invariant.long)
-
-pub bounds-ends-x-in-loop-x : goal.bounds-ends-x-in-loop-x
-bounds-ends-x-in-loop-x c =
-    search (rules, c.loop-x.invariant.within, c.loop-x.invariant.few, c.loop-x.invariant.long)
+    let once = c.requires.each_once in
+    rw c.places_held-x.ensures
+    (lists_places _ _ (omega arith) once, raising_start _ _ _ _ _ (omega arith) once c.requires.ends_len c.work_by-kept.ensures)
 
 pub overflow_sub-kept : goal.overflow_sub-kept
 overflow_sub-kept c =
-    raising_less _ _ _ _ _ _ _ _ c.loop-x.invariant c.loop-x-test.true _ c.minutes_by-kept.ensures
+    raising_less _ _ _ _ _ _ _ _ c.loop-x.invariant.1 (omega (arith, c.loop-x.auto.x, c.places_held-x.ensures)) (omega arith) c.loop-x-test.true _ c.minutes_by-kept.ensures
 
 pub loop-x-preserved : goal.loop-x-preserved
 loop-x-preserved c =
-    raising_next _ _ _ _ _ _ _ _ c.loop-x.invariant c.loop-x-test.true _ c.minutes_by-kept.ensures _ _
-    c.later_end-latest.ensures
-    c.later_asked.ensures
-
-pub returns : goal.returns
-returns c = raising_done _ _ _ _ _ _ _ _ c.loop-x.invariant c.loop-x-test.false
+    let r = get_or c.args.windows.now.r (get_or c.args.order.now (c.loop-x.x - 1) 0) 0 in
+    let small : r ≤ 65535 = search rules in
+    let later : c.max-latest.result ≡ max c.loop-x.latest (r + c.loop-x.kept) = search rules in (
+      c.loop-x.invariant.0,
+      raising_next _ _ _ _ _ _ _ _ c.loop-x.invariant.1 (omega (arith, c.loop-x.auto.x, c.places_held-x.ensures)) (omega arith) c.loop-x-test.true _
+          c.minutes_by-kept.ensures _ _ later small c.later_asked.ensures,
+    )

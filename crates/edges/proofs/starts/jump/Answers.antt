@@ -1,19 +1,11 @@
--- The two tests of `jumped`, one after the other.
+-- The start goes to the minute when the work is done, where both tests of `jumped` hold.
 -- Assumes nothing.
 use native.Mathlib.Omega.{arith}
-use Rattle.edges.proofs.Jumps.{jump_behind, jump_fits, jump_goes}
+use Rattle.edges.proofs.Jumps.{jump_goes}
 use Rattle.edges.proofs.starts.jump.Goals as goal
-
-pub returns-then-done-s : goal.returns-then-done-s
-returns-then-done-s c = jump_behind _ _ _ _ _ (omega (arith, c.if-done-s.true, c.wide.ensures))
-
-pub returns-then-earlier-work : goal.returns-then-earlier-work
-returns-then-earlier-work c =
-    jump_fits _ _ _ _ _ (omega (arith, c.if-done-s.false, c.wide.ensures))
-    (omega (arith, c.if-earlier-work.true, c.earlier.ensures, c.wide-2.ensures, c.wide-3.ensures))
 
 pub returns : goal.returns
 returns c =
-    rw c.wide.ensures
-    (jump_goes _ _ _ _ _ (omega (arith, c.if-done-s.false, c.wide.ensures))
-    (omega (arith, c.if-earlier-work.false, c.earlier.ensures, c.wide-2.ensures, c.wide-3.ensures)))
+    rw c.from.ensures
+    (jump_goes _ _ _ _ _ (omega (arith, c.if-done-s.false, c.from.ensures))
+    (omega (arith, c.if-min-work.false, c.min.ensures, c.from-else-done-s.ensures, c.from-else-done-s-2.ensures, c.from-else-done-s-3.ensures)))

@@ -2,16 +2,16 @@
 -- Assumes nothing.
 use Prim.Native.Nat.{suc, ◌-◌}
 use Rattle.order.specs.Orders.{value_at}
-use Rattle.windows.specs.Windows.{held_in}
+use Rattle.windows.specs.Windows.{windows_in}
 use Rattle.edges.specs.Starts.{start_from}
 use Rattle.edges.proofs.StartCases.{passes, Searching}
 use Rattle.edges.proofs.starts.least_start.Given as goal
 
-abbrev pub invariant-loop-r : goal.invariant-loop-r
-invariant-loop-r l =
-    let v = held_in l.count l.r l.d l.minutes in
+abbrev pub invariant-loop-others : goal.invariant-loop-others
+invariant-loop-others l =
+    let v = windows_in l.others in
     Searching v (value_at l.order) l.first l.last l.p
     (start_from v (value_at l.order) l.first l.last l.p (passes l.first l.last l.p) l.first) l.s
 
-abbrev pub decreases-loop-r : goal.decreases-loop-r
-decreases-loop-r l = suc l.last - l.s
+abbrev pub decreases-loop-others : goal.decreases-loop-others
+decreases-loop-others l = suc l.last - l.s

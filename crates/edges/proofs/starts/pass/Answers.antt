@@ -1,51 +1,27 @@
--- The loop's invariant is the pass so far; the measure is what is left of the right ends.
+-- The loop's invariant is the pass so far.
 -- Assumes nothing.
-use borrow.Author.Rules.{rules}
-use Prim.Native.Nat.{◌-◌, ◌<◌}
 use native.Mathlib.Omega.{arith}
-use Rattle.list.specs.DayLists.{most_entries}
-use Rattle.order.specs.Orders.{value_at}
-use Rattle.edges.proofs.StartCases.{passing_none, passing_low, passing_not, passing_row, passed_all}
+use mathlib.Core.Path.{sym, ◌∙◌}
+use Rattle.edges.proofs.StartCases.{passing_none, passing_low, passing_not, passing_row}
 use Rattle.edges.proofs.starts.pass.Goals as goal
+use Rattle.edges.proofs.starts.pass.Goals.{else-s-from-via-then-s-from+else-is_considered, else-s-from-via-else-s-from}
 
 pub loop-x-init : goal.loop-x-init
-loop-x-init c = passing_none _ _ _ _ _ _
+loop-x-init c = rw c.places_held-x.ensures (passing_none _ _ _ _ _ _)
 
-pub offset_bounds-order-x : goal.offset_bounds-order-x
-offset_bounds-order-x c = search (rules, c.loop-x.invariant.left)
-
-pub bounds-order-x : goal.bounds-order-x
-bounds-order-x c = search (rules, c.loop-x.invariant.left)
-
-pub offset_bounds-d-i : goal.offset_bounds-d-i
-offset_bounds-d-i c =
-    let below : value_at c.args.order.now (c.loop-x.x - 1) < most_entries =
-    c.requires.lists_places _ (omega (arith, c.loop-x.invariant.left, c.loop-x-test.true)) in
-    search (rules, below)
-
-pub bounds-d-i : goal.bounds-d-i
-bounds-d-i c =
-    let below : value_at c.args.order.now (c.loop-x.x - 1) < most_entries =
-    c.requires.lists_places _ (omega (arith, c.loop-x.invariant.left, c.loop-x-test.true)) in
-    search (rules, below)
-
-pub loop-x-preserved-then-wide-s : goal.loop-x-preserved-then-wide-s
-loop-x-preserved-then-wide-s c =
-    passing_low _ _ _ _ _ _ _ _ c.loop-x.invariant c.loop-x-test.true
-    (omega (arith, c.if-wide-s.true, c.wide.ensures))
-
-pub loop-x-preserved-then-not-is_considered : goal.loop-x-preserved-then-not-is_considered
-loop-x-preserved-then-not-is_considered c =
-    passing_not _ _ _ _ _ _ _ _ c.loop-x.invariant c.loop-x-test.true
-    (omega (arith, c.if-wide-s.false, c.wide.ensures)) _ c.is_considered.ensures
-    c.if-not-is_considered.true
+pub loop-x-preserved-then-is_considered : goal.loop-x-preserved-then-is_considered
+loop-x-preserved-then-is_considered c =
+    rw c.raise-s.ensures
+    (passing_row _ _ _ _ _ _ _ _ c.loop-x.invariant (omega (arith, c.loop-x.auto.x, c.places_held-x.ensures)) c.loop-x-test.true
+    (omega (arith, c.if-s-from.true, c.from.ensures)) (sym c.is_considered.ensures ∙ c.if-is_considered.true))
 
 pub loop-x-preserved : goal.loop-x-preserved
 loop-x-preserved c =
-    rw c.raise-s.ensures
-    (passing_row _ _ _ _ _ _ _ _ c.loop-x.invariant c.loop-x-test.true
-    (omega (arith, c.if-wide-s.false, c.wide.ensures)) _ c.is_considered.ensures
-    c.if-not-is_considered.false)
-
-pub returns : goal.returns
-returns c = passed_all _ _ _ _ _ _ _ _ c.loop-x.invariant (omega (arith, c.loop-x-test.false))
+    elim c.else-s-from.branch [
+      | else-s-from-via-then-s-from+else-is_considered w ↦
+          passing_not _ _ _ _ _ _ _ _ c.loop-x.invariant (omega (arith, c.loop-x.auto.x, c.places_held-x.ensures)) c.loop-x-test.true
+          (omega (arith, w.if-s-from.true, c.from.ensures)) (sym w.is_considered.ensures ∙ w.if-is_considered.false)
+      | else-s-from-via-else-s-from w ↦
+          passing_low _ _ _ _ _ _ _ _ c.loop-x.invariant (omega (arith, c.loop-x.auto.x, c.places_held-x.ensures)) c.loop-x-test.true
+          (omega (arith, w.if-s-from.false, c.from.ensures))
+    ]

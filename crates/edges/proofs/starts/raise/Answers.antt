@@ -1,45 +1,17 @@
--- The loop's invariant is the walk so far; the measure is what is left of the order.
+-- The loop's invariant is the walk so far.
 -- Assumes nothing.
-use borrow.Author.Rules.{rules}
-use native.Mathlib.Omega.{arith}
-use Rattle.edges.proofs.StartCases.{raising_none, raising_out, raising_in, raised_all}
+use Rattle.edges.proofs.Fronts.{front_at}
+use Rattle.edges.proofs.StartCases.{raising_none, raising_out, raising_in}
 use Rattle.edges.proofs.starts.raise.Goals as goal
+use Rattle.edges.proofs.starts.raise.Goals.{then-windows-i, else-windows-i}
 
-pub loop-x-init : goal.loop-x-init
-loop-x-init c = raising_none _ _ _ _ _
+pub loop-i-init : goal.loop-i-init
+loop-i-init c = raising_none _ _ _ _ _
 
-pub offset_bounds-d-i : goal.offset_bounds-d-i
-offset_bounds-d-i c = search (rules, c.requires.lists_places _ c.loop-x-test.true)
-
-pub bounds-d-i : goal.bounds-d-i
-bounds-d-i c = search (rules, c.requires.lists_places _ c.loop-x-test.true)
-
-pub loop-x-preserved-then-b-d : goal.loop-x-preserved-then-b-d
-loop-x-preserved-then-b-d c =
-    raising_out _ _ _ _ _ _ _ _ c.loop-x.invariant c.loop-x-test.true c.if-b-d.true
-
-pub offset_bounds-r-i : goal.offset_bounds-r-i
-offset_bounds-r-i c = search (rules, c.requires.lists_places _ c.loop-x-test.true)
-
-pub bounds-r-i : goal.bounds-r-i
-bounds-r-i c = search (rules, c.requires.lists_places _ c.loop-x-test.true)
-
-pub offset_bounds-minutes-i : goal.offset_bounds-minutes-i
-offset_bounds-minutes-i c =
-    search (rules, c.requires.lists_places _ c.loop-x-test.true)
-
-pub bounds-minutes-i : goal.bounds-minutes-i
-bounds-minutes-i c =
-    search (rules, c.requires.lists_places _ c.loop-x-test.true)
-
-pub enter-sum-requires : goal.enter-sum-requires
-enter-sum-requires c =
-    omega (arith, c.loop-x.invariant.small, c.requires.count_le_most_entries, c.loop-x-test.true)
-
-pub loop-x-preserved : goal.loop-x-preserved
-loop-x-preserved c =
-    rw (c.enter-sum.ensures.start, c.enter-sum.ensures.work)
-    (raising_in _ _ _ _ _ _ _ _ c.loop-x.invariant c.loop-x-test.true c.if-b-d.false c.enter-sum.ensures.small)
-
-pub returns : goal.returns
-returns c = raised_all _ _ _ _ _ _ _ _ c.loop-x.invariant c.loop-x-test.false
+pub loop-i-preserved : goal.loop-i-preserved
+loop-i-preserved c =
+    let next = front_at _ _ _ c.loop-i-test.true in
+    elim c.if-windows-i.branch [
+      | then-windows-i w ↦ rw w.sum-is (raising_in _ _ _ _ _ _ _ c.loop-i.invariant _ next w.if-windows-i.true _ w.enter-sum.ensures)
+      | else-windows-i w ↦ rw w.sum-is (raising_out _ _ _ _ _ _ _ c.loop-i.invariant _ next w.if-windows-i.false)
+    ]
