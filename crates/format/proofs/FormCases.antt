@@ -6,7 +6,7 @@ use mathlib.Core.List.{List, [], ◌∷◌, ◌++◌}
 use Prim.Native.Nat.{ℕ, ◌+◌, ◌≤◌}
 use native.Mathlib.Omega.{arith}
 use lib.ListN.{length, set, length-append}
-use Rattle.format.specs.LittleEndian.{u16_bytes, u32_bytes}
+use Rattle.format.specs.LittleEndian.{u32_bytes}
 use Rattle.format.specs.Maps.{map_of, size_of}
 use Rattle.format.specs.Forms.{sealed, fields_in, seal_bytes, minute_bytes, times_bytes, entry_bytes}
 use Rattle.base.specs.Storing.{Wrote}
@@ -24,12 +24,6 @@ seal_length (Some x) = refl
 pub minute_length : (follows : Bool) (x : ℕ) → length (minute_bytes follows x) ≡ cond follows 2 0
 minute_length true x = refl
 minute_length false x = refl
-
--- r, d and p one after the other
-pub times_stored : (m : Fields) (e : Entry) {old o₁ o₂ new : List ℕ} {at a b next : ℕ}
-    → Wrote old at (minute_bytes m.r e.r) o₁ a → Wrote o₁ a (minute_bytes m.d e.d) o₂ b → Wrote o₂ b (u16_bytes e.p) new next
-    → Wrote old at (times_bytes m e) new next
-times_stored m e w₁ w₂ w₃ = wrote_then w₁ (wrote_then w₂ w₃)
 
 -- what follows an entry's serial, and what follows its map byte
 abbrev pub after_serial : Fields → Entry → List ℕ

@@ -63,7 +63,7 @@ pub(crate) fn map_of(m: Fields) -> u8
     ensures { result ≡ map_of m }
 {
     let whole = matches!(m.kind, Kind::Whole);
-    17 | u8::from(m.seal) << 1 | u8::from(m.r) << 2 | u8::from(m.d) << 3 | u8::from(whole) << 5
+    17 + 2 * u8::from(m.seal) + 4 * u8::from(m.r) + 8 * u8::from(m.d) + 32 * u8::from(whole)
 }
 
 // Where r starts in an entry, counted from its map byte; the serial is at 1, the seal at 5.

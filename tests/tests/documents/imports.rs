@@ -92,12 +92,16 @@ fn items(import: &str) -> Vec<String> {
     names.trim_end_matches('}').split(", ").map(|name| format!("{path}::{name}")).collect()
 }
 
+/// Types that the language has, whose functions no crate here declares.
+const BUILT_IN: [&str; 5] = ["u8::", "u16::", "u32::", "u64::", "usize::"];
+
 /// The paths in a line, "list::check" in "let verdict = list::check(list);". Crates and modules begin with a small
-/// letter, types do not: "Verdict::Accepted" is none.
+/// letter, types do not, but for the language's own: "Verdict::Accepted" is none, nor is "usize::from".
 fn paths(line: &str) -> Vec<String> {
     let words = line.split(|letter: char| !(letter.is_alphanumeric() || letter == '_' || letter == ':'));
     words
         .filter(|word| word.starts_with(char::is_lowercase) && word.contains("::"))
+        .filter(|word| !BUILT_IN.iter().any(|built_in| word.starts_with(built_in)))
         .map(String::from)
         .collect()
 }
