@@ -30,6 +30,7 @@ abbrev pub rows_with : Option (ℕ × Room) → List Room → List Room
 rows_with (Some (k, r)) ys = set ys k r
 rows_with None ys = ys
 
+-- a place and its row, of which there is one, or none
 one_place : {k j : ℕ} {r s : Room} → ◌≡◌ {A = Option (ℕ × Room)} (Some (k, r)) (Some (j, s)) → k ≡ j
 one_place {k} {j} {r} {s} e = let same : (k, r) ≡ (j, s) = cc e in ap (λ (p : ℕ × Room). p.0) same
 

@@ -56,11 +56,12 @@ lists_by (answered (took k said next)) rows lists = put_share k (share_after (sh
 lists_by (answered (none_unfinished used)) rows lists = lists
 lists_by (refused k) rows lists = lists
 
--- what `take_turn` answers of the first n rows and lists, and leaves there
+-- what an answer of `take_turn` says of the turn
 abbrev pub taken_of : Result TurnTaken Refusal → Outcome Turn
 taken_of (Ok t) = answered (turn_by t.turn)
 taken_of (Err x) = refused (code_of x)
 
+-- what `take_turn` answers of the first n rows and lists, and leaves there
 pub record TakesTurn (rows : List Room) (n number : ℕ) (old : List ℕ) (a : Result TurnTaken Refusal) (new : List ℕ) : Type 0 where
   pub answer : taken_of a ≡ answer_held rows n number old
   pub stored : (t : TurnTaken) → a ≡ Ok t → t.stored ≡ stored_by (answer_held rows n number old) rows old
