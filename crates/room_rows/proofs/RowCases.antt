@@ -1,6 +1,6 @@
 -- Rooms and numbers, case by case.
 -- Assumes nothing.
-use mathlib.Core.Path.{◌≡◌, sym, ap, ◌∙◌}
+use mathlib.Core.Path.{◌≡◌, sym, ◌∙◌}
 use mathlib.Core.List.{List, [], ◌∷◌, ◌++◌}
 use Prim.Native.Nat.{ℕ, ◌+◌, ◌-◌, ◌*◌, ◌/◌, ◌%◌, ◌<◌, ◌≤◌}
 use borrow.Author.Tests.{eq-eqb, ne_eqb}
@@ -10,16 +10,9 @@ use native.Mathlib.Omega.{arith}
 use Rattle.std.proofs.Common.{append_assoc}
 use Rattle.std.proofs.lemmas.List.Edits.{sets, sets-eq}
 use Rattle.base.specs.Outcomes.{code, answered, refused}
-use Rattle.list.specs.Refusals.{code_of, verdict_of}
-use Rattle.list.specs.declared.types.Refusal.{Refusal}
-use Rattle.list.specs.declared.types.Verdict.{Verdict}
-use Rattle.list.specs.declared.types.Verdict.TheVariants.{Accepted, Refused}
-use Rattle.codes.specs.Codes.{numbers_of}
-use Rattle.codes.specs.declared.RefusalCode.{RefusalCode}
 use Rattle.rooms.specs.Turns.{no_row}
 use Rattle.rooms.specs.declared.types.Stage.{Stage}
 use Rattle.room_rows.specs.RoomRows.{room_numbers, stage_of, rooms_in, rooms_fault}
-use Rattle.room_rows.specs.Calls.{said_number, said_values}
 use Rattle.room_rows.proofs.RoomTrip.{room_inside}
 
 -- row 100
@@ -42,14 +35,3 @@ pub three_stored : (xs : List ℕ) (at a b c : ℕ) → at + 3 ≤ length xs
 three_stored xs at a b c room =
     let size : (at + 3) - at ≡ 3 = omega arith in
     rw (size, drop-drop 3 at xs) (sym (sets-eq (a ∷ b ∷ c ∷ []) xs at room ∙ append_assoc (take at xs) (a ∷ b ∷ c ∷ []) (drop (at + 3) xs)))
-
--- the refusal of a room
-module _ (v : Verdict) where
-  pub carried_none : v ≡ Accepted → {k : ℕ} {new : List ℕ} → k ≡ 0 → new ≡ 0 ∷ 0 ∷ 0 ∷ []
-      → (k ≡ said_number (verdict_of v)) × (new ≡ said_values (verdict_of v))
-  carried_none is a b = (rw is a, rw is b)
-
-  pub carried_some : (x : Refusal) (code : RefusalCode) → v ≡ Refused x → code ≡ numbers_of (code_of x) → {k : ℕ} {new : List ℕ}
-      → k ≡ code.number → new ≡ code.values → (k ≡ said_number (verdict_of v)) × (new ≡ said_values (verdict_of v))
-  carried_some x code is e a b =
-      (rw is (a ∙ ap (λ (c : RefusalCode). c.number) e), rw is (b ∙ ap (λ (c : RefusalCode). c.values) e))

@@ -9,38 +9,32 @@ use lib.Seq.{sets, get_or-set_same}
 use Rattle.base.specs.Outcomes.{Outcome, answered, refused}
 use Rattle.base.proofs.Sums.{le_or_lt}
 use Rattle.list.specs.Machine.{Bytes}
-use Rattle.list.specs.Refusals.{code_of, verdict_of}
+use Rattle.list.specs.Refusals.{code_of, outcome_of}
 use Rattle.list.specs.declared.types.Refusal.{Refusal}
 use Rattle.list.specs.declared.types.Refusal.TheVariants.{RoomCount}
-use Rattle.list.specs.declared.types.Verdict.{Verdict}
-use Rattle.list.specs.declared.types.Verdict.TheVariants.{Accepted, Refused}
-use Rattle.list.proofs.Verdicts.{by_accepted, by_refused}
-use Rattle.codes.specs.Codes.{three}
+use Rattle.std.specs.Prelude.{Err, Ok, Result}
 use Rattle.rooms.specs.Rooms.{row_after}
 use Rattle.rooms.specs.Turns.{most_rooms, Lent, no_row, row_in, eight_rows, Turn, took, round_for, turn_of, lent_by, lent_after}
 use Rattle.rooms.specs.Calls.{turn_answer_of, Turns, TurnsHeld}
 use Rattle.rooms.specs.declared.types.Room.{Room}
 use Rattle.rooms.specs.declared.types.HeldAnswer.{HeldAnswer}
-use Rattle.rooms.specs.declared.types.TurnAnswer.{TurnAnswer}
-use Rattle.rooms.specs.declared.types.TurnAnswer.TheVariants.{NotTurned, NoneUnfinished, Turned}
+use Rattle.rooms.specs.declared.types.Turn as types
+use Rattle.rooms.specs.declared.types.Turn.TheVariants.{NoneUnfinished, Took}
 use Rattle.rooms.proofs.EightRows.{first_rows}
 use Rattle.rooms.proofs.LentTurns.{turn_many}
 use Rattle.room_rows.specs.RoomRows.{room_numbers, rooms_in, room_row, rooms_fault}
 use Rattle.room_rows.specs.Calls.{lent_in, turn_in, said_number, said_values, NumbersTurn, TurnsNumbers}
 use Rattle.room_rows.specs.Internal.{TurnsRooms}
-use Rattle.room_rows.specs.declared.turn.TurnNumbers.{TurnNumbers}
 use Rattle.room_rows.proofs.RoomTrip.{rooms_count, rooms_stored}
 
 -- a refusal, of the turn or of the numbers, leaves all that is lent
-module _ (xs lists carried : List ℕ) (o : Outcome Turn) where
-  pub numbers_refused : (x : Refusal) (a : TurnNumbers) → o ≡ refused (code_of x)
-      → a ≡ record { number = (code_of x).number; values = three (code_of x).carries }
-      → NumbersTurn (lent_in xs lists) o xs carried a xs lists carried
-  numbers_refused x a e is =
-      record { answer = rw (e, is); left = record { rooms = rw e; lists = rw e; carried = rw e; back = rw e } }
+pub numbers_refused : (xs lists carried : List ℕ) (o : Outcome Turn) {x : Refusal} → o ≡ refused (code_of x)
+    → NumbersTurn (lent_in xs lists) o xs carried (Err x) xs lists carried
+numbers_refused xs lists carried o e =
+    record { answer = rw e; left = record { rooms = rw e; lists = rw e; carried = rw e; back = rw e } }
 
-module _ (xs lists : List ℕ) (number : ℕ) (old : List ℕ) (first : List Room) (eight : first ≡ eight_rows (rooms_in xs) no_row)
-    (held : HeldAnswer) (new : List ℕ) (turned : TurnsHeld first (length xs / room_numbers) lists number held new) (b : Bytes lists) where
+module _ (xs : List ℕ) {lists : List ℕ} {number : ℕ} {first : List Room} (eight : first ≡ eight_rows (rooms_in xs) no_row)
+    {held : HeldAnswer} {new : List ℕ} (turned : TurnsHeld first (length xs / room_numbers) lists number held new) (b : Bytes lists) where
   abbrev x : Lent
   x = lent_in xs lists
 
@@ -69,12 +63,12 @@ module _ (xs lists : List ℕ) (number : ℕ) (old : List ℕ) (first : List Roo
       (λ h.
       let got = turned.many h in
       let many : most_rooms < length (rooms_in xs) = omega (arith, h, rooms_count xs) in
-      let is : NotTurned (RoomCount (length (rooms_in xs))) ≡ held.answer =
-      ap (λ (k : ℕ). NotTurned (RoomCount k)) (rooms_count xs) ∙ sym (ap (λ (a : HeldAnswer). a.answer) got.0) in
+      let is : Err (RoomCount (length (rooms_in xs))) ≡ held.answer =
+      ap (λ (k : ℕ). Err (RoomCount k)) (rooms_count xs) ∙ sym (ap (λ (a : HeldAnswer). a.answer) got.0) in
       record {
         rows = rooms_in xs;
-        turns = subst (λ (t : TurnAnswer). Turns x number t (record { rows = rooms_in xs; lists = new })) is
-            (subst (λ (ls : List ℕ). Turns x number (NotTurned (RoomCount (length (rooms_in xs))))
+        turns = subst (λ (t : Result types.Turn Refusal). Turns x number t (record { rows = rooms_in xs; lists = new })) is
+            (subst (λ (ls : List ℕ). Turns x number (Err (RoomCount (length (rooms_in xs))))
             (record { rows = rooms_in xs; lists = ls })) (sym got.1) (turn_many (rooms_in xs) lists number b many));
         held_first = λ few. absurd (omega (arith, h, few));
       })
@@ -85,7 +79,7 @@ module _ (xs lists : List ℕ) (number : ℕ) (old : List ℕ) (first : List Roo
   abbrev turns : Turns x number held.answer (record { rows = rows; lists = new })
   turns = over_rooms.turns
 
-  module _ (t : TurnAnswer) (is : held.answer ≡ t) where
+  module _ (t : Result types.Turn Refusal) (is : held.answer ≡ t) where
     outcome_is : turn_of x number ≡ turn_answer_of t
     outcome_is = sym turns.answer ∙ ap turn_answer_of is
 
@@ -99,30 +93,28 @@ module _ (xs lists : List ℕ) (number : ℕ) (old : List ℕ) (first : List Roo
     rows_are : rows ≡ (lent_by (turn_answer_of t) x).rows
     rows_are = ap (λ (y : Lent). y.rows) lent_is
 
-  pub turn_refused : (c : Refusal) (a : TurnNumbers) → held.answer ≡ NotTurned c
-      → a ≡ record { number = (code_of c).number; values = three (code_of c).carries }
-      → TurnsRooms xs lists number old a xs new old
-  turn_refused c a is e =
-      let same : lists ≡ new = sym (lists_are (NotTurned c) is) in
-      subst (λ (ls : List ℕ). TurnsRooms xs lists number old a xs ls old) same
-      (numbers_refused xs lists old (turn_of x number) c a (outcome_is (NotTurned c) is) e)
+  pub turn_refused : {old : List ℕ} {z : Refusal} → held.answer ≡ Err z → TurnsRooms xs lists number old (Err z) xs new old
+  turn_refused {old} {z} is =
+      let same : lists ≡ new = sym (lists_are (Err z) is) in
+      subst (λ (ls : List ℕ). TurnsRooms xs lists number old (Err z) xs ls old) same
+      (numbers_refused xs lists old (turn_of x number) (outcome_is (Err z) is))
 
-  pub turn_nothing : (used : ℕ) → held.answer ≡ NoneUnfinished used
-      → TurnsRooms xs lists number old (record { number = 0; values = length xs / room_numbers ∷ 0 ∷ used ∷ [] }) xs new old
-  turn_nothing used is =
-      let o = outcome_is (NoneUnfinished used) is in
+  pub turn_nothing : {old : List ℕ} {used : ℕ} → held.answer ≡ Ok (NoneUnfinished used)
+      → TurnsRooms xs lists number old (Ok (length xs / room_numbers ∷ 0 ∷ used ∷ [])) xs new old
+  turn_nothing {old} {used} is =
+      let o = outcome_is (Ok (NoneUnfinished used)) is in
       record {
         answer = rw (o, rooms_count xs);
-        left = record { rooms = rw o; lists = rw o (lists_are (NoneUnfinished used) is); carried = rw o; back = rw o };
+        left = record { rooms = rw o; lists = rw o (lists_are (Ok (NoneUnfinished used)) is); carried = rw o; back = rw o };
       }
 
   -- the room that had the turn
-  module _ (k : ℕ) (verdict : Verdict) (next : ℕ) (is : held.answer ≡ Turned k verdict next) where
-    o : turn_of x number ≡ answered (took k (verdict_of verdict) next)
-    o = outcome_is (Turned k verdict next) is
+  module _ {k : ℕ} {round : Result (Unit {0}) Refusal} {next : ℕ} (is : held.answer ≡ Ok (Took k round next)) where
+    o : turn_of x number ≡ answered (took k (outcome_of round) next)
+    o = outcome_is (Ok (Took k round next)) is
 
     below : k < length xs / room_numbers
-    below = omega (arith, (turns.law.taken k (verdict_of verdict) next o).is_next.inside, rooms_count xs)
+    below = omega (arith, (turns.law.taken k (outcome_of round) next o).is_next.inside, rooms_count xs)
 
     pub inside : room_numbers * k + room_numbers ≤ length xs
     inside = omega (arith, below)
@@ -131,24 +123,24 @@ module _ (xs lists : List ℕ) (number : ℕ) (old : List ℕ) (first : List Roo
     in_eight =
         omega (
           arith,
-          (turns.law.taken k (verdict_of verdict) next o).is_next.inside,
-          (turns.law.fits (took k (verdict_of verdict) next) o).few,
+          (turns.law.taken k (outcome_of round) next o).is_next.inside,
+          (turns.law.fits (took k (outcome_of round) next) o).few,
         )
 
     few : n ≤ most_rooms
-    few = omega (arith, (turns.law.fits (took k (verdict_of verdict) next) o).few, rooms_count xs)
+    few = omega (arith, (turns.law.fits (took k (outcome_of round) next) o).few, rooms_count xs)
 
     as_many : length rows ≡ n
     as_many = ap (λ (y : Lent). length y.rows) turns.lent ∙ turns.law.rows_stay ∙ rooms_count xs
 
     abbrev after : Outcome Turn
-    after = answered (took k (verdict_of verdict) next)
+    after = answered (took k (outcome_of round) next)
 
     row_is : get_or held.rows k no_row ≡ row_in (lent_by after x) k
     row_is =
         ap (λ (ys : List Room). get_or ys k no_row) (over_rooms.held_first few)
         ∙ get_or-append rows (drop n first) no_row k (omega (arith, below, as_many))
-        ∙ ap (λ (ys : List Room). get_or ys k no_row) (rows_are (Turned k verdict next) is)
+        ∙ ap (λ (ys : List Room). get_or ys k no_row) (rows_are (Ok (Took k round next)) is)
 
     abbrev row : Room
     row = row_after (row_in x k) (round_for x k)
@@ -156,11 +148,11 @@ module _ (xs lists : List ℕ) (number : ℕ) (old : List ℕ) (first : List Roo
     stored_row : row_in (lent_by after x) k ≡ row
     stored_row = get_or-set_same (rooms_in xs) k row no_row (omega (arith, below, rooms_count xs))
 
-    pub turn_taken : (r : Room) (rooms carried : List ℕ) (said : ℕ) → r ≡ get_or held.rows k no_row
+    pub turn_taken : {r : Room} {old rooms carried : List ℕ} {said : ℕ} → r ≡ get_or held.rows k no_row
         → rooms ≡ sets xs (room_numbers * k) (room_row r)
-        → said ≡ said_number (verdict_of verdict) → carried ≡ said_values (verdict_of verdict)
-        → TurnsRooms xs lists number old (record { number = 0; values = k ∷ said ∷ next ∷ [] }) rooms new carried
-    turn_taken r rooms carried said at stored number_is values_are =
+        → said ≡ said_number (outcome_of round) → carried ≡ said_values (outcome_of round)
+        → TurnsRooms xs lists number old (Ok (k ∷ said ∷ next ∷ [])) rooms new carried
+    turn_taken {r} {old} {rooms} {carried} {said} at stored number_is values_are =
         let same : rooms ≡ sets xs (room_numbers * k) (room_row (row_in (lent_by after x) k)) =
         stored ∙ ap (λ (y : Room). sets xs (room_numbers * k) (room_row y)) (at ∙ row_is) in
         record {
@@ -168,7 +160,7 @@ module _ (xs lists : List ℕ) (number : ℕ) (old : List ℕ) (first : List Roo
           left =
               record {
                 rooms = rw o same;
-                lists = rw o (lists_are (Turned k verdict next) is);
+                lists = rw o (lists_are (Ok (Took k round next)) is);
                 carried = rw o values_are;
                 back = rw o
                     (ap rooms_in (same ∙ ap (λ (y : Room). sets xs (room_numbers * k) (room_row y)) stored_row)
@@ -176,16 +168,12 @@ module _ (xs lists : List ℕ) (number : ℕ) (old : List ℕ) (first : List Roo
               };
         }
 
--- the numbers passed row 100
-module _ (xs lists : List ℕ) (number : ℕ) (old : List ℕ) (fault : Verdict) (tested : verdict_of fault ≡ rooms_fault (length xs)) where
-  pub numbers_turned : (a : TurnNumbers) (rooms new carried : List ℕ) → fault ≡ Accepted
+-- the numbers passed row 100, or did not
+module _ (xs lists : List ℕ) (number : ℕ) (old : List ℕ) where
+  pub numbers_turned : answered tt ≡ rooms_fault (length xs) → {a : Result (List ℕ) Refusal} {rooms new carried : List ℕ}
       → TurnsRooms xs lists number old a rooms new carried → TurnsNumbers xs lists number old a rooms new carried
-  numbers_turned a rooms new carried ok turned =
-      let passed : rooms_fault (length xs) ≡ answered tt = by_accepted tested ok in rw passed turned
+  numbers_turned passed turned = rw (← passed) turned
 
-  pub numbers_no_rows : (c : Refusal) (a : TurnNumbers) → fault ≡ Refused c
-      → a ≡ record { number = (code_of c).number; values = three (code_of c).carries }
-      → TurnsNumbers xs lists number old a xs lists old
-  numbers_no_rows c a is e =
-      let failed : rooms_fault (length xs) ≡ refused (code_of c) = by_refused tested is in
-      numbers_refused xs lists old (turn_in xs lists number) c a (rw failed) e
+  pub numbers_no_rows : {z : Refusal} → refused (code_of z) ≡ rooms_fault (length xs)
+      → TurnsNumbers xs lists number old (Err z) xs lists old
+  numbers_no_rows failed = numbers_refused xs lists old (turn_in xs lists number) (rw (← failed))

@@ -1,11 +1,12 @@
 -- A turn over rows of numbers: what it answers, and what it leaves in all that is lent.
-use Rattle.std.specs.Prelude.{ℕ, ◌+◌, ◌*◌, ◌<◌, ◌≤◌, ◌≡◌, ◌⊎◌, List, [], ◌∷◌, length, get_or}
+use Rattle.std.specs.Prelude.{ℕ, ◌+◌, ◌*◌, ◌<◌, ◌≤◌, ◌≡◌, ◌⊎◌, List, [], ◌∷◌, length, get_or, Result}
 use Rattle.std.proofs.lemmas.List.Edits.{sets}
 use Rattle.base.specs.Outcomes.{Outcome, answered, refused, and_then}
+use Rattle.list.specs.Refusals.{outcome_of}
+use Rattle.list.specs.declared.types.Refusal.{Refusal}
 use Rattle.codes.specs.Codes.{three}
 use Rattle.rooms.specs.Turns.{Lent, row_in, Turn, took, none_unfinished, turn_of, lent_by}
 use Rattle.room_rows.specs.RoomRows.{room_numbers, rooms_in, room_row, rooms_fault}
-use Rattle.room_rows.specs.declared.turn.TurnNumbers.{TurnNumbers}
 
 -- what is lent, as rooms and their lists
 abbrev pub lent_in : List ℕ → List ℕ → Lent
@@ -30,10 +31,9 @@ abbrev pub turn_values : ℕ → Turn → List ℕ
 turn_values m (took k said next) = k ∷ said_number said ∷ next ∷ []
 turn_values m (none_unfinished used) = m ∷ 0 ∷ used ∷ []
 
--- 0 with those values, or the turn's own refusal
-abbrev pub numbers_by : ℕ → Outcome Turn → TurnNumbers
-numbers_by m (answered t) = record { number = 0; values = turn_values m t }
-numbers_by m (refused k) = record { number = k.number; values = three k.carries }
+-- those values, or the turn's own refusal
+abbrev pub numbers_by : ℕ → Outcome Turn → Outcome (List ℕ)
+numbers_by m o = and_then o (λ t. answered (turn_values m t))
 
 -- the rooms' numbers after a turn with this outcome: those of the room that had it are its row's, and no other changes
 abbrev pub rooms_by : Outcome Turn → Lent → List ℕ → List ℕ
@@ -61,12 +61,12 @@ RoomsLaw =
     → get_or (rooms_by (answered (took i said next)) x xs) j 0 ≡ get_or xs j 0
 
 -- what it answers, and leaves
-pub record NumbersTurn (x : Lent) (o : Outcome Turn) (xs old_carried : List ℕ) (a : TurnNumbers)
+pub record NumbersTurn (x : Lent) (o : Outcome Turn) (xs old_carried : List ℕ) (a : Result (List ℕ) Refusal)
     (new_rooms new_lists new_carried : List ℕ) : Type 0 where
-  pub answer : a ≡ numbers_by (length x.rows) o
+  pub answer : outcome_of a ≡ numbers_by (length x.rows) o
   pub left : RoomsLeft x o xs old_carried new_rooms new_lists new_carried
 
 -- what `turn_numbers` answers of rooms as numbers, their lists and a number, and leaves there
-abbrev pub TurnsNumbers : (xs lists : List ℕ) (number : ℕ) (carried : List ℕ) → TurnNumbers → (new_rooms new_lists new_carried : List ℕ)
-    → Type 0
+abbrev pub TurnsNumbers : (xs lists : List ℕ) (number : ℕ) (carried : List ℕ) → Result (List ℕ) Refusal
+    → (new_rooms new_lists new_carried : List ℕ) → Type 0
 TurnsNumbers xs lists number carried = NumbersTurn (lent_in xs lists) (turn_in xs lists number) xs carried

@@ -7,4 +7,4 @@
 mod rows;
 mod turn;
 
-pub use turn::{TurnNumbers, turn_numbers};
+pub use turn::turn_numbers;

@@ -1,29 +1,29 @@
 // A room as three numbers: its stage, rounds and moves.
 ghost use Rattle.std.specs.Prelude.{◌≡◌, ◌+◌, ◌*◌, ◌≤◌, ◌/◌, length, get_or};
 ghost use Rattle.std.proofs.lemmas.List.Edits.{sets};
-ghost use Rattle.list.specs.Refusals.{verdict_of};
+ghost use Rattle.list.specs.Refusals.{outcome_of};
 ghost use Rattle.rooms.specs.Turns.{no_row, eight_rows};
 ghost use Rattle.room_rows.specs.RoomRows.{room_numbers, stage_of, stage_number, rooms_in, room_row, rooms_fault};
 
-use list::types::{Refusal, Verdict};
+use list::types::Refusal;
 use rooms::no_row;
 use rooms::types::{Room, Stage};
 
 pub(crate) const ROOM_NUMBERS: usize = 3;
 
 // Row 100 if three does not divide so many numbers.
-pub(crate) fn rooms_fault(numbers: usize) -> Verdict
-    ensures { verdict_of result ≡ rooms_fault numbers }
+pub(crate) fn rooms_fault(numbers: usize) -> Result<(), Refusal>
+    ensures { outcome_of result ≡ rooms_fault numbers }
 {
     let over = numbers % ROOM_NUMBERS;
     if over == 0 {
-        Verdict::Accepted
+        Ok(())
     } else {
-        Verdict::Refused(Refusal::BadFlatLength(numbers - over))
+        Err(Refusal::BadFlatLength(numbers - over))
     }
 }
 
-// The stage that a number says; any number over 3 counts as 3.
+// The stage that a number says; any number over 3 counts as 3. Not a `From`: neither type is of this crate, and 4 says what 3 says.
 fn stage_of(number: u32) -> Stage
     ensures { result ≡ stage_of number }
 {

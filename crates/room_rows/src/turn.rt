@@ -1,47 +1,25 @@
 // A turn over rooms that are three numbers each.
 ghost use Rattle.std.specs.Prelude.{◌≡◌};
-ghost use Rattle.list.specs.Refusals.{code_of, verdict_of};
-ghost use Rattle.codes.specs.Codes.{three};
+ghost use Rattle.list.specs.Refusals.{outcome_of};
 ghost use Rattle.room_rows.specs.Calls.{said_number, said_values, TurnsNumbers};
 ghost use Rattle.room_rows.specs.Internal.{TurnsRooms};
 
 use crate::rows::{ROOM_NUMBERS, eight_rooms, put_room, rooms_fault};
 use codes::RefusalCode;
-use list::types::{Refusal, Verdict};
+use list::types::Refusal;
 use rooms::turn_held;
-use rooms::types::TurnAnswer;
+use rooms::types::{HeldAnswer, Turn};
 
-// What a turn answers: 0 with the room, the number of its refusal and the next number, or the number of the turn's own refusal with its
-// values.
-#[derive(Clone, Copy)]
-pub struct TurnNumbers {
-    pub number: u64,
-    pub values: [u64; 3],
-}
-
-// The turn's own refusal, as numbers.
-fn refused_as(x: Refusal) -> TurnNumbers
-    ensures { result ≡ record { number = (code_of x).number; values = three (code_of x).carries } }
+// The number of a room's refusal and the values that it carries; zeros where there is none.
+fn said_as(round: Result<(), Refusal>) -> RefusalCode
+    ensures { result ≡ record { number = said_number (outcome_of round); values = said_values (outcome_of round) } }
 {
-    let RefusalCode { number, values } = codes::numbers_of(x);
-    TurnNumbers { number, values }
-}
-
-// Stores the values that a room's refusal carries, and answers its number; zeros and 0 where there is none.
-fn put_said(verdict: Verdict, carried: &mut [u64; 3]) -> u64
-    ensures { (result ≡ said_number (verdict_of verdict)) × (carried.new ≡ said_values (verdict_of verdict)) }
-{
-    match verdict {
-        Verdict::Accepted => {
-            *carried = [0, 0, 0];
-            0
-        }
-        Verdict::Refused(x) => {
-            let code = codes::numbers_of(x);
-            let values = code.values;
-            *carried = values;
-            code.number
-        }
+    match round {
+        Ok(()) => RefusalCode {
+            number: 0,
+            values: [0, 0, 0],
+        },
+        Err(x) => codes::numbers_of(x),
     }
 }
 
@@ -51,43 +29,35 @@ fn take_numbers(
     lists: &mut [u8],
     number: usize,
     carried: &mut [u64; 3],
-) -> TurnNumbers
+) -> Result<[u64; 3], Refusal>
     ensures { TurnsRooms numbers.old lists.old number carried.old result
         numbers.new lists.new carried.new }
 {
     let n = numbers.len() / ROOM_NUMBERS;
-    let held = turn_held(eight_rooms(numbers), n, lists, number);
-    match held.answer {
-        TurnAnswer::NotTurned(x) => refused_as(x),
-        TurnAnswer::NoneUnfinished(used) => TurnNumbers {
-            number: 0,
-            values: [n as u64, 0, used as u64],
-        },
-        TurnAnswer::Turned(k, verdict, next) => {
-            put_room(held.rows[k], k, numbers);
-            let said = put_said(verdict, carried);
-            TurnNumbers {
-                number: 0,
-                values: [k as u64, said, next as u64],
-            }
+    let HeldAnswer { rows, answer } = turn_held(eight_rooms(numbers), n, lists, number);
+    match answer? {
+        Turn::NoneUnfinished(used) => Ok([n as u64, 0, used as u64]),
+        Turn::Took { room, round, next } => {
+            put_room(rows[room], room, numbers);
+            let RefusalCode { number, values } = said_as(round);
+            *carried = values;
+            Ok([room as u64, number, next as u64])
         }
     }
 }
 
-// A turn over rooms that are three numbers each: row 100 if three does not divide their count, then `turn`. A refused turn and one with
-// nothing unfinished leave all that is lent; else the numbers of the room that had it, its share and `carried` are written.
+// A turn over rooms that are three numbers each: row 100 if three does not divide their count, then `turn`. It answers the room that had
+// it, the number of its refusal and the next number, or the turn's own refusal. A refused turn and one with nothing unfinished leave all
+// that is lent; else the numbers of the room that had it, its share and `carried` are written.
 pub fn turn_numbers(
     numbers: &mut [u32],
     lists: &mut [u8],
     number: usize,
     carried: &mut [u64; 3],
-) -> TurnNumbers
+) -> Result<[u64; 3], Refusal>
     ensures { TurnsNumbers numbers.old lists.old number carried.old result
         numbers.new lists.new carried.new }
 {
-    let fault = rooms_fault(numbers.len());
-    match fault {
-        Verdict::Accepted => take_numbers(numbers, lists, number, carried),
-        Verdict::Refused(x) => refused_as(x),
-    }
+    rooms_fault(numbers.len())?;
+    take_numbers(numbers, lists, number, carried)
 }

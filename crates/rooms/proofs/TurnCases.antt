@@ -8,20 +8,21 @@ use native.Mathlib.Omega.{arith}
 use borrow.Author.Tests.{lt-ltb, le-ltb, ne_eqb, eq-eqb}
 use lib.ListN.{length, get_or, take, drop}
 use lib.Seq.{drop-drop}
+use Rattle.std.specs.Prelude.{Some, None, Ok, Err}
 use Rattle.base.specs.Outcomes.{code, Outcome, answered, refused}
 use Rattle.list.specs.Machine.{Bytes}
 use Rattle.list.specs.Refusals.{code_of}
 use Rattle.list.specs.declared.types.DayList.{DayList}
 use Rattle.list.specs.declared.types.Refusal.{Refusal}
+use Rattle.list.proofs.Answered.{the_ok, not_both}
 use Rattle.shares.specs.Shares.{share_bytes}
 use Rattle.rooms.specs.Cycles.{number_after, number_used, next_from, next_unfinished}
 use Rattle.rooms.specs.Rooms.{round_in, row_after, said_by}
 use Rattle.rooms.specs.Turns.{most_rooms, no_row, share_of, took, none_unfinished, answer_of}
-use Rattle.rooms.specs.Internal.{RoundsRoom, unfinished_in, round_at, answer_held, TakesTurn}
+use Rattle.rooms.specs.Internal.{RoundsRoom, unfinished_in, FindsNext, round_at, answer_held, TakesTurn}
 use Rattle.rooms.specs.declared.types.Room.{Room}
 use Rattle.rooms.specs.declared.types.RoomAnswer.{RoomAnswer}
-use Rattle.rooms.specs.declared.types.TurnTaken.{TurnTaken}
-use Rattle.rooms.specs.declared.types.TurnAnswer.TheVariants.{NotTurned, NoneUnfinished, Turned}
+use Rattle.rooms.specs.declared.types.Turn.TheVariants.{NoneUnfinished, Took}
 
 -- numbers
 pub after_more : (n k : ℕ) → k + 1 < n → k + 1 ≡ number_after n k
@@ -78,44 +79,46 @@ module _ (rows : List Room) (n number : ℕ) (lists : List ℕ) where
       unfolding answer_held answer_of
       answer_short h = rw (ne_eqb n 0 some, le-ltb most_rooms n few, lt-ltb (length lists) (n * share_bytes) h)
 
-      module _ (long : n * share_bytes ≤ length lists) (k : ℕ) (is : k ≡ next_unfinished (unfinished_in rows) n number) where
-        pub answer_took : k < n → answer_held rows n number lists ≡ answered (took k (said_by (round_at rows k lists)) (number_after n k))
+      module _ (long : n * share_bytes ≤ length lists) where
+        pub answer_took : (k : ℕ) → FindsNext (unfinished_in rows) n number (Some k)
+            → answer_held rows n number lists ≡ answered (took k (said_by (round_at rows k lists)) (number_after n k))
         unfolding answer_held answer_of
-        answer_took h =
+        answer_took k (h, is) =
             rw (ne_eqb n 0 some, le-ltb most_rooms n few, le-ltb (length lists) (n * share_bytes) long, ← is, lt-ltb k n h)
 
-        pub answer_nothing : n ≤ k → answer_held rows n number lists ≡ answered (none_unfinished (number_used n number))
+        pub answer_nothing : FindsNext (unfinished_in rows) n number None
+            → answer_held rows n number lists ≡ answered (none_unfinished (number_used n number))
         unfolding answer_held answer_of
-        answer_nothing h =
-            rw (ne_eqb n 0 some, le-ltb most_rooms n few, le-ltb (length lists) (n * share_bytes) long, ← is, le-ltb k n h)
+        answer_nothing is =
+            let past : n ≤ n = omega arith in
+            rw (ne_eqb n 0 some, le-ltb most_rooms n few, le-ltb (length lists) (n * share_bytes) long, ← is, le-ltb n n past)
 
   -- what is answered
   module _ (b : Bytes lists) where
-    pub takes_refused : (x : Refusal) (a : TurnTaken) → answer_held rows n number lists ≡ refused (code_of x)
-        → a ≡ record { at = n; row = no_row; answer = NotTurned x }
-        → TakesTurn rows n number lists a lists
-    takes_refused x a e is = record { answer = rw (e, is); at = rw (e, is); row = rw (e, is); lists = rw e; bytes = b }
+    pub takes_refused : (x : Refusal) → answer_held rows n number lists ≡ refused (code_of x)
+        → TakesTurn rows n number lists (Err x) lists
+    takes_refused x e = record { answer = sym e; stored = λ t ok. absurd (not_both {r = Err x} ok refl); lists = rw e; bytes = b }
 
-    pub takes_nothing : (used : ℕ) (a : TurnTaken) → answer_held rows n number lists ≡ answered (none_unfinished (number_used n number))
-        → used ≡ number_used n number → a ≡ record { at = n; row = no_row; answer = NoneUnfinished used }
-        → TakesTurn rows n number lists a lists
-    takes_nothing used a e z is =
-        record { answer = rw (e, is, z); at = rw (e, is); row = rw (e, is); lists = rw e; bytes = b }
+    pub takes_nothing : (used : ℕ) → answer_held rows n number lists ≡ answered (none_unfinished (number_used n number))
+        → used ≡ number_used n number
+        → TakesTurn rows n number lists (Ok (record { turn = NoneUnfinished used; stored = None })) lists
+    takes_nothing used e z =
+        record { answer = rw (e, z); stored = λ t ok. rw (e, ← the_ok ok) refl; lists = rw e; bytes = b }
 
     module _ (k : ℕ) (e : answer_held rows n number lists ≡ answered (took k (said_by (round_at rows k lists)) (number_after n k))) where
       pub takes_room : (part new : List ℕ) (out : RoomAnswer) (next : ℕ) → RoundsRoom (get_or rows k no_row) part out new
           → part ≡ share_of k lists → next ≡ number_after n k
-          → TakesTurn rows n number lists (record { at = k; row = out.row; answer = Turned k out.verdict next })
+          → TakesTurn rows n number lists (Ok (record { turn = Took k out.round next; stored = Some (k, out.row) }))
           (take (k * share_bytes) lists ++ (new ++ drop ((k * share_bytes + share_bytes) - k * share_bytes) (drop (k * share_bytes) lists)))
       takes_room part new out next made is z =
           let size : (k * share_bytes + share_bytes) - k * share_bytes ≡ share_bytes = omega arith in
           let at = k * share_bytes in
           let rest : drop ((at + share_bytes) - at) (drop at lists) ≡ drop (at + share_bytes) lists =
           ap (λ (y : ℕ). drop y (drop at lists)) size ∙ drop-drop share_bytes at lists in
+          let row = made.row ∙ ap (λ (p : List ℕ). row_after (get_or rows k no_row) (round_on p)) is in
           record {
             answer = (λ i. answered (took k ((made.said ∙ ap (λ (p : List ℕ). said_by (round_on p)) is) i) (z i))) ∙ sym e;
-            at = rw e;
-            row = rw e (made.row ∙ ap (λ (p : List ℕ). row_after (get_or rows k no_row) (round_on p)) is);
+            stored = λ t ok. rw (e, ← the_ok ok) (ap (λ (r : Room). Some (k, r)) row);
             lists = rw (e, rest, made.share, is);
             bytes = b;
           }

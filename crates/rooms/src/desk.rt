@@ -1,12 +1,12 @@
 // A turn over rows held by value and the lists lent: which room has it, and its round.
 ghost use Rattle.std.specs.Prelude.{◌≡◌, ◌<◌, ◌≤◌};
-ghost use Rattle.rooms.specs.Cycles.{number_after, number_used, next_unfinished};
+ghost use Rattle.rooms.specs.Cycles.{number_after, number_used};
 ghost use Rattle.rooms.specs.Rooms.{is_unfinished};
 ghost use Rattle.rooms.specs.Turns.{most_rooms, no_row};
-ghost use Rattle.rooms.specs.Internal.{unfinished_in, TakesTurn};
+ghost use Rattle.rooms.specs.Internal.{unfinished_in, FindsNext, TakesTurn};
 
 use crate::room::room_round;
-use crate::types::{Room, Stage, TurnAnswer, TurnTaken};
+use crate::types::{Room, RoomAnswer, Stage, Turn, TurnTaken};
 use list::types::Refusal;
 use shares::SHARE_BYTES;
 
@@ -44,30 +44,19 @@ fn number_used(n: usize, number: usize) -> usize
     if number < n { number } else { 0 }
 }
 
-// The next unfinished of the first n rooms in cyclic order from the number handed in; n where there is none.
-fn next_unfinished(rows: [Room; MOST_ROOMS], n: usize, number: usize) -> usize
+// The next unfinished of the first n rooms in cyclic order from the number handed in.
+fn next_unfinished(rows: [Room; MOST_ROOMS], n: usize, number: usize) -> Option<usize>
     requires { (1 ≤ n) × (n ≤ most_rooms) }
-    ensures { result ≡ next_unfinished (unfinished_in rows) n number }
+    ensures { FindsNext (unfinished_in rows) n number result }
 {
     let mut at = number_used(n, number);
     for _ in 0..n {
         if is_unfinished(rows[at].stage) {
-            return at;
+            return Some(at);
         }
         at = number_after(n, at);
     }
-    n
-}
-
-// A turn that stores no row.
-fn not_taken(n: usize, answer: TurnAnswer) -> TurnTaken
-    ensures { result ≡ record { at = n; row = no_row; answer = answer } }
-{
-    TurnTaken {
-        at: n,
-        row: no_row(),
-        answer,
-    }
+    None
 }
 
 // A turn of n rooms, whose rows are the first n of these: refusals 19 and 12, then the round of the next unfinished room on its share.
@@ -76,33 +65,30 @@ pub(crate) fn take_turn(
     rows: [Room; MOST_ROOMS],
     n: usize,
     number: usize,
-) -> TurnTaken
+) -> Result<TurnTaken, Refusal>
     ensures { TakesTurn rows n number lists.old result lists.new }
 {
     if n == 0 || MOST_ROOMS < n {
-        return not_taken(n, TurnAnswer::NotTurned(Refusal::RoomCount(n)));
+        return Err(Refusal::RoomCount(n));
     }
     if lists.len() < n * SHARE_BYTES {
-        return not_taken(
-            n,
-            TurnAnswer::NotTurned(Refusal::ListBufferShort(n * SHARE_BYTES)),
-        );
+        return Err(Refusal::ListBufferShort(n * SHARE_BYTES));
     }
-    let at = next_unfinished(rows, n, number);
-    if at < n {
-        let start = at * SHARE_BYTES;
-        let end = start + SHARE_BYTES;
-        let r = rows[at];
-        let out = room_round(r, &mut lists[start..end]);
-        let row = out.row;
-        let verdict = out.verdict;
-        let next = number_after(n, at);
-        return TurnTaken {
-            at,
-            row,
-            answer: TurnAnswer::Turned(at, verdict, next),
-        };
-    }
-    let used = number_used(n, number);
-    not_taken(n, TurnAnswer::NoneUnfinished(used))
+    let Some(at) = next_unfinished(rows, n, number) else {
+        return Ok(TurnTaken {
+            turn: Turn::NoneUnfinished(number_used(n, number)),
+            stored: None,
+        });
+    };
+    let start = at * SHARE_BYTES;
+    let RoomAnswer { row, round } = room_round(rows[at], &mut lists[start..start + SHARE_BYTES]);
+    let next = number_after(n, at);
+    Ok(TurnTaken {
+        turn: Turn::Took {
+            room: at,
+            round,
+            next,
+        },
+        stored: Some((at, row)),
+    })
 }

@@ -3,7 +3,7 @@ ghost use Rattle.rooms.specs.Calls.{TurnsHeld};
 
 use crate::desk::MOST_ROOMS;
 use crate::lent::turn_first;
-use crate::types::{HeldAnswer, Room, TurnAnswer};
+use crate::types::{HeldAnswer, Room};
 use list::types::Refusal;
 
 // A turn at a desk of n rooms, whose rows are the first n of these: `turn` over them, or row 19 where there are more than eight.
@@ -13,7 +13,7 @@ pub fn turn_held(rows: [Room; MOST_ROOMS], n: usize, lists: &mut [u8], number: u
     if MOST_ROOMS < n {
         return HeldAnswer {
             rows,
-            answer: TurnAnswer::NotTurned(Refusal::RoomCount(n)),
+            answer: Err(Refusal::RoomCount(n)),
         };
     }
     turn_first(rows, n, lists, number)

@@ -14,9 +14,11 @@ loop-init c =
     (subst (λ (k : ℕ). k < c.args.n) (sym at_says) (used_below _ _ c.requires.0), rw all (search_starts _ _ _ _ at_says))
 
 pub returns-then-is_unfinished : goal.returns-then-is_unfinished
-returns-then-is_unfinished c =
-    sym (c.loop.invariant.1 ∙ search_found _ _ (c.args.n - c.loop.counter) c.loop.at (omega arith)
-    (sym c.is_unfinished.ensures ∙ c.if-is_unfinished.true))
+returns-then-is_unfinished c = (
+  c.loop.invariant.0,
+  sym (c.loop.invariant.1 ∙ search_found _ _ (c.args.n - c.loop.counter) c.loop.at (omega arith)
+      (sym c.is_unfinished.ensures ∙ c.if-is_unfinished.true)),
+)
 
 pub loop-preserved : goal.loop-preserved
 loop-preserved c =

@@ -17,27 +17,22 @@ returns-then-n-eq0 c =
       | then-n-eq0-via-else-n-eq0+then-n-gt-MOST_ROOMS w ↦
           answer_many c.args.rows c.args.n c.args.number c.args.lists.now w.if-n-eq0.false w.if-n-gt-MOST_ROOMS.true
     ] in
-    takes_refused _ _ _ _ (λ i. search rules) _ c.not_taken.result is_refused c.not_taken.ensures
+    takes_refused _ _ _ _ (λ i. search rules) _ is_refused
 
 pub returns-then-lists-n : goal.returns-then-lists-n
 returns-then-lists-n c =
-    takes_refused _ _ _ _ (λ i. search rules) _ c.not_taken-then-lists-n.result
+    takes_refused _ _ _ _ (λ i. search rules) _
     (answer_short _ _ c.args.number c.args.lists.now c.if-n-eq0.false c.if-n-gt-MOST_ROOMS.false c.if-lists-n.true)
-    c.not_taken-then-lists-n.ensures
 
-pub returns-then-at-n : goal.returns-then-at-n
-returns-then-at-n c =
-    let took =
-    answer_took _ _ c.args.number c.args.lists.now c.if-n-eq0.false c.if-n-gt-MOST_ROOMS.false c.if-lists-n.false
-    c.next_unfinished-at.result c.next_unfinished-at.ensures c.if-at-n.true in
-    takes_room _ _ _ _ (λ i. search rules) c.next_unfinished-at.result took _ _ c.room_round-out.result _
-    c.room_round-out.ensures
-    (share_lent c.args.lists.now c.next_unfinished-at.result) c.number_after-next.ensures
+pub returns-in_default : goal.returns-in_default
+returns-in_default c =
+    takes_nothing _ _ _ _ (λ i. search rules) _
+    (answer_nothing _ _ c.args.number c.args.lists.now c.if-n-eq0.false c.if-n-gt-MOST_ROOMS.false c.if-lists-n.false c.in_default.ensures)
+    c.number_used.ensures
 
 pub returns : goal.returns
 returns c =
-    let none =
-    answer_nothing _ _ c.args.number c.args.lists.now c.if-n-eq0.false c.if-n-gt-MOST_ROOMS.false c.if-lists-n.false
-    c.next_unfinished-at.result c.next_unfinished-at.ensures c.if-at-n.false in
-    takes_nothing _ _ _ _ (λ i. search rules) _ c.not_taken-2.result none
-    c.number_used-used.ensures c.not_taken-2.ensures
+    let took =
+    answer_took _ _ c.args.number c.args.lists.now c.if-n-eq0.false c.if-n-gt-MOST_ROOMS.false c.if-lists-n.false _ c.in-Some.ensures in
+    takes_room _ _ _ _ (λ i. search rules) c.in-Some.at took _ _ c.room_round-round.result _ c.room_round-round.ensures
+    (share_lent c.args.lists.now c.in-Some.at) c.number_after-next.ensures

@@ -1,13 +1,30 @@
 -- `lent::turn` meets its contract: the turn over eight rows held by value, and the row stored, are the turn over what is lent.
 -- Assumes nothing.
-use mathlib.Core.Path.{◌≡◌, ap, ◌∙◌}
-use Rattle.rooms.specs.Turns.{eight_rows}
-use Rattle.rooms.proofs.EightRows.{eight}
-use Rattle.rooms.proofs.LentTurns.{turn_lent}
+use Rattle.std.proofs.Common.{rules, ◌<◌, ◌≤◌, length}
+use Rattle.list.proofs.Answered.{passed_on}
+use Rattle.rooms.specs.Turns.{most_rooms}
+use Rattle.rooms.proofs.LentTurns.{turn_stopped, stored_inside, turn_lent}
 use Rattle.rooms.proofs.lent.turn.Goals as goal
 
-pub returns : goal.returns
-returns c =
-    let rows : c.gather-rows.result ≡ eight c.args.rooms.now = c.gather-rows.ensures ∙ ap (eight_rows c.args.rooms.now) c.no_row.ensures in
-    turn_lent c.args.rooms.now c.args.lists.now c.args.number c.take_turn-taken.result c.take_turn-taken.new.lists
-    (rw rows at c.take_turn-taken.ensures) c.put_or.new.rooms c.put_or.ensures
+pub returns-in_err-turn : goal.returns-in_err-turn
+returns-in_err-turn c =
+    rw (passed_on _ _ c.from_residual.ensures.1)
+    (turn_stopped c.args.rooms.now c.args.lists.now c.args.number (rw c.gather-rows.ensures at c.in_err-turn.ensures))
+
+stored_at : (c : goal.In-Some) → (c.in-Some.at < length c.args.rooms.now) × (length c.args.rooms.now ≤ most_rooms)
+stored_at c =
+    stored_inside c.args.rooms.now c.args.lists.now c.args.number (rw c.gather-rows.ensures at c.in_ok-turn.ensures) c.in-Some.is
+
+pub offset_bounds-rooms-at : goal.offset_bounds-rooms-at
+offset_bounds-rooms-at c = search (rules, stored_at c)
+
+pub bounds-rooms-at : goal.bounds-rooms-at
+bounds-rooms-at c = (stored_at c).0
+
+pub returns-in-Some : goal.returns-in-Some
+returns-in-Some c =
+    turn_lent c.args.rooms.now c.args.lists.now c.args.number (rw c.gather-rows.ensures at c.in_ok-turn.ensures) c.in-Some.is
+
+pub returns-in_default : goal.returns-in_default
+returns-in_default c =
+    turn_lent c.args.rooms.now c.args.lists.now c.args.number (rw c.gather-rows.ensures at c.in_ok-turn.ensures) c.in_default.is
