@@ -8,14 +8,14 @@ use native.Mathlib.Omega.{arith}
 use borrow.Author.Tests.{le-ltb}
 use lib.ListN.{length, get_or, take, length-take}
 use lib.Seq.{take_at}
+use Rattle.std.specs.Prelude.{Result, Ok, Err}
 use Rattle.base.specs.Outcomes.{answered, refused}
 use Rattle.base.proofs.Inversion.{refused_same}
 use Rattle.list.specs.DayLists.{whole_in}
 use Rattle.list.specs.Refusals.{code_of, outcome_of}
-use Rattle.list.proofs.Answered.{the_ok, not_both}
 use Rattle.list.specs.declared.types.DayList.{DayList}
 use Rattle.list.specs.declared.types.Refusal.{Refusal}
-use Rattle.std.specs.Prelude.{Err, Ok, Result}
+use Rattle.list.proofs.Answered.{the_ok, not_both}
 use Rattle.list.proofs.ByPlace.{by_place_lem}
 use Rattle.windows.specs.Windows.{Windows, windows_of, windows_in}
 use Rattle.windows.specs.Intervals.{overload_of}
@@ -55,7 +55,9 @@ module _ (l : DayList) (limit : ℕ) (old : List ℕ) (a : Result UnbrokenSearch
         tells = λ u q. absurd (not_both q e);
         unsearched = λ j q. (rw is (ap refused (refused_same (ap outcome_of e) (ap outcome_of q))), refl);
         law = λ passed. rw after.holds.narrowed (plan_law l (length old) passed);
-        refused_none = λ passed j q. refused_none (whole_in l) (windows_of l) (plan_of l (length old)) (plan_law l (length old) passed) _ is;
+        refused_none =
+            λ passed j q.
+            refused_none (whole_in l) (windows_of l) (plan_of l (length old)) (plan_law l (length old) passed) _ is;
         larger = λ _ more _. rw is refl;
         no_whole = λ u q. absurd (not_both q e);
       }

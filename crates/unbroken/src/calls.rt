@@ -1,5 +1,5 @@
 // Looking for an unbroken day.
-ghost use Rattle.std.specs.Prelude.{◌≡◌, cond};
+ghost use Rattle.std.specs.Prelude.{◌≡◌};
 ghost use Rattle.list.specs.DayLists.{marked};
 ghost use Rattle.windows.specs.Windows.{windows_in};
 ghost use Rattle.unbroken.specs.Calls.{whole_starts, FindsUnbroken};
@@ -16,13 +16,6 @@ use planner::plan_checks;
 use windows::types::WindowSet;
 use windows::{unchecked_windows, zeros};
 
-// The start of an entry whose window begins with it, if it is whole, else 0.
-fn start_of(whole: bool, r: u16) -> u16
-    ensures { result ≡ cond whole r 0 }
-{
-    if whole { r } else { 0 }
-}
-
 // The starts of the whole entries where they are fixed in the windows.
 fn whole_starts(whole: [bool; ENTRIES], windows: WindowSet) -> [u16; ENTRIES]
     ensures { result ≡ whole_starts (marked whole) (windows_in windows) }
@@ -30,7 +23,7 @@ fn whole_starts(whole: [bool; ENTRIES], windows: WindowSet) -> [u16; ENTRIES]
     let mut starts = zeros();
     let count = places_held(windows.n);
     for i in 0..count {
-        starts[i] = start_of(whole[i], windows.r[i]);
+        starts[i] = if whole[i] { windows.r[i] } else { 0 };
     }
     starts
 }
