@@ -2,7 +2,7 @@
 -- Assumes nothing.
 use mathlib.Core.Path.{refl, ◌∙◌}
 use native.Mathlib.Omega.{arith}
-use Rattle.list.proofs.ByPlace.{placed_none, placed_next, placed_all}
+use Rattle.list.proofs.ByPlace.{placed_none, placed_next}
 use Rattle.unbroken.proofs.calls.whole_starts.Goals as goal
 use Rattle.unbroken.proofs.calls.whole_starts.Goals.{then-whole-i, else-whole-i}
 
@@ -16,7 +16,3 @@ loop-i-preserved c =
       | then-whole-i w ↦ w.starts-is ∙ rw w.if-whole-i.true refl
       | else-whole-i w ↦ w.starts-is ∙ rw w.if-whole-i.false refl
     ])
-
-pub returns : goal.returns
-returns c =
-    placed_all _ _ _ _ c.loop-i.invariant (rw c.places_held-count.ensures at c.loop-i-test.false)
