@@ -34,9 +34,6 @@ next_found whole n k h (Some j) (from, below, is, pauses) =
 
 -- Which starts are fixed.
 module _ (whole : ℕ → Bool) (w : Windows) where
-  pub fixed_none : FixedBelow whole w w 0
-  fixed_none = record { entries = refl; later = λ i _. (refl, refl); pauses = λ i _. (refl, refl) }
-
   module _ (v : Windows) (k : ℕ) (so : FixedBelow whole w v k) where
     fixed_later : (j : ℕ) → k ≤ j → FixedBelow whole w v j
     fixed_later j h = record { entries = so.entries; later = λ i l. so.later i (omega arith); pauses = so.pauses }
@@ -203,10 +200,6 @@ module _ (whole : ℕ → Bool) (s : WindowSet) (limit : ℕ) where
           let z : x ≡ spent at.trials =
           way_start ∙ start_spent limit whole given at.place at.start now at.trials left.room l in
           record { ending = rw z refl; windows = rw z refl; trials = rw z refl }
-
-      pub way_tried : at.trials < limit → (next : Position) → Tries whole given at next → OnTheWay whole given limit next
-      way_tried l next tries =
-          record { stands = tries.stands; spent = omega (arith, tries.trials); means = tries.means limit l ∙ way.means }
 
       -- no start is left
       module _ (e : leb (at.start + given.p at.place) (given.d at.place) ≡ false) where

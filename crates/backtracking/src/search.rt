@@ -9,8 +9,8 @@ ghost use Rattle.backtracking.specs.Calls.{is_found, ending_number, SearchesWind
 ghost use Rattle.backtracking.specs.Internal.{NextWhole, LastWhole, FixedBelow, Stands, Entered, Reopens, StartLeft, Tries};
 
 use crate::types::{Ending, SearchAnswer};
+use list::places_held;
 use list::types::ENTRIES;
-use list::{is_accepted, places_held};
 use windows::types::WindowSet;
 use windows::unchecked_overload;
 
@@ -27,7 +27,7 @@ pub struct Position {
 pub fn is_found(ending: Ending) -> bool
     ensures { result ≡ is_found ending }
 {
-    matches!(ending, Ending::DayFound)
+    ending == Ending::DayFound
 }
 
 // How the search ended, as a number.
@@ -35,7 +35,6 @@ pub fn ending_number(ending: Ending) -> u64
     ensures { result ≡ ending_number ending }
 {
     match ending {
-        Ending::Unsearched => 0,
         Ending::DayFound => 1,
         Ending::NoneExists => 2,
         Ending::TrialsSpent => 3,
@@ -57,7 +56,7 @@ fn with_window(windows: WindowSet, k: usize, s: u16, e: u16) -> WindowSet
 fn has_plan(windows: WindowSet) -> bool
     ensures { result ≡ accepts (overload_of (windows_in windows)) }
 {
-    is_accepted(unchecked_overload(windows))
+    unchecked_overload(windows).is_ok()
 }
 
 // The first whole place from k on, or count for none.

@@ -32,5 +32,4 @@ unbroken_examples =
       short = refl;
       nine = refl;
       ten = refl;
-      ten_unsearched = refl;
     }

@@ -1,6 +1,6 @@
 -- The contract of looking for an unbroken day, from what the code has.
 -- Assumes nothing.
-use mathlib.Core.Path.{◌≡◌, refl, sym, ap, ◌∙◌}
+use mathlib.Core.Path.{◌≡◌, refl, sym, ap, subst, ◌∙◌}
 use mathlib.Core.Bool.{Bool, true, false, cond}
 use mathlib.Core.List.{List}
 use Prim.Native.Nat.{ℕ, ◌<◌, ◌≤◌}
@@ -8,14 +8,14 @@ use native.Mathlib.Omega.{arith}
 use borrow.Author.Tests.{le-ltb}
 use lib.ListN.{length, get_or, take, length-take}
 use lib.Seq.{take_at}
+use Rattle.std.specs.Prelude.{Result, Ok, Err}
 use Rattle.base.specs.Outcomes.{answered, refused}
-use Rattle.base.proofs.Inversion.{answered_refused}
+use Rattle.base.proofs.Inversion.{refused_same}
 use Rattle.list.specs.DayLists.{whole_in}
-use Rattle.list.specs.Refusals.{code_of, verdict_of}
+use Rattle.list.specs.Refusals.{code_of, outcome_of}
 use Rattle.list.specs.declared.types.DayList.{DayList}
 use Rattle.list.specs.declared.types.Refusal.{Refusal}
-use Rattle.list.specs.declared.types.Verdict.{Verdict}
-use Rattle.list.specs.declared.types.Verdict.TheVariants.{Accepted, Refused}
+use Rattle.list.proofs.Answered.{the_ok, not_both}
 use Rattle.list.proofs.ByPlace.{by_place_lem}
 use Rattle.windows.specs.Windows.{Windows, windows_of, windows_in}
 use Rattle.windows.specs.Intervals.{overload_of}
@@ -23,61 +23,52 @@ use Rattle.windows.proofs.FormedLists.{list_formed}
 use Rattle.jackson.specs.Calls.{buffer_fault, plan_after}
 use Rattle.jackson.specs.Minutes.{schedule}
 use Rattle.jackson.proofs.Schedules.{schedule_long}
-use Rattle.narrow.specs.declared.types.NarrowAnswer.{NarrowAnswer}
+use Rattle.narrow.specs.declared.types.NarrowedList.{NarrowedList}
 use Rattle.narrow.proofs.OverloadPlanner.{overload_planner}
-use Rattle.narrow.proofs.ListAnswers.{answers_refused}
 use Rattle.planner.specs.Calls.{plan_checks, plan_of, planned}
 use Rattle.planner.specs.Internal.{NarrowsAfter}
 use Rattle.planner.proofs.SettledPlans.{plan_law}
-use Rattle.planner.proofs.CallCases.{plan_formed, plan_room, after_checks, settled_in, IsSettled, is_settled, settled_few, settled_day}
+use Rattle.planner.proofs.CallCases.{plan_formed, plan_room, narrows_not, settled_in, IsSettled, is_settled, settled_few, settled_day}
 use Rattle.backtracking.specs.Searches.{Search, found, none, spent, trials_of, search_within}
 use Rattle.backtracking.specs.Laws.{with_starts, LeastDay, FoundLaw, UnbrokenLaw}
 use Rattle.backtracking.specs.Calls.{ending_of, windows_after, is_found, AnswersSearch}
 use Rattle.backtracking.specs.declared.types.Ending.TheVariants.{DayFound, TrialsSpent}
 use Rattle.backtracking.specs.declared.types.SearchAnswer.{SearchAnswer}
 use Rattle.backtracking.proofs.UnbrokenLaws.{settled_law, refused_none}
-use Rattle.unbroken.specs.Calls.{unbroken_of, whole_starts, starts_found, found_after, unsearched, start_in, TellsUnbroken}
-use Rattle.unbroken.specs.Calls.{FindsUnbroken}
+use Rattle.unbroken.specs.Calls.{unbroken_of, whole_starts, starts_found, found_after, narrowed_by_search, start_in, TellsUnbroken}
+use Rattle.unbroken.specs.Calls.{HoldsSearch, FindsUnbroken}
 use Rattle.unbroken.specs.Internal.{starts_said, StoresFound}
-use Rattle.unbroken.specs.declared.types.UnbrokenAnswer.{UnbrokenAnswer}
+use Rattle.unbroken.specs.declared.types.UnbrokenSearch.{UnbrokenSearch}
 use Rattle.backtracking.proofs.SaidEndings.{said_found, said_none, said_spent, same_starts, same_least}
 
--- A refusal is none.
-accepted_refused : (G : Type 0) {v : Verdict} (x : Refusal) → v ≡ Refused x → v ≡ Accepted → G
-accepted_refused G x e q = let z : answered tt ≡ refused (code_of x) = ap verdict_of (sym q ∙ e) in absurd (answered_refused refl z)
-
 -- Refused: nothing is searched.
-module _ (l : DayList) (limit : ℕ) (old : List ℕ) (v : Verdict) (x : Refusal) (e : v ≡ Refused x)
-    (is : plan_of l (length old) ≡ refused (code_of x)) (a : UnbrokenAnswer) (made : a ≡ unsearched v) where
+module _ (l : DayList) (limit : ℕ) (old : List ℕ) (a : Result UnbrokenSearch Refusal) (k : Refusal) (e : a ≡ Err k)
+    (is : plan_of l (length old) ≡ refused (code_of k)) where
   pub finds_refused : FindsUnbroken l limit old a old
   unfolding unbroken_of
   finds_refused =
       record {
         answers = after.answers;
         holds = after.holds;
-        ending = rw (is, made) refl;
-        trials = rw (is, made) refl;
-        starts = rw (is, made) refl;
+        search = λ u q. absurd (not_both q e);
         buffer = rw is refl;
-        tells = λ q. accepted_refused _ x turned q;
-        unsearched = λ _. (rw made refl, rw made refl, rw made refl, refl);
+        tells = λ u q. absurd (not_both q e);
+        unsearched = λ j q. (rw is (ap refused (refused_same (ap outcome_of e) (ap outcome_of q))), refl);
         law = λ passed. rw after.holds.narrowed (plan_law l (length old) passed);
-        refused_none = λ passed _. refused_none (whole_in l) (windows_of l) (plan_of l (length old)) (plan_law l (length old) passed) _ is;
+        refused_none =
+            λ passed j q.
+            refused_none (whole_in l) (windows_of l) (plan_of l (length old)) (plan_law l (length old) passed) _ is;
         larger = λ _ more _. rw is refl;
-        no_whole = λ q _. accepted_refused _ x turned q;
+        no_whole = λ u q. absurd (not_both q e);
       }
     where
-      turned : a.narrowed.verdict ≡ Refused x
-      turned = ap (λ (b : UnbrokenAnswer). b.narrowed.verdict) made ∙ e
-
-      after : NarrowsAfter (plan_checks l (length old)) l a.narrowed
+      after : NarrowsAfter (plan_checks l (length old)) l (narrowed_by_search a)
       after =
-          after_checks (plan_checks l (length old)) l (plan_formed l (length old)) a.narrowed
-          (answers_refused l a.narrowed (plan_of l (length old)) v x (ap (λ (b : UnbrokenAnswer). b.narrowed) made) e is)
+          narrows_not (plan_checks l (length old)) l (plan_formed l (length old)) (narrowed_by_search a) k (ap narrowed_by_search e) is
 
 -- Not refused: what the search's answer s says in the settled windows is answered, and a day that is found is stored.
-module _ (l : DayList) (limit : ℕ) (old : List ℕ) (n : NarrowAnswer) (after : NarrowsAfter (plan_checks l (length old)) l n)
-    (accepted : n.verdict ≡ Accepted) (s : SearchAnswer)
+module _ (l : DayList) (limit : ℕ) (old : List ℕ) (n : NarrowedList) (after : NarrowsAfter (plan_checks l (length old)) l (Ok n))
+    (s : SearchAnswer)
     (says : AnswersSearch (windows_of n.list) (search_within overload_of limit (whole_in l) (windows_of n.list)) s) (new : List ℕ)
     (stores : StoresFound s old new) where
   abbrev whole : ℕ → Bool
@@ -89,11 +80,11 @@ module _ (l : DayList) (limit : ℕ) (old : List ℕ) (n : NarrowAnswer) (after 
   abbrev x : Search
   x = search_within overload_of limit whole v
 
-  abbrev a : UnbrokenAnswer
+  abbrev a : UnbrokenSearch
   a = record { narrowed = n; ending = s.ending; trials = s.trials; starts = starts_said whole s }
 
   settled : IsSettled (plan_checks l (length old)) l n
-  settled = is_settled after accepted (plan_formed l (length old))
+  settled = is_settled after n refl (plan_formed l (length old))
 
   outcome : plan_of l (length old) ≡ answered (settled_in n)
   outcome = settled.outcome
@@ -186,39 +177,47 @@ module _ (l : DayList) (limit : ℕ) (old : List ℕ) (n : NarrowAnswer) (after 
         limits = law.limits;
       }
 
-  finds_said : FindsUnbroken l limit old a new
+  held : HoldsSearch whole (unbroken_of l limit (length old)) a
+  unfolding unbroken_of
+  held = record { ended = x; outcome = rw outcome refl; ending = says.ending; trials = says.trials; starts = starts_are }
+
+  no_whole : ((i : ℕ) → i < l.n → whole i ≡ false)
+      → (s.ending ≡ DayFound) × (s.trials ≡ 0) × (new ≡ planned schedule old (plan_of l (length old)))
+  no_whole pauses =
+      let given : v.n ≡ (windows_of l).n = ap (λ (y : Windows). y.n) settled.widest.entries in
+      let is = law.limits.no_whole (λ i h. pauses i (omega (arith, h, given, length-take l.n l.entries))) in
+      (says.ending ∙ ap ending_of is, says.trials ∙ ap trials_of is, stored ∙ rw (outcome, is) refl)
+
+  larger : (s.ending ≡ TrialsSpent → ⊥) → (more : ℕ) → limit ≤ more → unbroken_of l more (length old) ≡ unbroken_of l limit (length old)
+  unfolding unbroken_of
+  larger not more le = rw outcome (ap answered (go x refl))
+    where
+      go : (y : Search) → x ≡ y → search_within overload_of more whole v ≡ x
+      go (found u t) e = law.limits.larger_found more le u t e ∙ sym e
+      go (none t) e = law.limits.larger_none more le t e ∙ sym e
+      go (spent t) e = absurd (not (says.ending ∙ ap ending_of e))
+
+  finds_said : FindsUnbroken l limit old (Ok a) new
   unfolding unbroken_of
   finds_said =
       record {
         answers = after.answers;
         holds = after.holds;
-        ending = rw outcome says.ending;
-        trials = rw outcome says.trials;
-        starts = rw outcome starts_are;
+        search = λ u e. subst (HoldsSearch whole (unbroken_of l limit (length old))) (the_ok e) held;
         buffer = rw outcome stored;
-        tells = λ _. tells;
-        unsearched = λ not. absurd (not accepted);
+        tells =
+            λ u e. subst (λ (b : UnbrokenSearch). TellsUnbroken whole (windows_of l) limit b (take l.frame.h new)) (the_ok e) tells;
+        unsearched = λ k e. absurd (not_both refl e);
         law = λ passed. rw after.holds.narrowed (plan_law l (length old) passed);
-        refused_none = λ _ not. absurd (not accepted);
-        larger = larger;
-        no_whole = no_whole;
+        refused_none = λ _ k e. absurd (not_both refl e);
+        larger = λ not. larger (not a refl);
+        no_whole =
+            λ u e pauses.
+            subst
+            (λ (b : UnbrokenSearch). (b.ending ≡ DayFound) × (b.trials ≡ 0) × (new ≡ planned schedule old (plan_of l (length old))))
+            (the_ok e) (no_whole pauses);
       }
-    where
-      larger : (s.ending ≡ TrialsSpent → ⊥) → (more : ℕ) → limit ≤ more → unbroken_of l more (length old) ≡ unbroken_of l limit (length old)
-      larger not more le = rw outcome (ap answered (go x refl))
-        where
-          go : (y : Search) → x ≡ y → search_within overload_of more whole v ≡ x
-          go (found u t) e = law.limits.larger_found more le u t e ∙ sym e
-          go (none t) e = law.limits.larger_none more le t e ∙ sym e
-          go (spent t) e = absurd (not (says.ending ∙ ap ending_of e))
-
-      no_whole : n.verdict ≡ Accepted → ((i : ℕ) → i < l.n → whole i ≡ false)
-          → (s.ending ≡ DayFound) × (s.trials ≡ 0) × (new ≡ planned schedule old (plan_of l (length old)))
-      no_whole _ pauses =
-          let given : v.n ≡ (windows_of l).n = ap (λ (y : Windows). y.n) settled.widest.entries in
-          let is = law.limits.no_whole (λ i h. pauses i (omega (arith, h, given, length-take l.n l.entries))) in
-          (says.ending ∙ ap ending_of is, says.trials ∙ ap trials_of is, stored ∙ rw (outcome, is) refl)
 
   pub finds_searched : (starts : List ℕ) → starts ≡ starts_said whole s
-      → FindsUnbroken l limit old (record { narrowed = n; ending = s.ending; trials = s.trials; starts = starts }) new
+      → FindsUnbroken l limit old (Ok (record { narrowed = n; ending = s.ending; trials = s.trials; starts = starts })) new
   finds_searched starts e = rw e finds_said

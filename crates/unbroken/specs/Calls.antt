@@ -1,24 +1,25 @@
 -- What looking for an unbroken day of a list promises.
 use Rattle.std.specs.Prelude.{ℕ, ◌<◌, ◌≤◌, ◌≡◌, ◌↔◌, Bool, true, false, cond, List, [], ◌∷◌, ◌++◌, length, get_or, take, drop, replicate}
+use Rattle.std.specs.Prelude.{Result, Ok, Err}
 use Rattle.base.specs.Outcomes.{Code, code, Outcome, answered, refused, and_then}
-use Rattle.list.specs.DayLists.{empty_list, whole_in, most_entries, by_place}
+use Rattle.list.specs.DayLists.{whole_in, most_entries, by_place}
+use Rattle.list.specs.Refusals.{code_of}
 use Rattle.list.specs.Checks.{check_of, WellFormed}
 use Rattle.list.specs.declared.types.DayList.{DayList}
-use Rattle.list.specs.declared.types.Verdict.{Verdict}
-use Rattle.list.specs.declared.types.Verdict.TheVariants.{Accepted}
+use Rattle.list.specs.declared.types.Refusal.{Refusal}
 use Rattle.windows.specs.Windows.{Windows, windows_of}
 use Rattle.windows.specs.Intervals.{overload_of}
 use Rattle.jackson.specs.Minutes.{schedule}
 use Rattle.narrow.specs.Rounds.{Narrowed}
 use Rattle.narrow.specs.Laws.{NarrowLaw}
 use Rattle.narrow.specs.Calls.{settle_of, narrowed_in, AnswersAs, HoldsAnswer}
+use Rattle.narrow.specs.declared.types.NarrowedList.{NarrowedList}
 use Rattle.planner.specs.Calls.{plan_checks, plan_of, planned}
 use Rattle.backtracking.specs.Searches.{Search, found, none, spent, trials_of, search_all, search_within}
 use Rattle.backtracking.specs.Laws.{UnbrokenDay, NoneUnbroken, with_starts, LeastDay, LimitLaw}
 use Rattle.backtracking.specs.Calls.{ending_of}
-use Rattle.backtracking.specs.declared.types.Ending.{Ending}
-use Rattle.backtracking.specs.declared.types.Ending.TheVariants.{Unsearched, DayFound, NoneExists, TrialsSpent}
-use Rattle.unbroken.specs.declared.types.UnbrokenAnswer.{UnbrokenAnswer}
+use Rattle.backtracking.specs.declared.types.Ending.TheVariants.{DayFound, NoneExists, TrialsSpent}
+use Rattle.unbroken.specs.declared.types.UnbrokenSearch.{UnbrokenSearch}
 
 -- the rows of planning, that is the value check, 11, 9 and 10; then "Search inside the settled windows", with "a limit of trials"
 unfoldable pub unbroken_of : DayList → ℕ → ℕ → Outcome Search
@@ -32,16 +33,6 @@ pub record UnbrokenRowsLaw (l : DayList) (limit room : ℕ) : Type 0 where
   pub then : WellFormed l → l.frame.h ≤ room → (v : Narrowed) → settle_of l ≡ answered v
       → unbroken_of l limit room ≡ answered (search_within overload_of limit (whole_in l) v.windows)
 
--- how the search ended; beside a refusal nothing was searched
-abbrev pub ending_after : Outcome Search → Ending
-ending_after (answered x) = ending_of x
-ending_after (refused k) = Unsearched
-
--- "Trials are returned"; beside a refusal 0
-abbrev pub trials_after : Outcome Search → ℕ
-trials_after (answered x) = trials_of x
-trials_after (refused k) = 0
-
 -- the starts of the whole entries, where they are fixed in u; 0 for pause entries, and from n on
 abbrev pub whole_starts : (ℕ → Bool) → Windows → List ℕ
 whole_starts whole u = by_place u.n (λ i. cond (whole i) (u.r i) 0)
@@ -52,21 +43,15 @@ starts_found whole (found u t) = whole_starts whole u
 starts_found whole (none t) = replicate most_entries 0
 starts_found whole (spent t) = replicate most_entries 0
 
-abbrev pub starts_after : (ℕ → Bool) → Outcome Search → List ℕ
-starts_after whole (answered x) = starts_found whole x
-starts_after whole (refused k) = replicate most_entries 0
-
 -- the same in facts. `starts_law` of proofs/UnbrokenRows.antt
-pub record StartsLaw (whole : ℕ → Bool) (o : Outcome Search) : Type 0 where
-  pub long : length (starts_after whole o) ≡ 64
-  pub whole_start : (u : Windows) (t : ℕ) → o ≡ answered (found u t) → (i : ℕ) → i < 64 → i < u.n → whole i ≡ true
-      → get_or (starts_after whole o) i 0 ≡ u.r i
-  pub pause_start : (u : Windows) (t : ℕ) → o ≡ answered (found u t) → (i : ℕ) → i < 64 → whole i ≡ false
-      → get_or (starts_after whole o) i 0 ≡ 0
-  pub past_start : (u : Windows) (t : ℕ) → o ≡ answered (found u t) → (i : ℕ) → i < 64 → u.n ≤ i → get_or (starts_after whole o) i 0 ≡ 0
-  pub none_start : (t : ℕ) → o ≡ answered (none t) → (i : ℕ) → i < 64 → get_or (starts_after whole o) i 0 ≡ 0
-  pub spent_start : (t : ℕ) → o ≡ answered (spent t) → (i : ℕ) → i < 64 → get_or (starts_after whole o) i 0 ≡ 0
-  pub refused_start : (c : Code) → o ≡ refused c → (i : ℕ) → i < 64 → get_or (starts_after whole o) i 0 ≡ 0
+pub record StartsLaw (whole : ℕ → Bool) (x : Search) : Type 0 where
+  pub long : length (starts_found whole x) ≡ 64
+  pub whole_start : (u : Windows) (t : ℕ) → x ≡ found u t → (i : ℕ) → i < 64 → i < u.n → whole i ≡ true
+      → get_or (starts_found whole x) i 0 ≡ u.r i
+  pub pause_start : (u : Windows) (t : ℕ) → x ≡ found u t → (i : ℕ) → i < 64 → whole i ≡ false → get_or (starts_found whole x) i 0 ≡ 0
+  pub past_start : (u : Windows) (t : ℕ) → x ≡ found u t → (i : ℕ) → i < 64 → u.n ≤ i → get_or (starts_found whole x) i 0 ≡ 0
+  pub none_start : (t : ℕ) → x ≡ none t → (i : ℕ) → i < 64 → get_or (starts_found whole x) i 0 ≡ 0
+  pub spent_start : (t : ℕ) → x ≡ spent t → (i : ℕ) → i < 64 → get_or (starts_found whole x) i 0 ≡ 0
 
 -- "Found: the plan is Jackson's with the starts fixed": what a buffer that held old holds then, its bytes after H kept. "None and spent
 -- leave the plan buffer as it was."
@@ -80,63 +65,64 @@ abbrev pub unbroken_after : List ℕ → Outcome Search → List ℕ
 unbroken_after old (answered x) = found_after old x
 unbroken_after old (refused k) = old
 
--- the answer with this verdict and nothing searched, as it stands beside a refusal
-abbrev pub unsearched : Verdict → UnbrokenAnswer
-unsearched v =
-    record {
-      narrowed = record { verdict = v; list = empty_list; moves = 0 };
-      ending = Unsearched;
-      trials = 0;
-      starts = replicate most_entries 0;
-    }
+-- the narrowed list of a search
+abbrev pub narrowed_by_search : Result UnbrokenSearch Refusal → Result NarrowedList Refusal
+narrowed_by_search (Ok u) = Ok u.narrowed
+narrowed_by_search (Err k) = Err k
 
 -- the trials of the search without a limit in the settled windows, which are those of the list answered
-abbrev pub trials_needed : (ℕ → Bool) → UnbrokenAnswer → ℕ
-trials_needed whole a = trials_of (search_all overload_of whole (windows_of a.narrowed.list))
+abbrev pub trials_needed : (ℕ → Bool) → UnbrokenSearch → ℕ
+trials_needed whole u = trials_of (search_all overload_of whole (windows_of u.narrowed.list))
 
 -- the start answered for place i
-abbrev pub start_in : UnbrokenAnswer → ℕ → ℕ
-start_in a i = get_or a.starts i 0
+abbrev pub start_in : UnbrokenSearch → ℕ → ℕ
+start_in u i = get_or u.starts i 0
 
--- What the answer a with the bytes of the plan says of all unbroken days of the given windows w, where 9 and 10 were not given.
-pub record TellsUnbroken (whole : ℕ → Bool) (w : Windows) (limit : ℕ) (a : UnbrokenAnswer) (bytes : List ℕ) : Type 0 where
+-- What the answer u with the bytes of the plan says of all unbroken days of the given windows w, where 9 and 10 were not given.
+pub record TellsUnbroken (whole : ℕ → Bool) (w : Windows) (limit : ℕ) (u : UnbrokenSearch) (bytes : List ℕ) : Type 0 where
   -- found: "the plan is Jackson's with the starts fixed, and among all unbroken days its list of whole entries' starts is the least"
-  pub jackson : a.ending ≡ DayFound → bytes ≡ schedule (with_starts whole (windows_of a.narrowed.list) (start_in a))
-  pub least : a.ending ≡ DayFound → LeastDay whole w bytes (start_in a)
-  pub found_exactly : (a.ending ≡ DayFound) ↔ (((m : ℕ → ℕ) × UnbrokenDay whole w m) × (trials_needed whole a ≤ limit))
+  pub jackson : u.ending ≡ DayFound → bytes ≡ schedule (with_starts whole (windows_of u.narrowed.list) (start_in u))
+  pub least : u.ending ≡ DayFound → LeastDay whole w bytes (start_in u)
+  pub found_exactly : (u.ending ≡ DayFound) ↔ (((m : ℕ → ℕ) × UnbrokenDay whole w m) × (trials_needed whole u ≤ limit))
   -- none: "exactly when no unbroken day exists and the trials sufficed"
-  pub none_exactly : (a.ending ≡ NoneExists) ↔ (NoneUnbroken whole w × (trials_needed whole a ≤ limit))
+  pub none_exactly : (u.ending ≡ NoneExists) ↔ (NoneUnbroken whole w × (trials_needed whole u ≤ limit))
   -- spent: "only when one more trial is needed and all were used"
-  pub spent_exactly : (a.ending ≡ TrialsSpent) ↔ (limit < trials_needed whole a)
-  pub spent_all : a.ending ≡ TrialsSpent → a.trials ≡ limit
+  pub spent_exactly : (u.ending ≡ TrialsSpent) ↔ (limit < trials_needed whole u)
+  pub spent_all : u.ending ≡ TrialsSpent → u.trials ≡ limit
   -- trials are as many as are needed, or the limit
-  pub trials_needed_lem : trials_needed whole a ≤ limit → a.trials ≡ trials_needed whole a
-  pub limits : LimitLaw overload_of whole (windows_of a.narrowed.list) limit
+  pub trials_needed_lem : trials_needed whole u ≤ limit → u.trials ≡ trials_needed whole u
+  pub limits : LimitLaw overload_of whole (windows_of u.narrowed.list) limit
+
+-- what is answered beside the narrowed list where this is the outcome: how its search ended, the trials made ("Trials are returned"), and
+-- the starts
+pub record HoldsSearch (whole : ℕ → Bool) (o : Outcome Search) (u : UnbrokenSearch) : Type 0 where
+  pub ended : Search
+  pub outcome : o ≡ answered ended
+  pub ending : u.ending ≡ ending_of ended
+  pub trials : u.trials ≡ trials_of ended
+  pub starts : u.starts ≡ starts_found whole ended
 
 -- what looking for an unbroken day of the list l answers, and leaves in a plan buffer that held old
-pub record FindsUnbroken (l : DayList) (limit : ℕ) (old : List ℕ) (a : UnbrokenAnswer) (new : List ℕ) : Type 0 where
-  pub answers : AnswersAs l (plan_of l (length old)) a.narrowed
-  pub holds : HoldsAnswer l (plan_of l (length old)) a.narrowed
-  pub ending : a.ending ≡ ending_after (unbroken_of l limit (length old))
-  pub trials : a.trials ≡ trials_after (unbroken_of l limit (length old))
-  pub starts : a.starts ≡ starts_after (whole_in l) (unbroken_of l limit (length old))
+pub record FindsUnbroken (l : DayList) (limit : ℕ) (old : List ℕ) (a : Result UnbrokenSearch Refusal) (new : List ℕ) : Type 0 where
+  pub answers : AnswersAs l (plan_of l (length old)) (narrowed_by_search a)
+  pub holds : HoldsAnswer l (plan_of l (length old)) (narrowed_by_search a)
+  pub search : (u : UnbrokenSearch) → a ≡ Ok u → HoldsSearch (whole_in l) (unbroken_of l limit (length old)) u
   pub buffer : new ≡ unbroken_after old (unbroken_of l limit (length old))
   -- where 9 and 10 were not given
-  pub tells : a.narrowed.verdict ≡ Accepted → TellsUnbroken (whole_in l) (windows_of l) limit a (take l.frame.h new)
-  -- beside a refusal nothing was searched
-  pub unsearched : (a.narrowed.verdict ≡ Accepted → ⊥)
-      → (a.ending ≡ Unsearched) × (a.trials ≡ 0) × (a.starts ≡ replicate most_entries 0) × (new ≡ old)
+  pub tells : (u : UnbrokenSearch) → a ≡ Ok u → TellsUnbroken (whole_in l) (windows_of l) limit u (take l.frame.h new)
+  -- a refusal is that of the rows, and nothing was searched
+  pub unsearched : (k : Refusal) → a ≡ Err k → (unbroken_of l limit (length old) ≡ refused (code_of k)) × (new ≡ old)
   -- the law of narrowing, of the windows and moves answered, for a list and a buffer that pass the checks before 9
-  pub law : plan_checks l (length old) ≡ answered tt → NarrowLaw overload_of (whole_in l) (windows_of l) (narrowed_in a.narrowed)
+  pub law : plan_checks l (length old) ≡ answered tt
+      → NarrowLaw overload_of (whole_in l) (windows_of l) (narrowed_in (narrowed_by_search a))
   -- where 9 or 10 was given, no unbroken day exists either
-  pub refused_none : plan_checks l (length old) ≡ answered tt → (a.narrowed.verdict ≡ Accepted → ⊥)
-      → NoneUnbroken (whole_in l) (windows_of l)
+  pub refused_none : plan_checks l (length old) ≡ answered tt → (k : Refusal) → a ≡ Err k → NoneUnbroken (whole_in l) (windows_of l)
   -- "A larger limit never changes found or none": ending, trials, starts and plan are of this outcome
-  pub larger : (a.ending ≡ TrialsSpent → ⊥) → (more : ℕ) → limit ≤ more
+  pub larger : ((u : UnbrokenSearch) → a ≡ Ok u → u.ending ≡ TrialsSpent → ⊥) → (more : ℕ) → limit ≤ more
       → unbroken_of l more (length old) ≡ unbroken_of l limit (length old)
   -- without a whole entry the day's plan is found, in 0 trials, under every limit
-  pub no_whole : a.narrowed.verdict ≡ Accepted → ((i : ℕ) → i < l.n → whole_in l i ≡ false)
-      → (a.ending ≡ DayFound) × (a.trials ≡ 0) × (new ≡ planned schedule old (plan_of l (length old)))
+  pub no_whole : (u : UnbrokenSearch) → a ≡ Ok u → ((i : ℕ) → i < l.n → whole_in l i ≡ false)
+      → (u.ending ≡ DayFound) × (u.trials ≡ 0) × (new ≡ planned schedule old (plan_of l (length old)))
 
 -- what is left in the buffer, in facts, whatever the outcome o. `found_buffer` of proofs/UnbrokenRows.antt
 pub record FoundBufferLaw (old : List ℕ) (o : Outcome Search) : Type 0 where

@@ -1,27 +1,20 @@
 // Looking for an unbroken day.
-ghost use Rattle.std.specs.Prelude.{◌≡◌, cond};
+ghost use Rattle.std.specs.Prelude.{◌≡◌};
 ghost use Rattle.list.specs.DayLists.{marked};
 ghost use Rattle.windows.specs.Windows.{windows_in};
-ghost use Rattle.unbroken.specs.Calls.{whole_starts, unsearched, FindsUnbroken};
+ghost use Rattle.unbroken.specs.Calls.{whole_starts, FindsUnbroken};
 ghost use Rattle.unbroken.specs.Internal.{StoresFound, starts_said};
 
-use crate::types::UnbrokenAnswer;
-use backtracking::types::{Ending, SearchAnswer};
+use crate::types::UnbrokenSearch;
+use backtracking::types::SearchAnswer;
 use backtracking::{is_found, search_windows};
 use jackson::unchecked_schedule;
-use list::types::{DayList, ENTRIES, Verdict};
+use list::types::{DayList, ENTRIES, Refusal};
 use list::{places_held, whole_places};
-use narrow::{refused_with, settle};
+use narrow::settle;
 use planner::plan_checks;
 use windows::types::WindowSet;
 use windows::{unchecked_windows, zeros};
-
-// The start of an entry whose window begins with it, if it is whole, else 0.
-fn start_of(whole: bool, r: u16) -> u16
-    ensures { result ≡ cond whole r 0 }
-{
-    if whole { r } else { 0 }
-}
 
 // The starts of the whole entries where they are fixed in the windows.
 fn whole_starts(whole: [bool; ENTRIES], windows: WindowSet) -> [u16; ENTRIES]
@@ -30,7 +23,7 @@ fn whole_starts(whole: [bool; ENTRIES], windows: WindowSet) -> [u16; ENTRIES]
     let mut starts = zeros();
     let count = places_held(windows.n);
     for i in 0..count {
-        starts[i] = start_of(whole[i], windows.r[i]);
+        starts[i] = if whole[i] { windows.r[i] } else { 0 };
     }
     starts
 }
@@ -55,40 +48,20 @@ fn store_found(searched: SearchAnswer, plan: &mut [u8])
     }
 }
 
-// The answer with this verdict and nothing searched, as it stands beside a refusal.
-fn unsearched(verdict: Verdict) -> UnbrokenAnswer
-    ensures { result ≡ unsearched verdict }
-{
-    UnbrokenAnswer {
-        narrowed: refused_with(verdict),
-        ending: Ending::Unsearched,
-        trials: 0,
-        starts: zeros(),
-    }
-}
-
 // Looks for an unbroken day of a list in at most so many trials: the value check, row 11, rows 9 and 10, then the search in the settled
 // windows.
-pub fn unbroken_day(list: DayList, limit: u32, plan: &mut [u8]) -> UnbrokenAnswer
+pub fn unbroken_day(list: DayList, limit: u32, plan: &mut [u8]) -> Result<UnbrokenSearch, Refusal>
     ensures { FindsUnbroken list limit plan.old result plan.new }
 {
-    let checks = plan_checks(list, plan.len());
-    let Verdict::Accepted = checks else {
-        return unsearched(checks);
-    };
-    let narrowed = settle(list);
-    let verdict = narrowed.verdict;
-    let Verdict::Accepted = verdict else {
-        return unsearched(verdict);
-    };
+    plan_checks(list, plan.len())?;
+    let narrowed = settle(list)?;
     let whole = whole_places(list);
-    let settled = narrowed.list;
-    let searched = search_windows(whole, unchecked_windows(settled), limit);
+    let searched = search_windows(whole, unchecked_windows(narrowed.list), limit);
     store_found(searched, plan);
-    UnbrokenAnswer {
+    Ok(UnbrokenSearch {
         narrowed,
         ending: searched.ending,
         trials: searched.trials,
         starts: starts_said(whole, searched),
-    }
+    })
 }

@@ -1,13 +1,12 @@
--- The loop's invariant is `OnTheWay`; a trial takes one of those left, and going back leaves the place smaller.
+-- The search begins on its way, stays there where it goes back, and each of its three ends is what the defined search ends with.
 -- Assumes nothing.
-use borrow.Author.Rules.{rules}
 use mathlib.Core.Path.{◌≡◌, sym, ◌∙◌}
 use Prim.Native.Nat.{ℕ, suc, ◌-◌}
 use native.Mathlib.Omega.{arith}
 use mathlib.Core.Bool.{Bool}
 use Rattle.list.specs.DayLists.{marked}
 use Rattle.backtracking.specs.Internal.{LastWhole}
-use Rattle.backtracking.proofs.SearchCases.{fixed_none, way_begins, way_found, way_left, way_spent, way_tried, way_none, way_again}
+use Rattle.backtracking.proofs.SearchCases.{way_begins, way_found, way_left, way_spent, way_none, way_again}
 use Rattle.backtracking.proofs.UnbrokenLaws.{searches_so}
 use Rattle.backtracking.proofs.search.search_windows.Goals as goal
 
@@ -15,52 +14,9 @@ use Rattle.backtracking.proofs.search.search_windows.Goals as goal
 one_below : {whole : ℕ → Bool} {k j : ℕ} → (j ≡ 0 → ⊥) → LastWhole whole k j → LastWhole whole k (suc (j - 1))
 one_below {whole} {k} {j} some last = let z : j ≡ suc (j - 1) = omega arith in rw (← z) last
 
-pub entered-at-requires : goal.entered-at-requires
-entered-at-requires c = record { fixed_below = fixed_none _ _; k_bound = omega arith }
-
 pub loop-at-init : goal.loop-at-init
 loop-at-init c =
     way_begins (marked c.args.whole) c.args.windows c.args.limit c.entered-at.result c.entered-at.ensures
-
-pub start_left-requires : goal.start_left-requires
-start_left-requires c =
-    let place = rw c.places_held-count.ensures at c.if-count-at.false in
-    record { place_bound = omega (arith, place); start_bound = c.loop-at.invariant.stands.start }
-
-pub tried-at-requires : goal.tried-at-requires
-tried-at-requires c =
-    let holds = c.loop-at.invariant in
-    let windows = c.args.windows in
-    let place = rw c.places_held-count.ensures at c.if-count-at.false in
-    let left = way_left (marked c.args.whole) windows c.args.limit c.loop-at.at holds place
-    (sym c.start_left.ensures ∙ c.if-start_left.true) in
-    record { stands = holds.stands; start_left = left; trials_bound = search rules }
-
-pub loop-at-smaller-then-start_left : goal.loop-at-smaller-then-start_left
-loop-at-smaller-then-start_left c =
-    omega (arith, c.if-limit-at.false, c.tried-at.ensures.trials, c.tried-at.ensures.stands.within)
-
-pub loop-at-preserved-then-start_left : goal.loop-at-preserved-then-start_left
-loop-at-preserved-then-start_left c =
-    let place = rw c.places_held-count.ensures at c.if-count-at.false in
-    way_tried (marked c.args.whole) c.args.windows c.args.limit c.loop-at.at c.loop-at.invariant
-    place c.if-limit-at.false c.tried-at.result c.tried-at.ensures
-
-pub last_whole-last-requires : goal.last_whole-last-requires
-last_whole-last-requires c =
-    let place = rw c.places_held-count.ensures at c.if-count-at.false in
-    omega (arith, place)
-
-pub gone_back-at-requires : goal.gone_back-at-requires
-gone_back-at-requires c =
-    let place = rw c.places_held-count.ensures at c.if-count-at.false in
-    omega (arith, c.last_whole-last.ensures.within, place)
-
-pub loop-at-smaller : goal.loop-at-smaller
-loop-at-smaller c =
-    let at_says = c.gone_back-at.ensures in
-    let last = one_below c.if-last-eq0.false c.last_whole-last.ensures in
-    omega (arith, at_says.place, at_says.trials, last.within)
 
 pub loop-at-preserved : goal.loop-at-preserved
 loop-at-preserved c =

@@ -15,25 +15,6 @@ use Rattle.backtracking.proofs.search.tried.Goals.{Start}
 fits_d : (c : Start) → Fits w16 (get_or c.args.windows.d c.args.at.place 0)
 fits_d c = search rules
 
-pub overflow_add-e : goal.overflow_add-e
-overflow_add-e c =
-    let f : Fits w16 (get_or c.args.windows.p c.args.at.place 0) = search rules in
-    omega (arith, f, c.from.ensures, c.requires.stands.start)
-
-pub overflow_cast-s : goal.overflow_cast-s
-overflow_cast-s c =
-    omega (arith, fits_d (goal.at.overflow_cast-s c).Start, c.requires.start_left.room)
-
-pub overflow_cast-e : goal.overflow_cast-e
-overflow_cast-e c =
-    omega (arith, fits_d (goal.at.overflow_cast-e c).Start, c.from.ensures, c.requires.start_left.room)
-
-pub with_window-fixed-requires : goal.with_window-fixed-requires
-with_window-fixed-requires c = search (rules, c.requires.start_left.place)
-
-pub overflow_add-k : goal.overflow_add-k
-overflow_add-k c = search (rules, c.requires.start_left.place)
-
 pub entered-requires : goal.entered-requires
 entered-requires c =
     record {
