@@ -1,7 +1,7 @@
 -- The loop's invariant is `Placed`.
 -- Assumes nothing.
 use native.Mathlib.Omega.{arith}
-use Rattle.list.proofs.ByPlace.{placed_none, placed_next, placed_all}
+use Rattle.list.proofs.ByPlace.{placed_none, placed_next}
 use Rattle.unbroken.proofs.calls.whole_starts.Goals as goal
 
 pub loop-i-init : goal.loop-i-init
@@ -12,7 +12,3 @@ loop-i-preserved c =
     placed_next _ _ _ _ _ c.loop-i.invariant
     (rw c.places_held-count.ensures at c.loop-i-test.true)
     c.start_of.ensures
-
-pub returns : goal.returns
-returns c =
-    placed_all _ _ _ _ c.loop-i.invariant (rw c.places_held-count.ensures at c.loop-i-test.false)
