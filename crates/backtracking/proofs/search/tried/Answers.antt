@@ -10,29 +10,6 @@ use Rattle.list.specs.DayLists.{marked}
 use Rattle.windows.specs.Windows.{windows_in}
 use Rattle.backtracking.proofs.SearchCases.{tried_fixed, tries_fails, tries_holds}
 use Rattle.backtracking.proofs.search.tried.Goals as goal
-use Rattle.backtracking.proofs.search.tried.Goals.{Start}
-
-fits_d : (c : Start) → Fits w16 (get_or c.args.windows.d c.args.at.place 0)
-fits_d c = search rules
-
-pub overflow_add-e : goal.overflow_add-e
-overflow_add-e c =
-    let f : Fits w16 (get_or c.args.windows.p c.args.at.place 0) = search rules in
-    omega (arith, f, c.from.ensures, c.requires.stands.start)
-
-pub overflow_cast-s : goal.overflow_cast-s
-overflow_cast-s c =
-    omega (arith, fits_d (goal.at.overflow_cast-s c).Start, c.requires.start_left.room)
-
-pub overflow_cast-e : goal.overflow_cast-e
-overflow_cast-e c =
-    omega (arith, fits_d (goal.at.overflow_cast-e c).Start, c.from.ensures, c.requires.start_left.room)
-
-pub with_window-fixed-requires : goal.with_window-fixed-requires
-with_window-fixed-requires c = search (rules, c.requires.start_left.place)
-
-pub overflow_add-k : goal.overflow_add-k
-overflow_add-k c = search (rules, c.requires.start_left.place)
 
 pub entered-requires : goal.entered-requires
 entered-requires c =
@@ -51,7 +28,8 @@ returns-then-has_plan c =
 
 pub returns : goal.returns
 returns c =
+    let fits_d : Fits w16 (get_or c.args.windows.d c.args.at.place 0) = search rules in
     tries_fails (marked c.args.whole) (windows_in c.args.windows) c.args.at c.requires.stands c.requires.start_left
     (windows_in c.with_window-fixed.result) (rw c.from.ensures at c.with_window-fixed.ensures)
     (sym c.has_plan.ensures ∙ c.if-has_plan.false)
-    (omega (arith, fits_d (goal.at.returns c).Start, c.requires.start_left.room))
+    (omega (arith, fits_d, c.requires.start_left.room))
