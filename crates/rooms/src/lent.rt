@@ -1,5 +1,5 @@
 // Rows of rooms, lent as a slice. These functions are few and thin, and all rules are in the functions that they call.
-ghost use Rattle.std.specs.Prelude.{◌≡◌, ◌≤◌, get_or, set};
+ghost use Rattle.std.specs.Prelude.{◌≡◌, ◌≤◌, set};
 ghost use Rattle.rooms.specs.Turns.{most_rooms, eight_rows};
 ghost use Rattle.rooms.specs.Calls.{Turns, TurnsFirst};
 

@@ -21,10 +21,12 @@ loop-i-init c =
 
 pub loop-i-preserved : goal.loop-i-preserved
 loop-i-preserved c =
-    filled_next c.args.list (windows_in c.args.windows) _ (long (goal.at.loop-i-preserved c).Start) c.loop-i.entries c.loop-i.i c.loop-i.invariant _ c.loop-i-test.true
+    filled_next c.args.list (windows_in c.args.windows) _ (long (goal.at.loop-i-preserved c).Start)
+    c.loop-i.entries c.loop-i.i c.loop-i.invariant _ c.loop-i-test.true
     c.entry_with.ensures
 
 pub returns : goal.returns
 returns c =
-    filled_all c.args.list (windows_in c.args.windows) _ (long (goal.at.returns c).Start) c.loop-i.entries c.loop-i.i c.loop-i.invariant c.places_held-count.ensures
+    filled_all c.args.list (windows_in c.args.windows) _ (long (goal.at.returns c).Start)
+    c.loop-i.entries c.loop-i.i c.loop-i.invariant c.places_held-count.ensures
     c.loop-i-test.false

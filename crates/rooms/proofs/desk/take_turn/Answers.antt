@@ -1,10 +1,7 @@
 -- Rows 19 and 12, then a room has the turn, or nothing is unfinished.
 -- Assumes nothing.
 use borrow.Author.Rules.{rules}
-use mathlib.Core.Path.{◌≡◌}
-use mathlib.Core.List.{[], ◌∷◌}
-use Rattle.base.specs.Outcomes.{code, refused}
-use Rattle.rooms.specs.Internal.{answer_held}
+use Rattle.list.specs.declared.types.Refusal.TheVariants.{RoomCount}
 use Rattle.rooms.proofs.TurnCases.{answer_none, answer_many, answer_short, answer_took, answer_nothing}
 use Rattle.rooms.proofs.TurnCases.{takes_refused, takes_nothing, takes_room, share_lent}
 use Rattle.rooms.proofs.desk.take_turn.Goals as goal
@@ -12,12 +9,13 @@ use Rattle.rooms.proofs.desk.take_turn.Goals.{then-n-eq0-via-then-n-eq0, then-n-
 
 pub returns-then-n-eq0 : goal.returns-then-n-eq0
 returns-then-n-eq0 c =
-    let is_refused : answer_held c.args.rows c.args.n c.args.number c.args.lists.now ≡ refused (code 19 (c.args.n ∷ [])) = elim c.then-n-eq0.branch [
+    takes_refused c.args.rows c.args.n c.args.number c.args.lists.now (λ i. search rules) (RoomCount c.args.n) c.not_taken.result
+    (elim c.then-n-eq0.branch [
       | then-n-eq0-via-then-n-eq0 w ↦ answer_none c.args.rows c.args.n c.args.number c.args.lists.now w.if-n-eq0.true
       | then-n-eq0-via-else-n-eq0+then-n-gt-MOST_ROOMS w ↦
           answer_many c.args.rows c.args.n c.args.number c.args.lists.now w.if-n-eq0.false w.if-n-gt-MOST_ROOMS.true
-    ] in
-    takes_refused _ _ _ _ (λ i. search rules) _ c.not_taken.result is_refused c.not_taken.ensures
+    ])
+    c.not_taken.ensures
 
 pub returns-then-lists-n : goal.returns-then-lists-n
 returns-then-lists-n c =

@@ -9,4 +9,5 @@ use Rattle.rooms.proofs.lent.gather.Goals as goal
 
 pub returns : goal.returns
 returns c =
-    given_eight _ _ (λ (i : ℕ). get_or c.args.rooms.now i c.args.d) (λ i r q call. search (rules, tests)) c.from_fn.result c.from_fn.ensures.items
+    given_eight _ _ (λ (i : ℕ). get_or c.args.rooms.now i c.args.d) (λ i r q call. search (rules, tests))
+    c.from_fn.result c.from_fn.ensures.items
