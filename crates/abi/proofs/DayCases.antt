@@ -1,45 +1,36 @@
 -- What the calls on a stamped day leave, from what the crates below answer.
 -- Assumes nothing.
-use mathlib.Core.Path.{◌≡◌, refl, ap, subst, ◌∙◌}
-use mathlib.Core.Bool.{not}
-use mathlib.Core.List.{List}
+use mathlib.Core.Path.{◌≡◌, refl, sym, ap, ◌∙◌}
+use mathlib.Core.Bool.{not, true, false}
+use mathlib.Core.List.{List, []}
 use Prim.Native.Nat.{ℕ}
 use borrow.Author.Tests.{eqb-true, eq-eqb, not-false}
 use lib.Dec.{eqb}
 use lib.ListN.{length, get_or}
+use Rattle.std.specs.Prelude.{Result, Ok, Err, is_ok}
 use Rattle.base.specs.Outcomes.{Outcome, answered, refused, and_then}
 use Rattle.base.proofs.Inversion.{answered_refused, Says, Anything, by_row, by_step}
-use Rattle.list.specs.Refusals.{code_of, verdict_of, outcome_of}
-use Rattle.list.proofs.Verdicts.{by_verdict, by_accepted, by_refused}
+use Rattle.list.specs.Refusals.{code_of, outcome_of}
 use Rattle.list.specs.declared.types.DayList.{DayList}
 use Rattle.list.specs.declared.types.Entry.{Entry}
 use Rattle.list.specs.declared.types.Refusal.{Refusal}
-use Rattle.list.specs.declared.types.Verdict.{Verdict}
-use Rattle.list.specs.declared.types.Verdict.TheVariants.{Accepted, Refused}
-use Rattle.list.specs.declared.types.ReadAnswer.{ReadAnswer}
 use Rattle.narrow.specs.Rounds.{Narrowed}
+use Rattle.narrow.specs.Calls.{narrowed_in}
+use Rattle.planner.specs.Calls.{narrowed_by_plan}
+use Rattle.planner.specs.declared.types.PlannedDay.{PlannedDay}
 use Rattle.commits.specs.Days.{with_entry}
-use Rattle.commits.specs.Calls.{empty_day, stamped_answer_of, MakesDay, commit_of, day_after, Asks, Commits}
+use Rattle.commits.specs.Calls.{fresh_of, commit_of, day_after, Asks, Commits}
 use Rattle.commits.specs.declared.types.StampedDay.{StampedDay}
-use Rattle.commits.specs.declared.types.StampedAnswer.{StampedAnswer}
 use Rattle.commits.specs.declared.types.AskAnswer.{AskAnswer}
 use Rattle.commits.specs.declared.types.CommitAnswer.{CommitAnswer}
-use Rattle.flat.specs.Flat.{flat_numbers, entry_numbers, entry_in, value_of, list_in, ReadsFlat}
-use Rattle.flat.specs.DayRows.{day_numbers, day_row, day_of, day_fault, day_in, ReadsDay, StoresDay}
-use Rattle.flat.proofs.LengthCases.{length_says, length_right}
-use Rattle.abi.specs.Calls.{PlannedCall}
-use Rattle.abi.specs.DayCalls.{DayCall, FreshCall, beside_fault, day_beside, AskCall, day_if_committed, CommitCall}
-use Rattle.abi.specs.Internal.{GivesPlanned, committed_day}
+use Rattle.flat.specs.Flat.{flat_numbers, entry_numbers, entry_in, list_in}
+use Rattle.flat.specs.DayRows.{day_numbers, day_row, day_of, day_fault, day_in, StoresDay}
+use Rattle.flat.proofs.LengthCases.{length_says}
+use Rattle.abi.specs.Calls.{answer_with, PlannedCall}
+use Rattle.abi.specs.DayCalls.{DayCall, fresh_in, FreshCall, beside_fault, day_beside, AskCall, day_if_committed, CommitCall}
+use Rattle.abi.specs.Internal.{RefusedAs, GivesPlanned, committed_day}
 use Rattle.abi.specs.declared.Answer.{Answer}
-use Rattle.abi.proofs.CallCases.{VerdictAs, Given, nothing_planned, planned_said}
-
--- what an answer's verdict tells of the outcome that it says
-module _ {o : Outcome StampedDay} (a : StampedAnswer) (w : stamped_answer_of a ≡ o) where
-  taken : a.verdict ≡ Accepted → o ≡ answered a.day
-  taken = by_verdict a.day w
-
-  turned_back : (x : Refusal) → a.verdict ≡ Refused x → o ≡ refused (code_of x)
-  turned_back x = by_verdict a.day w
+use Rattle.abi.proofs.CallCases.{nothing_planned, planned_said}
 
 -- a refusal leaves the row as it was
 no_day_given : (x : Refusal) (old : List ℕ) → DayCall (refused (code_of x)) old old
@@ -52,44 +43,32 @@ day_given d old new long put =
     record { buffer = stored; back = λ e q. put.back long ∙ q }
 
 -- Making a fresh day.
-module _ (xs old : List ℕ) where
-  pub fresh_bad_list : (a : ReadAnswer) (x : Refusal) (b : Answer) → ReadsFlat xs a → a.verdict ≡ Refused x → VerdictAs a.verdict b
-      → FreshCall xs old b old
-  fresh_bad_list a x b w v q =
-      let z : list_in xs ≡ refused (code_of x) = by_verdict a.list w.outcome v in
-      rw z (record { answer = rw v at q; day = no_day_given x old })
+module _ (xs old : List ℕ) (b : Answer) where
+  pub fresh_refused : (x : Refusal) → refused (code_of x) ≡ fresh_in xs (length old) → RefusedAs x b → FreshCall xs old b old
+  fresh_refused x e q = rw (← e) (record { answer = q; day = no_day_given x old })
 
-  module _ (l : DayList) (g : Given xs (list_in xs) l) (u : Verdict) (row : verdict_of u ≡ day_fault (length old)) where
-    pub fresh_bad_row : (x : Refusal) (b : Answer) → u ≡ Refused x → VerdictAs u b → FreshCall xs old b old
-    fresh_bad_row x b v q = rw (g.passed, by_refused row v) (record { answer = rw v at q; day = no_day_given x old })
+  abbrev Long : {A : Type 0} → A → Type 0
+  Long a = length old ≡ day_numbers
 
-    module _ (passed : u ≡ Accepted) (a : StampedAnswer) (w : MakesDay l a) (b : Answer) (q : VerdictAs a.verdict b) where
-      made : MakesDay (value_of xs) a
-      made = subst (λ (k : DayList). MakesDay k a) g.value w
+  kept : {A : Type 0} (o : Outcome A) → length old ≡ day_numbers → Says Long Anything o
+  kept (answered a) long = long
+  kept (refused k) long = tt
 
-      pub fresh_turned_back : (x : Refusal) → a.verdict ≡ Refused x → FreshCall xs old b old
-      fresh_turned_back x v =
-          rw (g.passed, by_accepted row passed, turned_back a made.outcome x v)
-          (record { answer = rw v at q; day = no_day_given x old })
+  fresh_says : Says Long Anything (fresh_in xs (length old))
+  fresh_says =
+      by_step Anything Anything Long (list_in xs) (λ l. and_then (day_fault (length old)) (λ _. fresh_of l)) (anything (list_in xs))
+      (λ l _. by_step Long Anything Long (day_fault (length old)) (λ _. fresh_of l) (length_says day_numbers (length old))
+      (λ _ long. kept (fresh_of l) long))
+    where
+      anything : {A : Type 0} (o : Outcome A) → Says Anything Anything o
+      anything (answered a) = tt
+      anything (refused k) = tt
 
-      pub fresh_given : (new : List ℕ) → a.verdict ≡ Accepted → StoresDay a.day old new → FreshCall xs old b new
-      fresh_given new v put =
-          let z = by_accepted row passed in
-          rw (g.passed, z, taken a made.outcome v)
-          (record { answer = rw v at q; day = day_given a.day old new (length_right _ (length old) z) put })
-
--- A day's row, where a list's row is lent beside it.
-module _ (xs : List ℕ) (entry lent : ℕ) (a : StampedAnswer) (w : ReadsDay xs a) where
-  pub beside_bad_row : (x : Refusal) → a.verdict ≡ Refused x → stamped_answer_of a ≡ day_beside xs entry lent
-  beside_bad_row x v = let o = turned_back a w.outcome x v in w.outcome ∙ rw o
-
-  module _ (v : a.verdict ≡ Accepted) (u : Verdict) (row : verdict_of u ≡ beside_fault entry lent) where
-    pub beside_bad_lent : (x : Refusal) → u ≡ Refused x → (b : StampedAnswer) → b ≡ record { verdict = u; day = empty_day }
-        → stamped_answer_of b ≡ day_beside xs entry lent
-    beside_bad_lent x e b q = rw (taken a w.outcome v, by_refused row e, q, e)
-
-    pub beside_given : u ≡ Accepted → stamped_answer_of a ≡ day_beside xs entry lent
-    beside_given e = rw (taken a w.outcome v, by_accepted row e, v)
+  pub fresh_given : (d : StampedDay) (new : List ℕ) → answered d ≡ fresh_in xs (length old)
+      → b ≡ answer_with {A = Unit {0}} (λ _. []) (answered tt) → StoresDay d old new → FreshCall xs old b new
+  fresh_given d new e q put =
+      let long : length old ≡ day_numbers = rw (← e) at fresh_says in
+      rw (← e) (record { answer = q; day = day_given d old new long put })
 
 -- rows that passed: the day that was given, and their lengths
 pub record DayGiven (xs ys fields : List ℕ) (d : StampedDay) : Type 0 where
@@ -109,7 +88,7 @@ module _ (xs : List ℕ) where
       by_step (λ _. length xs ≡ day_numbers) Anything Row (day_fault (length xs)) (λ _. answered (day_of xs))
       (length_says day_numbers (length xs)) (λ _ long. (refl, long))
 
-module _ (xs ys fields : List ℕ) (a : StampedAnswer) (w : stamped_answer_of a ≡ day_beside xs (length ys) (length fields)) where
+module _ (xs ys fields : List ℕ) where
   abbrev Beside : Type 0
   Beside = (length ys ≡ entry_numbers) × (length fields ≡ flat_numbers)
 
@@ -129,26 +108,26 @@ module _ (xs ys fields : List ℕ) (a : StampedAnswer) (w : stamped_answer_of a 
       (λ d r. by_step (λ _. Beside) Anything Passed (beside_fault (length ys) (length fields)) (λ _. answered d) beside_says
       (λ _ long. (r, long)))
 
-  pub is_given : a.verdict ≡ Accepted → DayGiven xs ys fields a.day
-  is_given v =
-      let o = taken a w v in
-      let z = rw o at all_say in
-      record { passed = o ∙ ap answered z.0.0; value = z.0.0; row = z.0.1; entry = z.1.0; lent = z.1.1 }
+  pub is_given : (d : StampedDay) → answered d ≡ day_beside xs (length ys) (length fields) → DayGiven xs ys fields d
+  is_given d e =
+      let z : Passed d = rw (← e) at all_say in
+      record { passed = sym e ∙ ap answered z.0.0; value = z.0.0; row = z.0.1; entry = z.1.0; lent = z.1.1 }
 
   -- rows that were turned back: the refusal is handed on, and what is lent stays
-  module _ (x : Refusal) (v : a.verdict ≡ Refused x) (b : Answer) (q : VerdictAs a.verdict b) (plan bounds : List ℕ) where
+  module _ (x : Refusal) (e : refused (code_of x) ≡ day_beside xs (length ys) (length fields)) (b : Answer) (q : RefusedAs x b)
+      (plan bounds : List ℕ) where
     pub ask_bad_rows : AskCall xs ys plan fields bounds b plan fields bounds
     ask_bad_rows =
-        rw (turned_back a w x v)
-        (record { planned = nothing_planned x _ _ plan fields bounds b (rw v at q); stamp = λ k e. absurd (answered_refused e refl) })
+        rw (← e)
+        (record { planned = nothing_planned x _ _ plan fields bounds b q; stamp = λ k f. absurd (answered_refused f refl) })
 
     pub commit_bad_rows : (s : ℕ) → CommitCall xs ys s plan fields bounds b xs plan fields bounds
     commit_bad_rows s =
-        rw (turned_back a w x v)
+        rw (← e)
         (record {
-          planned = nothing_planned x _ _ plan fields bounds b (rw v at q);
+          planned = nothing_planned x _ _ plan fields bounds b q;
           day = no_day_given x xs;
-          stamp = λ w e. absurd (answered_refused e refl);
+          stamp = λ w f. absurd (answered_refused f refl);
         })
 
 -- the day that a row says
@@ -170,7 +149,7 @@ module _ (xs ys old_fields new_fields old_plan new_plan old_bounds new_bounds : 
       → AskCall xs ys old_plan old_fields old_bounds b new_plan new_fields new_bounds
   ask_said a w given =
       let f : Asks (day_of xs) (entry_in ys 0) old_plan a new_plan = rw (g.value, is) at w in
-      let planned = planned_said f.plans (rw f.stamp at given) in
+      let planned = planned_said a.planned f.plans (rw f.stamp at given) in
       rw g.passed (record { planned = planned; stamp = λ v q. third_value planned v q })
 
   pub commit_said : (a : CommitAnswer) (s : ℕ) (new_day : List ℕ) → Commits d e s old_plan a new_plan
@@ -189,22 +168,21 @@ module _ (xs ys old_fields new_fields old_plan new_plan old_bounds new_bounds : 
       stamp : a.stamp ≡ (day_after (day_of xs) (entry_in ys 0) o).stamp
       stamp = f.stamp ∙ ap (λ (k : StampedDay). k.stamp) f.day
 
-      -- the day that was committed, by the verdict and by the outcome
-      after : (t : Verdict) (v : Narrowed) (k : StampedDay) → outcome_of t k ≡ and_then (outcome_of t v) (λ _. answered k)
-      after Accepted v k = refl
-      after (Refused x) v k = refl
-
+      -- the day that was committed, by the answer and by the outcome
       same : committed_day a ≡ day_if_committed (day_of xs) (entry_in ys 0) o
-      same =
-          after a.planned.narrowed.verdict _ a.day
-          ∙ (λ j. and_then (f.plans.holds.narrowed j) (λ _. answered (f.day j)))
+      same = after a.planned a.day ∙ (λ j. and_then (f.plans.holds.narrowed j) (λ _. answered (f.day j)))
+        where
+          after : (t : Result PlannedDay Refusal) (k : StampedDay)
+              → and_then (outcome_of t) (λ _. answered k) ≡ and_then (narrowed_in (narrowed_by_plan t)) (λ _. answered k)
+          after (Ok p) k = refl
+          after (Err x) k = refl
 
       day : DayCall (day_if_committed (day_of xs) (entry_in ys 0) o) xs new_day
       day = rw (← same) stored
 
       planned : PlannedCall (with_entry (day_of xs).list (entry_in ys 0)) o (day_after (day_of xs) (entry_in ys 0) o).stamp
           old_plan old_fields old_bounds b new_plan new_fields new_bounds
-      planned = planned_said f.plans (rw stamp at given)
+      planned = planned_said a.planned f.plans (rw stamp at given)
 
       third : (v : Narrowed) → o ≡ answered v → get_or b.values 2 0 ≡ (day_of new_day).stamp
       third v q =
@@ -212,10 +190,11 @@ module _ (xs ys old_fields new_fields old_plan new_plan old_bounds new_bounds : 
           third_value planned v q ∙ ap (λ (k : StampedDay). k.stamp) said
 
 -- the day after a commit, in its row
-module _ (a : CommitAnswer) (old : List ℕ) where
-  pub no_success : (x : Refusal) → a.planned.narrowed.verdict ≡ Refused x → DayCall (committed_day a) old old
-  no_success x e = rw e (no_day_given x old)
-
-  pub success_stored : (new : List ℕ) → length old ≡ day_numbers → a.planned.narrowed.verdict ≡ Accepted → StoresDay a.day old new
-      → DayCall (committed_day a) old new
-  success_stored new long e put = rw e (day_given a.day old new long put)
+pub day_left : (a : CommitAnswer) (old new : List ℕ) → length old ≡ day_numbers → (is_ok a.planned ≡ true → StoresDay a.day old new)
+    → (is_ok a.planned ≡ false → new ≡ old) → DayCall (committed_day a) old new
+day_left a old new long put kept = go a.planned put kept
+  where
+    go : (t : Result PlannedDay Refusal) → (is_ok t ≡ true → StoresDay a.day old new) → (is_ok t ≡ false → new ≡ old)
+        → DayCall (and_then (outcome_of t) (λ _. answered a.day)) old new
+    go (Ok p) put kept = day_given a.day old new long (put refl)
+    go (Err x) put kept = rw (kept refl) (no_day_given x old)

@@ -1,58 +1,63 @@
 -- What the call about unbroken days leaves, from what the crate unbroken answers.
 -- Assumes nothing.
-use mathlib.Core.Path.{◌≡◌, refl, subst, ◌∙◌}
+use mathlib.Core.Path.{◌≡◌, refl, ap, subst, ◌∙◌}
 use mathlib.Core.Bool.{Bool, cond}
 use mathlib.Core.List.{List}
 use Prim.Native.Nat.{ℕ}
 use lib.ListN.{length}
-use Rattle.base.specs.Outcomes.{Outcome, answered, refused}
+use Rattle.std.specs.Prelude.{Result, Ok, Err}
+use Rattle.base.specs.Outcomes.{answered, refused}
 use Rattle.list.specs.DayLists.{whole_in}
-use Rattle.list.specs.Refusals.{read_answer_of}
+use Rattle.list.specs.Refusals.{code_of}
 use Rattle.list.specs.declared.types.DayList.{DayList}
 use Rattle.list.specs.declared.types.Refusal.{Refusal}
-use Rattle.list.specs.declared.types.Verdict.TheVariants.{Refused}
-use Rattle.list.specs.declared.types.ReadAnswer.{ReadAnswer}
-use Rattle.narrow.specs.Calls.{narrow_answer_of}
+use Rattle.planner.specs.Calls.{plan_of}
 use Rattle.backtracking.specs.Searches.{Search, found, none, spent}
-use Rattle.backtracking.specs.Calls.{is_found, ending_number}
-use Rattle.unbroken.specs.Calls.{unbroken_of, ending_after, starts_after, FindsUnbroken}
-use Rattle.unbroken.specs.declared.types.UnbrokenAnswer.{UnbrokenAnswer}
+use Rattle.backtracking.specs.Calls.{is_found, ending_of}
+use Rattle.unbroken.specs.Calls.{unbroken_of, starts_found, FindsUnbroken}
+use Rattle.unbroken.specs.declared.types.UnbrokenSearch.{UnbrokenSearch}
 use Rattle.flat.specs.Flat.{value_of, flat_beside}
-use Rattle.flat.proofs.LengthCases.{turned_back}
-use Rattle.abi.specs.Calls.{NarrowCall}
-use Rattle.abi.specs.SearchCalls.{starts_given, UnbrokenCall}
+use Rattle.abi.specs.SearchCalls.{starts_given, SearchedCall, UnbrokenCall}
+use Rattle.abi.specs.Internal.{RefusedAs, GivesSearch}
 use Rattle.abi.specs.declared.Answer.{Answer}
-use Rattle.abi.proofs.CallCases.{VerdictAs, Given, told, nothing_narrowed}
+use Rattle.abi.proofs.CallCases.{Given, nothing_narrowed}
 
 -- rows that were turned back
-pub unbroken_bad_length : (xs : List ℕ) (a : ReadAnswer) (x : Refusal) → a.verdict ≡ Refused x → (b : Answer) → VerdictAs a.verdict b
-    → (fields : List ℕ) → read_answer_of a ≡ flat_beside xs (length fields) → (limit : ℕ) (plan starts : List ℕ)
-    → UnbrokenCall xs limit plan fields starts b plan fields starts
-unbroken_bad_length xs a x v b q fields w limit plan starts =
-    rw (turned_back a w x v)
-    (record { narrowed = nothing_narrowed x _ _ fields b (told xs a x v b q); plan = refl; starts = refl })
+pub unbroken_bad_length : (xs fields : List ℕ) (x : Refusal) → refused (code_of x) ≡ flat_beside xs (length fields) → (b : Answer)
+    → RefusedAs x b → (limit : ℕ) (plan starts : List ℕ) → UnbrokenCall xs limit plan fields starts b plan fields starts
+unbroken_bad_length xs fields x e b q limit plan starts =
+    rw (← e) (record { narrowed = nothing_narrowed x _ _ fields b q; plan = refl; starts = refl })
 
 -- the starts are given where a day was found
-starts_given_lem : (whole : ℕ → Bool) (old : List ℕ) (o : Outcome Search)
-    → cond (is_found (ending_after o)) (starts_after whole o) old ≡ starts_given whole old o
-starts_given_lem whole old (answered (found u t)) = refl
-starts_given_lem whole old (answered (none t)) = refl
-starts_given_lem whole old (answered (spent t)) = refl
-starts_given_lem whole old (refused k) = refl
+starts_given_lem : (whole : ℕ → Bool) (old : List ℕ) (x : Search)
+    → cond (is_found (ending_of x)) (starts_found whole x) old ≡ starts_given whole old (answered x)
+starts_given_lem whole old (found u t) = refl
+starts_given_lem whole old (none t) = refl
+starts_given_lem whole old (spent t) = refl
+
+-- what a search answered, in numbers
+module _ (l : DayList) (limit : ℕ) {b : Answer} {old_plan new_plan old_fields new_fields old_starts new_starts : List ℕ} where
+  search_said : (a : Result UnbrokenSearch Refusal) → FindsUnbroken l limit old_plan a new_plan
+      → GivesSearch a old_fields old_starts b new_fields new_starts
+      → SearchedCall l (plan_of l (length old_plan)) (unbroken_of l limit (length old_plan)) old_plan old_fields old_starts
+      b new_plan new_fields new_starts
+  search_said (Ok u) w given =
+      let s = w.search u refl in
+      record {
+        narrowed = rw (← w.answers, s.outcome, ← s.ending, ← s.trials) given.0;
+        plan = w.buffer;
+        starts = (rw (s.ending, s.starts) at given.1) ∙ starts_given_lem (whole_in l) old_starts s.ended ∙ rw s.outcome refl;
+      }
+  search_said (Err k) w given =
+      let none = w.unsearched k refl in
+      rw (none.0, none.1, given.1.0, given.1.1)
+      (record { narrowed = rw (← w.answers) (nothing_narrowed k _ _ old_fields b given.0); plan = refl; starts = refl })
 
 -- of the list value that was given
 pub unbroken_said : (xs old_fields new_fields : List ℕ) (l : DayList) → Given xs (flat_beside xs (length old_fields)) l → (b : Answer)
-    → (limit : ℕ) (old_plan new_plan old_starts new_starts : List ℕ) (a : UnbrokenAnswer) → FindsUnbroken l limit old_plan a new_plan
-    → new_starts ≡ cond (is_found a.ending) a.starts old_starts → (ending : ℕ) → ending ≡ ending_number a.ending
-    → NarrowCall (narrow_answer_of a.narrowed) ending a.trials old_fields b new_fields
+    → (limit : ℕ) (old_plan new_plan old_starts new_starts : List ℕ) (a : Result UnbrokenSearch Refusal)
+    → FindsUnbroken l limit old_plan a new_plan → GivesSearch a old_fields old_starts b new_fields new_starts
     → UnbrokenCall xs limit old_plan old_fields old_starts b new_plan new_fields new_starts
-unbroken_said xs old_fields new_fields l g b limit old_plan new_plan old_starts new_starts a w put ending number given =
-    let f : FindsUnbroken (value_of xs) limit old_plan a new_plan =
-    subst (λ (k : DayList). FindsUnbroken k limit old_plan a new_plan) g.value w in
-    let o = unbroken_of (value_of xs) limit (length old_plan) in
+unbroken_said xs old_fields new_fields l g b limit old_plan new_plan old_starts new_starts a w given =
     rw g.passed
-    (record {
-      narrowed = rw (← f.answers.outcome, ← f.ending, ← f.trials, ← number) given;
-      plan = f.buffer;
-      starts = (rw (f.ending, f.starts) at put) ∙ starts_given_lem (whole_in (value_of xs)) old_starts o;
-    })
+    (search_said (value_of xs) limit a (subst (λ (k : DayList). FindsUnbroken k limit old_plan a new_plan) g.value w) given)

@@ -36,9 +36,13 @@ pub record TakenCall (o : Outcome DayList) (old : List ℕ) (a : Answer) (fields
   pub buffer : fields ≡ fields_after o old
   pub back : (l : DayList) → o ≡ answered l → list_in fields ≡ answered l
 
+-- the list that the bytes bs say, where a row of the length given is lent beside them: row 100 for that first
+abbrev pub read_in : List ℕ → ℕ → Outcome DayList
+read_in bs lent = and_then (flat_fault lent) (λ _. read_of bs)
+
 -- what `dock_read` answers of the bytes bs, and leaves in a row that held old
 abbrev pub ReadCall : List ℕ → List ℕ → Answer → List ℕ → Type 0
-ReadCall bs old = TakenCall (and_then (flat_fault (length old)) (λ _. read_of bs)) old
+ReadCall bs old = TakenCall (read_in bs (length old)) old
 
 -- an answer where writing the list l has the outcome o, and what it leaves in a buffer that held old
 pub record WrittenCall (l : DayList) (o : Outcome ℕ) (old : List ℕ) (a : Answer) (out : List ℕ) : Type 0 where

@@ -26,9 +26,13 @@ pub record MadeCall (o : Outcome StampedDay) (old : List ℕ) (a : Answer) (new 
   pub answer : a ≡ answer_with (λ _. []) o
   pub day : DayCall o old new
 
--- what `dock_fresh` answers of the row xs, and leaves in a day's row that held old: row 100 for xs, then for the lent one
+-- the fresh day of the list value that the row xs says, where a day's row of the length given is lent: row 100 for xs, then for that
+abbrev pub fresh_in : List ℕ → ℕ → Outcome StampedDay
+fresh_in xs lent = and_then (list_in xs) (λ l. and_then (day_fault lent) (λ _. fresh_of l))
+
+-- what `dock_fresh` answers of the row xs, and leaves in a day's row that held old
 abbrev pub FreshCall : List ℕ → List ℕ → Answer → List ℕ → Type 0
-FreshCall xs old = MadeCall (and_then (list_in xs) (λ l. and_then (day_fault (length old)) (λ _. fresh_of l))) old
+FreshCall xs old = MadeCall (fresh_in xs (length old)) old
 
 -- row 100 for the length of an entry's row, then for that of a list's row that is lent
 abbrev pub beside_fault : ℕ → ℕ → Outcome (Unit {0})

@@ -13,10 +13,8 @@ pub fn dock_turn(rooms: &mut [u32], lists: &mut [u8], number: u64, carried: &mut
     ensures { TurnCall rooms.old lists.old number carried.old result
         rooms.new lists.new carried.new }
 {
-    let turned = turn_numbers(rooms, lists, number as usize, carried);
-    let values = turned.values;
-    Answer {
-        number: turned.number,
-        values: values,
+    match turn_numbers(rooms, lists, number as usize, carried) {
+        Ok(values) => Answer { number: 0, values },
+        Err(x) => Answer::from(x),
     }
 }

@@ -12,23 +12,22 @@ mod days;
 mod desk;
 mod search;
 
-ghost use Rattle.std.specs.Prelude.{◌≡◌, [], ◌∷◌, ◌++◌, length};
-ghost use Rattle.list.specs.Refusals.{code_of, verdict_of, write_answer_of};
-ghost use Rattle.narrow.specs.Calls.{narrow_answer_of, narrowed_in};
-ghost use Rattle.planner.specs.Calls.{settled_or};
+ghost use Rattle.std.specs.Prelude.{◌≡◌, [], ◌∷◌, length, Ok};
+ghost use Rattle.list.specs.Refusals.{code_of, outcome_of};
+ghost use Rattle.narrow.specs.Calls.{narrow_answer_of};
 ghost use Rattle.codes.specs.Codes.{three};
 ghost use Rattle.flat.specs.Flat.{flat_numbers};
-ghost use Rattle.abi.specs.Calls.{answer_with, ReadCall, WriteCall, OverloadCall, ScheduleCall, NarrowCall, SettleCall, PlanCall};
+ghost use Rattle.abi.specs.Calls.{answer_with, read_in, ReadCall, WriteCall, OverloadCall, ScheduleCall, NarrowCall, SettleCall, PlanCall};
 ghost use Rattle.abi.specs.Calls.{EarlyCall, LateCall, ReportCall, LineCall};
-ghost use Rattle.abi.specs.Internal.{GivesPlanned};
+ghost use Rattle.abi.specs.Internal.{GivesPlanned, GivesShown};
 
 use codes::RefusalCode;
 pub use days::{dock_ask, dock_commit, dock_fresh};
 pub use desk::dock_turn;
-use flat::{BOUNDS, flat_fault, joined, list_beside, list_in, put_flat};
-use list::types::{Refusal, Verdict, WriteAnswer};
-use narrow::types::NarrowAnswer;
-use planner::types::PlanAnswer;
+use flat::{BOUNDS, NUMBERS, joined, length_fault, list_beside, list_in, put_flat};
+use list::types::{DayList, Refusal};
+use narrow::types::NarrowedList;
+use planner::types::{PlannedDay, ShownPlan};
 use planner::{plan_day, show_early, show_late};
 pub use search::dock_unbroken;
 
@@ -40,117 +39,105 @@ pub struct Answer {
     pub values: [u64; 3],
 }
 
-fn refused_as(x: Refusal) -> Answer
-    ensures { result ≡ record { number = (code_of x).number; values = three (code_of x).carries } }
-{
-    let code = codes::numbers_of(x);
-    let values = code.values;
-    Answer {
-        number: code.number,
-        values: values,
+impl From<Refusal> for Answer {
+    fn from(x: Refusal) -> Answer
+        ensures { result ≡ record { number = (code_of x).number; values = three (code_of x).carries } }
+    {
+        let RefusalCode { number, values } = codes::numbers_of(x);
+        Answer { number, values }
     }
 }
 
-pub(crate) fn verdict_as(v: Verdict) -> Answer
-    ensures { result ≡ answer_with (λ _. []) (verdict_of v) }
-{
-    match v {
-        Verdict::Accepted => Answer {
-            number: 0,
-            values: [0, 0, 0],
-        },
-        Verdict::Refused(x) => refused_as(x),
+// What a call answered that gives no number.
+impl From<Result<(), Refusal>> for Answer {
+    fn from(told: Result<(), Refusal>) -> Answer
+        ensures { result ≡ answer_with (λ _. []) (outcome_of told) }
+    {
+        match told {
+            Ok(()) => Answer {
+                number: 0,
+                values: [0; 3],
+            },
+            Err(x) => Answer::from(x),
+        }
     }
 }
 
 // What a writer answered: the first value is the number of bytes written.
-fn count_as(answer: WriteAnswer) -> Answer
-    ensures { result ≡ answer_with (λ n. n ∷ []) (write_answer_of answer) }
-{
-    match answer {
-        WriteAnswer::Written(count) => Answer {
-            number: 0,
-            values: [count as u64, 0, 0],
-        },
-        WriteAnswer::NotWritten(x) => refused_as(x),
+impl From<Result<usize, Refusal>> for Answer {
+    fn from(written: Result<usize, Refusal>) -> Answer
+        ensures { result ≡ answer_with (λ n. n ∷ []) (outcome_of written) }
+    {
+        match written {
+            Ok(count) => Answer {
+                number: 0,
+                values: [count as u64, 0, 0],
+            },
+            Err(x) => Answer::from(x),
+        }
     }
+}
+
+// The list that bytes say, where a row of the length `lent` stands beside them.
+fn read_in(bytes: &[u8], lent: usize) -> Result<DayList, Refusal>
+    ensures { outcome_of result ≡ read_in bytes.now lent }
+{
+    length_fault(NUMBERS, lent)?;
+    format::read(bytes)
 }
 
 // Reads a list. Accepted: `fields` is the list; else it keeps its values.
 pub fn dock_read(bytes: &[u8], fields: &mut [u32]) -> Answer
     ensures { ReadCall bytes.now fields.old result fields.new }
 {
-    let fault = flat_fault(fields.len());
-    let Verdict::Accepted = fault else {
-        return verdict_as(fault);
-    };
-    let answer = format::read(bytes);
-    let read = answer.verdict;
-    let Verdict::Accepted = read else {
-        return verdict_as(read);
-    };
-    put_flat(answer.list, fields);
-    verdict_as(read)
+    match read_in(bytes, fields.len()) {
+        Ok(list) => {
+            put_flat(list, fields);
+            Answer::from(Ok(()))
+        }
+        Err(x) => Answer::from(x),
+    }
 }
 
 // Writes the list value that `fields` says. Accepted: the first value is the number of bytes written; else `out` keeps its bytes.
 pub fn dock_write(fields: &[u32], out: &mut [u8]) -> Answer
     ensures { WriteCall fields.now out.old result out.new }
 {
-    let given = list_in(fields);
-    let fault = given.verdict;
-    let Verdict::Accepted = fault else {
-        return verdict_as(fault);
-    };
-    let answer = format::write(given.list, out);
-    count_as(answer)
+    match list_in(fields) {
+        Ok(list) => Answer::from(format::write(list, out)),
+        Err(x) => Answer::from(x),
+    }
 }
 
 // Tests the list value that `fields` says for an overloaded interval.
 pub fn dock_overload(fields: &[u32]) -> Answer
     ensures { OverloadCall fields.now result }
 {
-    let given = list_in(fields);
-    let fault = given.verdict;
-    let Verdict::Accepted = fault else {
-        return verdict_as(fault);
-    };
-    verdict_as(jackson::overload(given.list))
+    match list_in(fields) {
+        Ok(list) => Answer::from(jackson::overload(list)),
+        Err(x) => Answer::from(x),
+    }
 }
 
 // Fills `plan` with Jackson's schedule of the list value that `fields` says, its windows as given. Refused: `plan` keeps its bytes.
 pub fn dock_schedule(fields: &[u32], plan: &mut [u8]) -> Answer
     ensures { ScheduleCall fields.now plan.old result plan.new }
 {
-    let given = list_in(fields);
-    let fault = given.verdict;
-    let Verdict::Accepted = fault else {
-        return verdict_as(fault);
-    };
-    let verdict = jackson::schedule(given.list, plan);
-    verdict_as(verdict)
+    match list_in(fields) {
+        Ok(list) => Answer::from(jackson::schedule(list, plan)),
+        Err(x) => Answer::from(x),
+    }
 }
 
-// What narrowing answered: the values are the moves and these two, and `narrowed` is the list; refused, it keeps its values.
-pub(crate) fn give_narrowed(
-    answer: NarrowAnswer,
-    second: u64,
-    third: u64,
-    narrowed: &mut [u32],
-) -> Answer
+// A narrowed list: the values are the moves and these two, and `narrowed` is the list.
+pub(crate) fn give_narrowed(found: NarrowedList, second: u64, third: u64, narrowed: &mut [u32]) -> Answer
     requires { length narrowed.old ≡ flat_numbers }
-    ensures { NarrowCall (narrow_answer_of answer) second third narrowed.old result narrowed.new }
+    ensures { NarrowCall (narrow_answer_of (Ok found)) second third narrowed.old result narrowed.new }
 {
-    let verdict = answer.verdict;
-    match verdict {
-        Verdict::Accepted => {
-            put_flat(answer.list, narrowed);
-            Answer {
-                number: 0,
-                values: [answer.moves as u64, second, third],
-            }
-        }
-        Verdict::Refused(x) => refused_as(x),
+    put_flat(found.list, narrowed);
+    Answer {
+        number: 0,
+        values: [u64::from(found.moves), second, third],
     }
 }
 
@@ -158,43 +145,33 @@ pub(crate) fn give_narrowed(
 pub fn dock_settle(fields: &[u32], narrowed: &mut [u32]) -> Answer
     ensures { SettleCall fields.now narrowed.old result narrowed.new }
 {
-    let given = list_beside(fields, narrowed.len());
-    let fault = given.verdict;
-    let Verdict::Accepted = fault else {
-        return verdict_as(fault);
-    };
-    give_narrowed(narrow::settle(given.list), 0, 0, narrowed)
+    match list_beside(fields, narrowed.len()) {
+        Ok(list) => match narrow::settle(list) {
+            Ok(found) => give_narrowed(found, 0, 0, narrowed),
+            Err(x) => Answer::from(x),
+        },
+        Err(x) => Answer::from(x),
+    }
 }
 
-// The bounds that planning answered; refused, `bounds` keeps its values.
-fn give_bounds(answer: PlanAnswer, bounds: &mut [u32; BOUNDS])
-    ensures { bounds.new
-        ≡ settled_or bounds.old (λ _. answer.ends ++ answer.starts) (narrowed_in answer.narrowed) }
-{
-    let narrowed = answer.narrowed;
-    let verdict = narrowed.verdict;
-    let Verdict::Accepted = verdict else {
-        return;
-    };
-    let ends = answer.ends;
-    let starts = answer.starts;
-    *bounds = joined(ends, starts);
-}
-
-// What planning answered: the values are the moves, the number of broken entries and this third one, `narrowed` is the list, and `bounds`
-// are the bounds; refused, both keep their values.
+// What planning answered: the values are the moves, the number of broken entries and a stamp, or 0 without one, `narrowed` is the list, and
+// `bounds` are the bounds; refused, both keep their values.
 pub(crate) fn give_planned(
-    answer: PlanAnswer,
-    third: u64,
+    answer: Result<PlannedDay, Refusal>,
+    stamp: u16,
     narrowed: &mut [u32],
     bounds: &mut [u32; BOUNDS],
 ) -> Answer
     requires { length narrowed.old ≡ flat_numbers }
-    ensures { GivesPlanned answer third narrowed.old bounds.old result
-        narrowed.new bounds.new }
+    ensures { GivesPlanned answer stamp narrowed.old bounds.old result narrowed.new bounds.new }
 {
-    give_bounds(answer, bounds);
-    give_narrowed(answer.narrowed, answer.broken as u64, third, narrowed)
+    match answer {
+        Ok(day) => {
+            *bounds = joined(day.ends, day.starts);
+            give_narrowed(day.narrowed, u64::from(day.broken), u64::from(stamp), narrowed)
+        }
+        Err(x) => Answer::from(x),
+    }
 }
 
 // Plans the list value that `fields` says. Accepted: the values are the moves and the number of broken entries, `narrowed` is the settled
@@ -209,13 +186,21 @@ pub fn dock_plan(
     ensures { PlanCall fields.now plan.old narrowed.old bounds.old result
         plan.new narrowed.new bounds.new }
 {
-    let given = list_beside(fields, narrowed.len());
-    let fault = given.verdict;
-    let Verdict::Accepted = fault else {
-        return verdict_as(fault);
-    };
-    let answer = plan_day(given.list, plan);
-    give_planned(answer, 0, narrowed, bounds)
+    match list_beside(fields, narrowed.len()) {
+        Ok(list) => give_planned(plan_day(list, plan), 0, narrowed, bounds),
+        Err(x) => Answer::from(x),
+    }
+}
+
+// What showing a plan answered: the values are the moves and the place's bound, and `narrowed` is the list; refused, it keeps its values.
+fn give_shown(answer: Result<ShownPlan, Refusal>, narrowed: &mut [u32]) -> Answer
+    requires { length narrowed.old ≡ flat_numbers }
+    ensures { GivesShown answer narrowed.old result narrowed.new }
+{
+    match answer {
+        Ok(shown) => give_narrowed(shown.narrowed, u64::from(shown.bound), 0, narrowed),
+        Err(x) => Answer::from(x),
+    }
 }
 
 // Shows the early plan of a place of the list value that `fields` says. Accepted: the values are the moves and the place's least end,
@@ -224,13 +209,10 @@ pub fn dock_early(fields: &[u32], place: u64, plan: &mut [u8], narrowed: &mut [u
     ensures { EarlyCall fields.now place plan.old narrowed.old result
         plan.new narrowed.new }
 {
-    let given = list_beside(fields, narrowed.len());
-    let fault = given.verdict;
-    let Verdict::Accepted = fault else {
-        return verdict_as(fault);
-    };
-    let answer = show_early(given.list, place as usize, plan);
-    give_narrowed(answer.narrowed, answer.bound as u64, 0, narrowed)
+    match list_beside(fields, narrowed.len()) {
+        Ok(list) => give_shown(show_early(list, place as usize, plan), narrowed),
+        Err(x) => Answer::from(x),
+    }
 }
 
 // Shows the late plan, with the place's greatest start.
@@ -238,13 +220,10 @@ pub fn dock_late(fields: &[u32], place: u64, plan: &mut [u8], narrowed: &mut [u3
     ensures { LateCall fields.now place plan.old narrowed.old result
         plan.new narrowed.new }
 {
-    let given = list_beside(fields, narrowed.len());
-    let fault = given.verdict;
-    let Verdict::Accepted = fault else {
-        return verdict_as(fault);
-    };
-    let answer = show_late(given.list, place as usize, plan);
-    give_narrowed(answer.narrowed, answer.bound as u64, 0, narrowed)
+    match list_beside(fields, narrowed.len()) {
+        Ok(list) => give_shown(show_late(list, place as usize, plan), narrowed),
+        Err(x) => Answer::from(x),
+    }
 }
 
 // Stores the text of the day that `bytes` say at the start of `out`. Accepted: the first value is its number of bytes; else, a list that is
@@ -252,8 +231,7 @@ pub fn dock_late(fields: &[u32], place: u64, plan: &mut [u8], narrowed: &mut [u3
 pub fn dock_report(bytes: &[u8], out: &mut [u8]) -> Answer
     ensures { ReportCall bytes.now out.old result out.new }
 {
-    let answer = report::report(bytes, out);
-    count_as(answer)
+    Answer::from(report::report(bytes, out))
 }
 
 // Stores the line that the program prints for a refusal, whatever its number and values, likewise. REFUSAL_BYTES of the crate report are
@@ -261,10 +239,6 @@ pub fn dock_report(bytes: &[u8], out: &mut [u8]) -> Answer
 pub fn dock_refusal_line(number: u64, values: &[u64; 3], out: &mut [u8]) -> Answer
     ensures { LineCall number values.now out.old result out.new }
 {
-    let code = RefusalCode {
-        number: number,
-        values: *values,
-    };
-    let answer = report::refusal_line(code, out);
-    count_as(answer)
+    let values = *values;
+    Answer::from(report::refusal_line(RefusalCode { number, values }, out))
 }

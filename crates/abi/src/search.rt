@@ -1,23 +1,36 @@
 // Looking for an unbroken day of a list.
-ghost use Rattle.std.specs.Prelude.{◌≡◌, cond};
+ghost use Rattle.std.specs.Prelude.{◌≡◌, cond, length};
 ghost use Rattle.backtracking.specs.Calls.{is_found};
+ghost use Rattle.flat.specs.Flat.{flat_numbers};
 ghost use Rattle.abi.specs.SearchCalls.{UnbrokenCall};
+ghost use Rattle.abi.specs.Internal.{GivesSearch};
 
-use crate::{Answer, give_narrowed, verdict_as};
+use crate::{Answer, give_narrowed};
 use backtracking::{ending_number, is_found};
 use flat::{list_beside, place_numbers};
-use list::types::{ENTRIES, Verdict};
-use unbroken::types::UnbrokenAnswer;
+use list::types::{ENTRIES, Refusal};
+use unbroken::types::UnbrokenSearch;
 use unbroken::unbroken_day;
 
-// The starts of the day that was found; else `starts` keeps its values.
-fn give_starts(answer: UnbrokenAnswer, starts: &mut [u32; ENTRIES])
-    ensures { starts.new ≡ cond (is_found answer.ending) answer.starts starts.old }
+// What a search answered: the values are the moves, how it ended and the trials made, `narrowed` is the list, and `starts` are those of a
+// day that was found; else they keep their values. Refused, both keep them.
+fn give_search(
+    answer: Result<UnbrokenSearch, Refusal>,
+    narrowed: &mut [u32],
+    starts: &mut [u32; ENTRIES],
+) -> Answer
+    requires { length narrowed.old ≡ flat_numbers }
+    ensures { GivesSearch answer narrowed.old starts.old result narrowed.new starts.new }
 {
-    let ending = answer.ending;
-    if is_found(ending) {
-        let found = answer.starts;
-        *starts = place_numbers(found);
+    match answer {
+        Ok(search) => {
+            if is_found(search.ending) {
+                *starts = place_numbers(search.starts);
+            }
+            let ending = ending_number(search.ending);
+            give_narrowed(search.narrowed, ending, u64::from(search.trials), narrowed)
+        }
+        Err(x) => Answer::from(x),
     }
 }
 
@@ -34,18 +47,8 @@ pub fn dock_unbroken(
     ensures { UnbrokenCall fields.now limit plan.old narrowed.old starts.old result
         plan.new narrowed.new starts.new }
 {
-    let given = list_beside(fields, narrowed.len());
-    let fault = given.verdict;
-    let Verdict::Accepted = fault else {
-        return verdict_as(fault);
-    };
-    let answer = unbroken_day(given.list, limit, plan);
-    give_starts(answer, starts);
-    let ending = answer.ending;
-    give_narrowed(
-        answer.narrowed,
-        ending_number(ending),
-        answer.trials as u64,
-        narrowed,
-    )
+    match list_beside(fields, narrowed.len()) {
+        Ok(list) => give_search(unbroken_day(list, limit, plan), narrowed, starts),
+        Err(x) => Answer::from(x),
+    }
 }

@@ -6,8 +6,7 @@ use mathlib.Core.List.{List}
 use Prim.Native.Nat.{ℕ, zero, suc, ◌+◌, ◌<◌, ◌≤◌}
 use native.Mathlib.Numerals.{add-one}
 use native.Mathlib.Omega.{arith}
-use borrow.Author.Tests.{eq-eqb, eqb-true, not-true, not-false}
-use mir.Val.{bool_byte}
+use borrow.Author.Tests.{eq-eqb, eqb-true, not-true}
 use lib.Dec.{eqb}
 use lib.ListN.{length, get_or, take}
 use Rattle.base.specs.Counting.{last_below, sum}
@@ -78,10 +77,6 @@ module _ (h : ℕ) (xs : List ℕ) (long : length xs ≡ h) (k : ℕ) where
       let inside : t < h = omega (arith, long) in
       is ∙ sym (last_at h is_minute t inside (minute t inside at) (λ i u l. another i l (after i u (omega (arith, long)))))
 
-byte_of : (b : Bool) → bool_byte b ≡ cond b 1 0
-byte_of true = refl
-byte_of false = refl
-
 -- one entry
 module _ {w : Windows} {bytes : List ℕ} (has : HoldsPlan w bytes) {k : ℕ} (place : k < w.n) where
   abbrev m : ℕ → ℕ
@@ -95,11 +90,6 @@ module _ {w : Windows} {bytes : List ℕ} (has : HoldsPlan w bytes) {k : ℕ} (p
 
   pub not_whole : (whole : Bool) → not whole ≡ true → 0 ≡ one_broken (λ _. whole) w bytes k
   not_whole whole e = rw (not-true whole e) refl
-
-  pub broken_counted : (whole : Bool) → not whole ≡ false → {s p end : ℕ} → s ≡ start_of w.h m k → p ≡ w.p k → end ≡ end_of w.h m k
-      → bool_byte (not (eqb (s + p) end)) ≡ one_broken (λ _. whole) w bytes k
-  broken_counted whole e start minutes ends =
-      rw (not-false whole e, start, minutes, ends, has.plan.exact k place) (byte_of _)
 
 -- the broken entries among the first i
 pub record BrokenSoFar (whole : ℕ → Bool) (w : Windows) (bytes : List ℕ) (x i : ℕ) : Type 0 where

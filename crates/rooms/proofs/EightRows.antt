@@ -47,7 +47,9 @@ module _ {F : Type 0} (g : Mut F (ℕ × Unit {0}) Room) (f : F) (row : ℕ → 
       (λ z _. given_at (i + 1) n q so.0 given k (omega arith) (omega arith) d)
 
   pub given_eight : IsFromFnResult g f rows most_rooms → rows ≡ map row (range_with_len 0 most_rooms)
-  given_eight given = fill_by_all row rows most_rooms no_row given.long (λ k u. given_at 0 most_rooms f refl given.each k (omega arith) u no_row)
+  given_eight given =
+      fill_by_all row rows most_rooms no_row given.long
+      (λ k u. given_at 0 most_rooms f refl given.each k (omega arith) u no_row)
 
 -- so each stands at its place
 past_rows : (k i : ℕ) → get_or (replicate k no_row) i no_row ≡ no_row

@@ -8,7 +8,6 @@ use lib.ListN.{get_or}
 use native.Mathlib.Omega.{arith}
 use Rattle.list.specs.DayLists.{marked}
 use Rattle.windows.specs.Windows.{windows_in}
-use Rattle.backtracking.specs.Internal.{NextWhole}
 use Rattle.backtracking.proofs.SearchCases.{enters_whole, enters_all}
 use Rattle.backtracking.proofs.search.entered.Goals as goal
 
@@ -17,7 +16,7 @@ returns-then-place-count c =
     let count_says = c.places_held-count.ensures in
     let place = c.next_whole-place.result in
     let windows = c.args.windows in
-    let next_one : NextWhole (marked c.args.whole) (windows_in windows).n c.args.k place = rw (← count_says) c.next_whole-place.ensures in
+    let next_one = rw count_says at c.next_whole-place.ensures in
     let fits_r : (j : ℕ) → Fits w16 (get_or windows.r j 0) = λ j. search rules in
     let enters = enters_whole (marked c.args.whole) (windows_in windows) c.args.fixed c.args.k c.args.trials place
     c.requires.fixed_below next_one
@@ -29,8 +28,7 @@ pub returns-else-place-count : goal.returns-else-place-count
 returns-else-place-count c =
     let count_says = c.places_held-count.ensures in
     let place = c.next_whole-place.result in
-    let next_one : NextWhole (marked c.args.whole) (windows_in c.args.windows).n c.args.k place =
-    rw (← count_says) c.next_whole-place.ensures in
+    let next_one = rw count_says at c.next_whole-place.ensures in
     enters_all (marked c.args.whole) (windows_in c.args.windows) c.args.fixed c.args.k c.args.trials place
     c.requires.fixed_below next_one
     (omega (arith, c.if-place-count.false, count_says))

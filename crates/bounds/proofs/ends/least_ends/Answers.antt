@@ -5,7 +5,7 @@ use mathlib.Core.Path.{◌∙◌}
 use Prim.Native.Nat.{◌<◌}
 use native.Mathlib.Omega.{arith}
 use Rattle.list.specs.DayLists.{marked}
-use Rattle.list.proofs.ByPlace.{placed_none, placed_next, placed_all}
+use Rattle.list.proofs.ByPlace.{placed_none, placed_next}
 use Rattle.windows.specs.Windows.{windows_in}
 use Rattle.bounds.proofs.EndCases.{closed_small, end_least}
 use Rattle.bounds.proofs.ends.least_ends.Goals as goal
@@ -33,6 +33,3 @@ loop-i-preserved c =
     (c.end_by_kind.ensures
     ∙ end_least (marked c.args.whole) (windows_in c.args.windows) c.requires.formed c.loop-i.i place c.args.planned _
     (c.requires.pauses_planned c.loop-i.i place) (c.pause_ends-closed.ensures c.loop-i.i place))
-
-pub returns : goal.returns
-returns c = placed_all _ _ _ _ c.loop-i.invariant (rw c.places_held-count.ensures at c.loop-i-test.false)
