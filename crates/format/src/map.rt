@@ -44,7 +44,11 @@ pub(crate) fn map_fields(at: usize, map: u8) -> Result<Fields, Refusal>
 fn follow(map: u8, seal: bool, r: bool, d: bool) -> Fields
     ensures { result ≡ record { seal = seal; r = r; d = d; kind = kind_of (bit 5 map) } }
 {
-    let kind = if bit(5, map) { Kind::Whole } else { Kind::Pause };
+    let kind = if bit(5, map) {
+        Kind::Whole
+    } else {
+        Kind::Pause
+    };
     Fields { seal, r, d, kind }
 }
 
