@@ -9,7 +9,7 @@ ghost use Rattle.flat.specs.Flat.{length_fault, list_in, flat_beside, StoresFlat
 
 use crate::NUMBERS;
 use list::empty_list;
-use list::types::{DayList, Entry, Frame, Kind, Refusal};
+use list::types::{DayList, Entry, Frame, Kind, Refusal, Seal};
 
 // The largest u16 for a number that is too large, and likewise below.
 pub(crate) fn u16_of(x: u32) -> u16
@@ -25,7 +25,7 @@ fn u8_of(x: u32) -> u8
 }
 
 // The seal that a flag and a number say, and likewise the kind and the entry below. Any flag but 0 stands.
-fn seal_in(flag: u32, number: u32) -> Option<u32>
+fn seal_in(flag: u32, number: u32) -> Seal
     ensures { result ≡ seal_of (not (eqb flag 0)) number }
 {
     (flag != 0).then_some(number)

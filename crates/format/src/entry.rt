@@ -8,7 +8,7 @@ ghost use Rattle.format.specs.EntryFields.{default_r, default_d, seal_of, entry_
 use crate::bytes::{u16_at, u32_at};
 use crate::map::{Fields, d_place, map_fields, p_place, r_place, size_of};
 use list::entry_fault;
-use list::types::{Entry, Frame, Refusal};
+use list::types::{Entry, Frame, Refusal, Seal};
 
 // "A missing r means the opening minute"
 pub(crate) fn default_r(frame: Frame) -> u16
@@ -24,7 +24,7 @@ pub(crate) fn default_d(frame: Frame) -> u16
     frame.h
 }
 
-fn seal_at(rest: &[u8], follows: bool) -> Option<u32>
+fn seal_at(rest: &[u8], follows: bool) -> Seal
     requires { 5 + cond follows 4 0 ≤ length rest.now }
     ensures { result ≡ seal_of follows (u32_at rest.now 5) }
 {

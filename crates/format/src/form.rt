@@ -9,7 +9,7 @@ use crate::bytes::{put_u16, put_u32};
 use crate::entry::{default_d, default_r};
 use crate::header::header_size;
 use crate::map::{Fields, map_of, size_of};
-use list::types::{DayList, Entry, Frame};
+use list::types::{DayList, Entry, Frame, Seal};
 
 // The fields of an entry's one form: those that are neither missing nor at their default.
 pub(crate) fn fields_in(frame: Frame, e: Entry) -> Fields
@@ -23,7 +23,7 @@ pub(crate) fn fields_in(frame: Frame, e: Entry) -> Fields
     }
 }
 
-fn put_seal(out: &mut [u8], at: usize, seal: Option<u32>) -> usize
+fn put_seal(out: &mut [u8], at: usize, seal: Seal) -> usize
     requires { at + length (seal_bytes seal) ≤ length out.old }
     ensures { Wrote out.old at (seal_bytes seal) out.new result }
 {

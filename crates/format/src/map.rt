@@ -1,7 +1,7 @@
 // The map byte, which alone decides which fields follow and how long they are.
 ghost use Rattle.std.specs.Prelude.{◌≡◌, cond, ◌+◌, ◌<◌, ◌^◌};
 ghost use Rattle.list.specs.Refusals.{outcome_of};
-ghost use Rattle.format.specs.Maps.{kind_of, bit, legal_map, map_fields, map_of, r_place, d_place, p_place, size_of};
+ghost use Rattle.format.specs.Maps.{kind_of, bit, map_fields, map_of, r_place, d_place, p_place, size_of};
 
 use list::types::{Kind, Refusal};
 
@@ -22,32 +22,34 @@ pub(crate) fn bit(k: u32, byte: u8) -> bool
     byte >> k & 1 == 1
 }
 
-// Whether bits 0 and 4 stand and bits 6 and 7 are clear.
-fn legal_map(map: u8) -> bool
-    ensures { result ≡ legal_map map }
-{
-    bit(0, map) && bit(4, map) && !bit(6, map) && !bit(7, map)
-}
-
-// The fields that follow a legal map byte, or row 4, which carries the place given.
+// The fields that follow a legal map byte, the first of a pair a pause and the second whole; or row 4, which carries the place given.
 pub(crate) fn map_fields(at: usize, map: u8) -> Result<Fields, Refusal>
     ensures { outcome_of result ≡ map_fields at map }
 {
-    if !legal_map(map) {
-        return Err(Refusal::BadMapByte(at));
+    match map {
+        0..=16 | 32..=48 | 64..=255 => Err(Refusal::BadMapByte(at)),
+        17 | 49 => Ok(follow(map, false, false, false)),
+        19 | 51 => Ok(follow(map, true, false, false)),
+        21 | 53 => Ok(follow(map, false, true, false)),
+        23 | 55 => Ok(follow(map, true, true, false)),
+        25 | 57 => Ok(follow(map, false, false, true)),
+        27 | 59 => Ok(follow(map, true, false, true)),
+        29 | 61 => Ok(follow(map, false, true, true)),
+        31 | 63 => Ok(follow(map, true, true, true)),
+        _ => Err(Refusal::BadMapByte(at)),
     }
-    Ok(Fields {
-        seal: bit(1, map),
-        r: bit(2, map),
-        d: bit(3, map),
-        kind: kind_of(bit(5, map)),
-    })
 }
 
-fn kind_of(whole: bool) -> Kind
-    ensures { result ≡ kind_of whole }
+// The fields given, and the kind that the map byte says.
+fn follow(map: u8, seal: bool, r: bool, d: bool) -> Fields
+    ensures { result ≡ record { seal = seal; r = r; d = d; kind = kind_of (bit 5 map) } }
 {
-    if whole { Kind::Whole } else { Kind::Pause }
+    let kind = if bit(5, map) {
+        Kind::Whole
+    } else {
+        Kind::Pause
+    };
+    Fields { seal, r, d, kind }
 }
 
 // x, with y added where a field follows.

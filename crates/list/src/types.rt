@@ -13,12 +13,14 @@ pub enum Kind {
     Whole,
 }
 
-// One box: its serial; its seal, which "is either missing or a number, and it travels inside its entry"; its window [r, d) of minutes, and
-// the p minutes of work that it needs.
+// Document 01's seal: "either missing or a number".
+pub type Seal = Option<u32>;
+
+// One box: its serial; its seal, which "travels inside its entry"; its window [r, d) of minutes, and the p minutes of work that it needs.
 #[derive(Clone, Copy)]
 pub struct Entry {
     pub serial: u32,
-    pub seal: Option<u32>,
+    pub seal: Seal,
     pub r: u16,
     pub d: u16,
     pub p: u16,
