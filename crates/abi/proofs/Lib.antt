@@ -3,5 +3,4 @@ mod AnswerLaws
 -- What the code's proofs cite, case by case.
 mod CallCases
 mod DayCases
-mod RoomCases
 mod SearchCases

@@ -1,32 +1,25 @@
 -- What the call about unbroken days leaves, from what the crate unbroken answers.
 -- Assumes nothing.
-use mathlib.Core.Path.{◌≡◌, refl, ap, subst, ◌∙◌}
+use mathlib.Core.Path.{◌≡◌, refl, subst, ◌∙◌}
 use mathlib.Core.Bool.{Bool, cond}
 use mathlib.Core.List.{List}
 use Prim.Native.Nat.{ℕ}
 use lib.ListN.{length}
 use Rattle.std.specs.Prelude.{Result, Ok, Err}
-use Rattle.base.specs.Outcomes.{answered, refused}
+use Rattle.base.specs.Outcomes.{answered}
 use Rattle.list.specs.DayLists.{whole_in}
-use Rattle.list.specs.Refusals.{code_of}
 use Rattle.list.specs.declared.types.DayList.{DayList}
 use Rattle.list.specs.declared.types.Refusal.{Refusal}
 use Rattle.planner.specs.Calls.{plan_of}
 use Rattle.backtracking.specs.Searches.{Search, found, none, spent}
 use Rattle.backtracking.specs.Calls.{is_found, ending_of}
-use Rattle.unbroken.specs.Calls.{unbroken_of, starts_found, FindsUnbroken}
+use Rattle.unbroken.specs.Calls.{unbroken_of, starts_found, HoldsSearch, FindsUnbroken}
 use Rattle.unbroken.specs.declared.types.UnbrokenSearch.{UnbrokenSearch}
 use Rattle.flat.specs.Flat.{value_of, flat_beside}
 use Rattle.abi.specs.SearchCalls.{starts_given, SearchedCall, UnbrokenCall}
-use Rattle.abi.specs.Internal.{RefusedAs, GivesSearch}
+use Rattle.abi.specs.Internal.{GivesSearch}
 use Rattle.abi.specs.declared.Answer.{Answer}
 use Rattle.abi.proofs.CallCases.{Given, nothing_narrowed}
-
--- rows that were turned back
-pub unbroken_bad_length : (xs fields : List ℕ) (x : Refusal) → refused (code_of x) ≡ flat_beside xs (length fields) → (b : Answer)
-    → RefusedAs x b → (limit : ℕ) (plan starts : List ℕ) → UnbrokenCall xs limit plan fields starts b plan fields starts
-unbroken_bad_length xs fields x e b q limit plan starts =
-    rw (← e) (record { narrowed = nothing_narrowed x _ _ fields b q; plan = refl; starts = refl })
 
 -- the starts are given where a day was found
 starts_given_lem : (whole : ℕ → Bool) (old : List ℕ) (x : Search)
@@ -41,16 +34,21 @@ module _ (l : DayList) (limit : ℕ) {b : Answer} {old_plan new_plan old_fields 
       → GivesSearch a old_fields old_starts b new_fields new_starts
       → SearchedCall l (plan_of l (length old_plan)) (unbroken_of l limit (length old_plan)) old_plan old_fields old_starts
       b new_plan new_fields new_starts
-  search_said (Ok u) w given =
-      let s = w.search u refl in
-      record {
-        narrowed = rw (← w.answers, s.outcome, ← s.ending, ← s.trials) given.0;
-        plan = w.buffer;
-        starts = (rw (s.ending, s.starts) at given.1) ∙ starts_given_lem (whole_in l) old_starts s.ended ∙ rw s.outcome refl;
-      }
+  search_said (Ok u) w given = go (w.search u refl) given
+    where
+      go : HoldsSearch (whole_in l) (unbroken_of l limit (length old_plan)) u → GivesSearch (Ok u) old_fields old_starts b new_fields new_starts
+          → SearchedCall l (plan_of l (length old_plan)) (unbroken_of l limit (length old_plan)) old_plan old_fields old_starts
+          b new_plan new_fields new_starts
+      go s told =
+          record {
+            narrowed = rw (← w.answers, s.outcome, ← s.ending, ← s.trials) told.0;
+            plan = w.buffer;
+            starts = told.1 ∙ (λ j. cond (is_found (s.ending j)) (s.starts j) old_starts) ∙ starts_given_lem (whole_in l) old_starts s.ended
+                ∙ rw s.outcome refl;
+          }
   search_said (Err k) w given =
       let none = w.unsearched k refl in
-      rw (none.0, none.1, given.1.0, given.1.1)
+      rw (none.0, none.1, given.1, given.2)
       (record { narrowed = rw (← w.answers) (nothing_narrowed k _ _ old_fields b given.0); plan = refl; starts = refl })
 
 -- of the list value that was given
