@@ -11,7 +11,7 @@ ghost use Rattle.report.specs.Reports.{refusal_line};
 ghost use Rattle.report.specs.Calls.{enough, line_enough};
 ghost use Rattle.dock.specs.Calls.{InputLimit, HoldsText, Prints};
 
-use list::types::{Refusal, WriteAnswer};
+use list::types::Refusal;
 use report::REPORT_BYTES;
 
 // The program's input and output, as the operating system numbers them.
@@ -27,10 +27,9 @@ fn line_of(x: Refusal, text: &mut [u8]) -> usize
     requires { line_enough ≤ length text.old }
     ensures { HoldsText text.new result (refusal_line (code_of x)) }
 {
-    let answer = report::refusal_line(codes::numbers_of(x), text);
-    match answer {
-        WriteAnswer::Written(size) => size,
-        WriteAnswer::NotWritten(_) => 0,
+    match report::refusal_line(codes::numbers_of(x), text) {
+        Ok(size) => size,
+        Err(_) => 0,
     }
 }
 
@@ -42,10 +41,9 @@ fn text_of(input: &[u8], count: usize, text: &mut [u8]) -> usize
     requires enough_in_bounds { enough ≤ length text.old }
     ensures { Prints input.now count text.new result }
 {
-    let answer = report::report(&input[..count], text);
-    match answer {
-        WriteAnswer::Written(size) => size,
-        WriteAnswer::NotWritten(x) => line_of(x, text),
+    match report::report(&input[..count], text) {
+        Ok(size) => size,
+        Err(x) => line_of(x, text),
     }
 }
 

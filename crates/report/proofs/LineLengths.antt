@@ -7,8 +7,7 @@ use borrow.Author.Tests.{ne_eqb}
 use lib.ListN.{length, get_or}
 use Rattle.base.specs.Outcomes.{code}
 use Rattle.list.specs.Machine.{SealFits}
-use Rattle.list.specs.declared.types.Seal.{Seal}
-use Rattle.list.specs.declared.types.Seal.TheVariants.{Missing, Number}
+use Rattle.std.specs.Prelude.{None, Option, Some}
 use Rattle.list.specs.declared.types.Kind.{Kind}
 use Rattle.list.specs.declared.types.Kind.TheVariants.{Pause, Whole}
 use Rattle.list.specs.declared.types.Entry.{Entry}
@@ -40,10 +39,10 @@ head_short h n moves broken a b c d =
       place_short broken (omega arith),
     ))
 
-seal_short : (s : Seal) → SealFits s → length (seal_text s) ≤ 10
+seal_short : (s : Option ℕ) → SealFits s → length (seal_text s) ≤ 10
 unfolding ascii
-seal_short Missing h = omega arith
-seal_short (Number x) h = decimal_short 10 x (omega arith) (omega arith)
+seal_short None h = omega arith
+seal_short (Some x) h = decimal_short 10 x (omega arith) (omega arith)
 
 kind_short : (k : Kind) → length (kind_text k) ≤ 5
 unfolding ascii

@@ -11,8 +11,7 @@ use lib.Dec.{eqb}
 use lib.Seq.{take-suc, take_all, drop_at}
 use Rattle.base.specs.Outcomes.{Code, code}
 use Rattle.list.specs.DayLists.{blank, day_list}
-use Rattle.list.specs.declared.types.Seal.{Seal}
-use Rattle.list.specs.declared.types.Seal.TheVariants.{Missing, Number}
+use Rattle.std.specs.Prelude.{None, Option, Some}
 use Rattle.list.specs.declared.types.Kind.{Kind}
 use Rattle.list.specs.declared.types.Kind.TheVariants.{Pause, Whole}
 use Rattle.list.specs.declared.types.Entry.{Entry}
@@ -59,10 +58,10 @@ entry_fields place e end start =
     ∷ decimal start
     ∷ []
 
-seal_word : (s : Seal) → Word (seal_text s)
+seal_word : (s : Option ℕ) → Word (seal_text s)
 unfolding ascii
-seal_word Missing = omega arith
-seal_word (Number x) = decimal_word x
+seal_word None = omega arith
+seal_word (Some x) = decimal_word x
 
 kind_word : (k : Kind) → Word (kind_text k)
 unfolding ascii
@@ -78,10 +77,10 @@ unfolding ascii
 no_dash [] some digit = absurd (omega arith)
 no_dash (b ∷ f) some digit = rw (ne_eqb b 45 (λ e. omega arith))
 
-seal_said_lem : (s : Seal) → seal_said (seal_text s) ≡ s
+seal_said_lem : (s : Option ℕ) → seal_said (seal_text s) ≡ s
 unfolding ascii
-seal_said_lem Missing = refl
-seal_said_lem (Number x) =
+seal_said_lem None = refl
+seal_said_lem (Some x) =
     let is = decimal_is x in
     rw (no_dash (decimal x) is.some (is.each 0 is.some).0, is.value)
 

@@ -14,7 +14,7 @@ use Rattle.format.specs.Reading.{read_of}
 use Rattle.format.specs.Laws.{ReadingRow, ReadRefusal}
 use Rattle.list.specs.declared.types.Entry.{Entry}
 use Rattle.list.specs.declared.types.DayList.{DayList}
-use Rattle.list.specs.declared.types.Verdict.TheVariants.{Accepted}
+use Rattle.std.specs.Prelude.{Ok}
 use Rattle.base.proofs.Inversion.{answered_same, answered_refused}
 use Rattle.format.proofs.ReadLaws.{read_places, read_well_formed}
 use Rattle.windows.specs.Windows.{Windows, windows_of, Formed}
@@ -26,7 +26,6 @@ use Rattle.narrow.specs.Settling.{Widest}
 use Rattle.narrow.specs.Rounds.{Narrowed, narrowing}
 use Rattle.narrow.specs.Laws.{Reason}
 use Rattle.narrow.specs.Calls.{list_with, settle_of}
-use Rattle.narrow.specs.declared.types.NarrowAnswer.{NarrowAnswer}
 use Rattle.narrow.proofs.OverloadPlanner.{overload_planner}
 use Rattle.narrow.proofs.Fixpoints.{widest_formed}
 use Rattle.narrow.proofs.NarrowLaws.{narrow_law}
@@ -36,7 +35,7 @@ use Rattle.narrow.proofs.ListAnswers.{settles}
 use Rattle.bounds.specs.Ends.{least_end, greatest_start}
 use Rattle.planner.specs.BrokenEntries.{broken_in}
 use Rattle.bounds.specs.ShownPlans.{early_plan, late_plan}
-use Rattle.planner.specs.Demand3.{Demand3}
+use Rattle.planner.specs.Demand3.{told_refused, Demand3}
 use Rattle.planner.specs.Demand2.{PlansWindows}
 use Rattle.planner.proofs.Demands.{AtPlace, ByRules, demand3, plans_windows}
 use Rattle.report.specs.Text.{line}
@@ -44,7 +43,7 @@ use Rattle.report.specs.Runs.{begins_run}
 use Rattle.report.specs.Reports.{head_line, entry_line, entry_lines, run_line, run_lines, refusal_line, day_text, planned_text, report_of}
 use Rattle.report.specs.Reports.{printed, printed_of}
 use Rattle.report.specs.Printed.{LineFields, lines_of, list_printed, windows_printed, day_printed, runs_printed, place_by, plan_printed}
-use Rattle.report.specs.Printed.{told_by, code_printed, told_refused}
+use Rattle.report.specs.Printed.{told_by, code_printed}
 use Rattle.report.specs.Laws.{SaysRuns, PrintsPlan, PrintsRefusal, ReportLaw, unread, refuses, plans}
 use Rattle.report.proofs.Fields.{text_said, kept, kept_each, kept_text}
 use Rattle.report.proofs.PrintedLines.{head_fields, head_words, entry_fields, entry_words, Lines, day_is, count_is, moves_is}
@@ -97,9 +96,8 @@ module _ (l : DayList) (formed : WellFormed l) (v : Narrowed) (e : narrowing ove
   windows_are : windows_of settled ≡ w
   unfolding settle_of
   windows_are =
-      let a : NarrowAnswer = record { verdict = Accepted; list = settled; moves = v.moves } in
       let is : settle_of l ≡ answered v = rw formed e in
-      let held = (settles l a (record { outcome = rw is; beside = rw is })).holds.narrowed in
+      let held = (settles l (Ok (record { list = settled; moves = v.moves })) (rw is refl)).holds.narrowed in
       ap (λ (x : Narrowed). x.windows) (answered_same refl (held ∙ is))
 
   lines : Lines text settled.frame.h settled.n v.moves (broken_in whole w plan) (λ i. get_or (entries_of settled) i blank)
@@ -210,10 +208,10 @@ module _ (l : DayList) (formed : WellFormed l) (k : Code) (e : narrowing overloa
       go (inl (shows, none)) = subst Says (sym shows.carries) (nine_said shows.a shows.b _)
       go (inr ((i, place, is_whole, is), plan)) = subst Says (sym is) (one_said 10 i (λ z. omega arith))
 
-  refuses_plan : Demand3 (whole_in l) (windows_of l) (told_refused (refusal_line k))
+  refuses_plan : Demand3 (whole_in l) (windows_of l) (told_refused (code_printed (refusal_line k)))
   refuses_plan =
-      demand3 (whole_in l) (windows_of l) (list_formed l formed) (told_refused (refusal_line k)) (ap refused unplanned_says ∙ sym e)
-      (λ v is. absurd (answered_refused is refl))
+      demand3 (whole_in l) (windows_of l) (list_formed l formed) (told_refused (code_printed (refusal_line k)))
+      (ap refused unplanned_says ∙ sym e) (λ v is. absurd (answered_refused is refl))
 
 -- Every input.
 pub report_law : (bs : List ℕ) → ReportLaw bs (printed_of bs)

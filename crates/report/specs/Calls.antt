@@ -1,9 +1,9 @@
 -- What `report` and `refusal_line` promise.
-use Rattle.std.specs.Prelude.{ℕ, ◌<◌, ◌≤◌, ◌≡◌, List, [], ◌∷◌, ◌++◌, length, take, drop}
+use Rattle.std.specs.Prelude.{ℕ, ◌<◌, ◌≤◌, ◌≡◌, List, [], ◌∷◌, ◌++◌, length, take, drop, Result}
 use Rattle.base.specs.Outcomes.{Code, code, Outcome, answered, refused, and_then}
-use Rattle.list.specs.Refusals.{write_answer_of}
+use Rattle.list.specs.Refusals.{outcome_of}
 use Rattle.format.specs.Writing.{read_limit, storing, stored}
-use Rattle.list.specs.declared.types.WriteAnswer.{WriteAnswer}
+use Rattle.list.specs.declared.types.Refusal.{Refusal}
 use Rattle.codes.specs.declared.RefusalCode.{RefusalCode}
 use Rattle.report.specs.Reports.{refusal_line, report_of}
 
@@ -27,8 +27,8 @@ pub record TextLaw (o : Outcome (List ℕ)) (old : List ℕ) : Type 0 where
   pub stays : (k : Code) → store_of o (length old) ≡ refused k → text_after o old ≡ old
 
 -- what a call answers of a text, or of a refusal, and leaves in a buffer that held old
-pub record StoresText (o : Outcome (List ℕ)) (old : List ℕ) (a : WriteAnswer) (new : List ℕ) : Type 0 where
-  pub outcome : write_answer_of a ≡ store_of o (length old)
+pub record StoresText (o : Outcome (List ℕ)) (old : List ℕ) (a : Result ℕ Refusal) (new : List ℕ) : Type 0 where
+  pub outcome : outcome_of a ≡ store_of o (length old)
   pub buffer : new ≡ text_after o old
 
 -- room for the text of every day: REPORT_BYTES of src/lib.rt
@@ -36,7 +36,7 @@ abbrev pub enough : ℕ
 enough = 22352
 
 -- what `report` answers of the input bs, and leaves in a buffer that held old
-pub record Reports (bs old : List ℕ) (a : WriteAnswer) (new : List ℕ) : Type 0 where
+pub record Reports (bs old : List ℕ) (a : Result ℕ Refusal) (new : List ℕ) : Type 0 where
   pub stores : StoresText (report_of bs) old a new
   -- so a buffer of this length is never too short
   pub room : (text : List ℕ) → report_of bs ≡ answered text → length text ≤ enough
@@ -53,7 +53,7 @@ abbrev pub line_enough : ℕ
 line_enough = 86
 
 -- what `refusal_line` answers of a refusal's number and values, and leaves in a buffer that held old
-pub record StoresLine (c : RefusalCode) (old : List ℕ) (a : WriteAnswer) (new : List ℕ) : Type 0 where
+pub record StoresLine (c : RefusalCode) (old : List ℕ) (a : Result ℕ Refusal) (new : List ℕ) : Type 0 where
   pub stores : StoresText (answered (line_of c)) old a new
   -- so a buffer of this length is never too short
   pub room : length (line_of c) ≤ line_enough

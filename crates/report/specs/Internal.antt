@@ -1,14 +1,13 @@
 -- What private functions promise each other. No public promise cites these.
-use Rattle.std.specs.Prelude.{ℕ, ◌+◌, ◌≤◌, ◌≡◌, cond, List, [], ◌∷◌, ◌++◌, length, get_or, eqb}
+use Rattle.std.specs.Prelude.{ℕ, ◌+◌, ◌≤◌, ◌≡◌, cond, List, [], ◌∷◌, ◌++◌, length, get_or, eqb, Err, Ok, Result}
 use Rattle.base.specs.Outcomes.{Outcome, answered, refused}
 use Rattle.list.specs.Refusals.{code_of}
 use Rattle.base.specs.Storing.{Wrote}
 use Rattle.list.specs.declared.types.Entry.{Entry}
 use Rattle.list.specs.declared.types.DayList.{DayList}
-use Rattle.list.specs.declared.types.WriteAnswer.{WriteAnswer}
-use Rattle.list.specs.declared.types.WriteAnswer.TheVariants.{Written, NotWritten}
+use Rattle.list.specs.declared.types.Refusal.{Refusal}
 use Rattle.windows.specs.Plans.{places_in}
-use Rattle.planner.specs.declared.types.PlanAnswer.{PlanAnswer}
+use Rattle.planner.specs.declared.types.PlannedDay.{PlannedDay}
 use Rattle.report.specs.Text.{ascii, decimal, line}
 use Rattle.report.specs.Reports.{head_line, entry_lines, run_line_at, run_lines}
 
@@ -17,9 +16,9 @@ pub record Puts (old : List ℕ) (at : ℕ) (text new : List ℕ) (next : ℕ) :
   pub wrote : at + length text ≤ length old → Wrote old at text new next
 
 -- what putting a text to the start of a buffer answers: the place after it, or the refusal that stands instead of a text
-abbrev pub PutsOr : Outcome (List ℕ) → List ℕ → WriteAnswer → List ℕ → Type 0
-PutsOr o old (Written next) new = (text : List ℕ) × (o ≡ answered text) × Puts old 0 text new next
-PutsOr o old (NotWritten x) new = o ≡ refused (code_of x)
+abbrev pub PutsOr : Outcome (List ℕ) → List ℕ → Result ℕ Refusal → List ℕ → Type 0
+PutsOr o old (Ok next) new = (text : List ℕ) × (o ≡ answered text) × Puts old 0 text new next
+PutsOr o old (Err x) new = o ≡ refused (code_of x)
 
 -- the lines of a plan's runs, and the line of the one that begins at minute t, if one does
 abbrev pub runs_text : List ℕ → List ℕ
@@ -44,9 +43,9 @@ carried_text number values =
     ++ ((ascii " to " ++ decimal (get_or values 1 0)) ++ (ascii " work " ++ decimal (get_or values 2 0))))
     (cond (eqb number 10) (ascii " entry " ++ decimal (get_or values 0 0)) (ascii " at " ++ decimal (get_or values 0 0)))
 
--- the text of an answer with a plan's bytes
-abbrev pub answer_text : PlanAnswer → List ℕ → List ℕ
-answer_text a plan =
-    let l = a.narrowed.list in
-    head_line l.frame.h l.n a.narrowed.moves a.broken
-    ++ (entries_text l a.ends a.starts ++ runs_text plan)
+-- the text of a planned day with a plan's bytes
+abbrev pub answer_text : PlannedDay → List ℕ → List ℕ
+answer_text day plan =
+    let l = day.narrowed.list in
+    head_line l.frame.h l.n day.narrowed.moves day.broken
+    ++ (entries_text l day.ends day.starts ++ runs_text plan)

@@ -8,14 +8,14 @@ use Rattle.windows.specs.Windows.{windows_of}
 use Rattle.windows.specs.Plans.{places_in}
 use Rattle.list.specs.DayLists.{whole_in}
 use Rattle.narrow.specs.Calls.{list_with}
-use Rattle.planner.specs.Demand3.{Demand3}
+use Rattle.planner.specs.Demand3.{told_refused, Demand3}
 use Rattle.planner.specs.Demand2.{PlansWindows}
 use Rattle.report.specs.Runs.{Run}
 use Rattle.report.specs.Text.{ascii, decimal}
 use Rattle.report.specs.Reports.{seal_text, kind_text, refusal_line, report_of}
 use Rattle.report.specs.Printed.{LineFields, lines_of, line_at, number_in, day_printed, count_printed, moves_printed, broken_printed}
 use Rattle.report.specs.Printed.{entry_said, list_printed, windows_printed, place_printed, end_printed, start_printed}
-use Rattle.report.specs.Printed.{runs_printed, plan_printed, told_by, code_printed, told_refused}
+use Rattle.report.specs.Printed.{runs_printed, plan_printed, told_by, code_printed}
 
 -- a run's line says the minutes from s to e and the place k
 pub record SaysRun (fs : LineFields) (s e k : ℕ) : Type 0 where
@@ -74,6 +74,6 @@ pub data ReportLaw (bs text : List ℕ) : Type 0 where
   -- the list l is turned back as it is planned: demand 3 holds of the refusal printed, so that there are no settled windows inside those of
   -- l, and 9 stands there if l has no plan, 10 if it has one
   refuses : (l : DayList) (k : Code) → read_of bs ≡ answered l → report_of bs ≡ refused k → PrintsRefusal k text
-      → Demand3 (whole_in l) (windows_of l) (told_refused text) → ReportLaw bs text
+      → Demand3 (whole_in l) (windows_of l) (told_refused (code_printed text)) → ReportLaw bs text
   -- the list l is planned: the text is its report, byte for byte, and the demands hold of the numbers printed
   plans : (l : DayList) → read_of bs ≡ answered l → report_of bs ≡ answered text → PrintsPlan l text → ReportLaw bs text

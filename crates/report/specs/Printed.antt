@@ -1,10 +1,8 @@
 -- What the lines of a text say, read from its bytes alone: Laws.antt states the demands of these numbers. What stands where a text is no
 -- report does not matter there.
-use Rattle.std.specs.Prelude.{ℕ, suc, Bool, true, false, cond, ◌&&◌, List, [], ◌∷◌, map, get_or, drop, eqb, leb, ltb}
-use Rattle.base.specs.Outcomes.{Code, code, answered, refused}
+use Rattle.std.specs.Prelude.{ℕ, suc, Bool, true, false, cond, ◌&&◌, List, [], ◌∷◌, map, get_or, drop, eqb, leb, ltb, None, Option, Some}
+use Rattle.base.specs.Outcomes.{Code, code, answered}
 use Rattle.list.specs.DayLists.{day_list}
-use Rattle.list.specs.declared.types.Seal.{Seal}
-use Rattle.list.specs.declared.types.Seal.TheVariants.{Missing, Number}
 use Rattle.list.specs.declared.types.Kind.{Kind}
 use Rattle.list.specs.declared.types.Kind.TheVariants.{Pause, Whole}
 use Rattle.list.specs.declared.types.Entry.{Entry}
@@ -72,8 +70,8 @@ broken_printed text = number_in (line_at text 0) 7
 -- The n lines after it.
 
 -- "seal or `-`"
-abbrev pub seal_said : List ℕ → Seal
-seal_said f = cond (same_field f (ascii "-")) Missing (Number (says_after 0 f))
+abbrev pub seal_said : List ℕ → Option ℕ
+seal_said f = cond (same_field f (ascii "-")) None (Some (says_after 0 f))
 
 -- "`pause` or `whole`"
 abbrev pub kind_said : List ℕ → Kind
@@ -151,7 +149,3 @@ told_by text =
 unfoldable pub code_printed : List ℕ → Code
 code_printed text =
     let value = number_in (line_at text 0) in code (value 1) (cond (eqb (value 1) 9) (value 3 ∷ value 5 ∷ value 7 ∷ []) (value 3 ∷ []))
-
--- the refusal printed, which has no bounds and plans beside it
-abbrev pub told_refused : List ℕ → Told
-told_refused text = record { outcome = refused (code_printed text); end = λ _. 0; start = λ _. 0; early = λ _. []; late = λ _. [] }

@@ -1,12 +1,10 @@
 -- The report of a day's bytes. That its numbers are in base ten is `decimal_is` of proofs/DecimalFacts.antt, that its runs are the maximal
 -- ones `runs_are` of proofs/RunFacts.antt; demands 2 and 3 of its numbers stand in specs/Laws.antt, document 01's examples in
 -- specs/Examples.antt.
-use Rattle.std.specs.Prelude.{ℕ, cond, List, [], ◌∷◌, ◌++◌, get_or, eqb}
+use Rattle.std.specs.Prelude.{ℕ, cond, List, [], ◌∷◌, ◌++◌, get_or, eqb, None, Option, Some}
 use Rattle.base.specs.Outcomes.{Code, Outcome, answered, refused, and_then}
 use Rattle.list.specs.DayLists.{entries_of, blank, whole_in}
 use Rattle.format.specs.Reading.{read_of}
-use Rattle.list.specs.declared.types.Seal.{Seal}
-use Rattle.list.specs.declared.types.Seal.TheVariants.{Missing, Number}
 use Rattle.list.specs.declared.types.Kind.{Kind}
 use Rattle.list.specs.declared.types.Kind.TheVariants.{Pause, Whole}
 use Rattle.list.specs.declared.types.Entry.{Entry}
@@ -28,9 +26,9 @@ head_line h n moves broken =
     line (ascii "day" ∷ decimal h ∷ ascii "entries" ∷ decimal n ∷ ascii "moves" ∷ decimal moves ∷ ascii "broken" ∷ decimal broken ∷ [])
 
 -- "seal or `-`"
-abbrev pub seal_text : Seal → List ℕ
-seal_text Missing = ascii "-"
-seal_text (Number x) = decimal x
+abbrev pub seal_text : Option ℕ → List ℕ
+seal_text None = ascii "-"
+seal_text (Some x) = decimal x
 
 -- "`pause` or `whole`"
 abbrev pub kind_text : Kind → List ℕ

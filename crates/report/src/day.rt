@@ -7,9 +7,9 @@ ghost use Rattle.list.specs.DayLists.{most_entries};
 
 use crate::lines::{put_entry_line, put_head};
 use crate::runs::put_runs;
-use list::types::{DayList, ENTRIES, LONGEST_DAY, Verdict, WriteAnswer};
+use list::types::{DayList, ENTRIES, LONGEST_DAY, Refusal};
 use planner::plan_day;
-use planner::types::PlanAnswer;
+use planner::types::PlannedDay;
 
 // The entries' lines, with a least end and a greatest start for each place.
 fn put_entries(
@@ -30,49 +30,29 @@ fn put_entries(
 }
 
 // The text of a planned day, whose plan's bytes are `plan`.
-fn put_day_text(out: &mut [u8], answer: PlanAnswer, plan: &[u8]) -> usize
-    requires { answer.narrowed.list.n ≤ most_entries }
-    ensures { Puts out.old 0 (answer_text answer plan.now) out.new result }
+fn put_day_text(out: &mut [u8], day: PlannedDay, plan: &[u8]) -> usize
+    requires { day.narrowed.list.n ≤ most_entries }
+    ensures { Puts out.old 0 (answer_text day plan.now) out.new result }
 {
-    let narrowed = answer.narrowed;
-    let list = narrowed.list;
-    let ends = answer.ends;
-    let starts = answer.starts;
-    let a = put_head(out, 0, list.frame.h, list.n, narrowed.moves, answer.broken);
-    let b = put_entries(out, a, list, ends, starts);
+    let list = day.narrowed.list;
+    let a = put_head(out, 0, list.frame.h, list.n, day.narrowed.moves, day.broken);
+    let b = put_entries(out, a, list, day.ends, day.starts);
     put_runs(out, b, plan)
 }
 
 // The text of a list that was read, or row 9 or 10.
-fn put_planned(out: &mut [u8], list: DayList) -> WriteAnswer
+fn put_planned(out: &mut [u8], list: DayList) -> Result<usize, Refusal>
     requires { WellFormed list }
     ensures { PutsOr (planned_text list) out.old result out.new }
 {
     let mut plan = [0u8; LONGEST_DAY as usize];
-    let answer = plan_day(list, &mut plan);
-    let narrowed = answer.narrowed;
-    let verdict = narrowed.verdict;
-    match verdict {
-        Verdict::Accepted => {
-            let h = list.frame.h as usize;
-            let size = put_day_text(out, answer, &plan[..h]);
-            WriteAnswer::Written(size)
-        }
-        Verdict::Refused(x) => WriteAnswer::NotWritten(x),
-    }
+    let day = plan_day(list, &mut plan)?;
+    Ok(put_day_text(out, day, &plan[..usize::from(list.frame.h)]))
 }
 
 // The text of an input's day, or the refusal of its list.
-pub(crate) fn put_report(input: &[u8], out: &mut [u8]) -> WriteAnswer
+pub(crate) fn put_report(input: &[u8], out: &mut [u8]) -> Result<usize, Refusal>
     ensures { PutsOr (report_of input.now) out.old result out.new }
 {
-    let answer = format::read(input);
-    let verdict = answer.verdict;
-    match verdict {
-        Verdict::Accepted => {
-            let list = answer.list;
-            put_planned(out, list)
-        }
-        Verdict::Refused(x) => WriteAnswer::NotWritten(x),
-    }
+    put_planned(out, format::read(input)?)
 }

@@ -19,7 +19,7 @@ ghost use Rattle.report.specs.Calls.{StoresText, Reports, StoresLine};
 use codes::RefusalCode;
 use day::put_report;
 use lines::put_refusal;
-use list::types::{Refusal, WriteAnswer};
+use list::types::Refusal;
 use text::put_bytes;
 
 // Room for the text of every day.
@@ -29,31 +29,28 @@ pub const REPORT_BYTES: usize = 22352;
 pub const REFUSAL_BYTES: usize = 86;
 
 // A text at the start of a buffer, or row 12.
-fn store(text: &[u8], out: &mut [u8]) -> WriteAnswer
+fn store(text: &[u8], out: &mut [u8]) -> Result<usize, Refusal>
     ensures { StoresText (answered text.now) out.old result out.new }
 {
     let size = text.len();
     if out.len() < size {
-        return WriteAnswer::NotWritten(Refusal::ListBufferShort(size));
+        return Err(Refusal::ListBufferShort(size));
     }
     put_bytes(out, 0, text);
-    WriteAnswer::Written(size)
+    Ok(size)
 }
 
 // The text of an input's day. It is made in a buffer of this call's own first, so that a refusal leaves the lent one as it was.
-pub fn report(input: &[u8], out: &mut [u8]) -> WriteAnswer
+pub fn report(input: &[u8], out: &mut [u8]) -> Result<usize, Refusal>
     ensures { Reports input.now out.old result out.new }
 {
     let mut text = [0u8; REPORT_BYTES];
-    let answer = put_report(input, &mut text);
-    match answer {
-        WriteAnswer::Written(size) => store(&text[..size], out),
-        WriteAnswer::NotWritten(x) => WriteAnswer::NotWritten(x),
-    }
+    let size = put_report(input, &mut text)?;
+    store(&text[..size], out)
 }
 
 // The line of a refusal, made in a buffer of this call's own first.
-pub fn refusal_line(code: RefusalCode, out: &mut [u8]) -> WriteAnswer
+pub fn refusal_line(code: RefusalCode, out: &mut [u8]) -> Result<usize, Refusal>
     ensures { StoresLine code out.old result out.new }
 {
     let mut line = [0u8; REFUSAL_BYTES];

@@ -7,7 +7,7 @@ ghost use Rattle.report.specs.Internal.{Puts, times_text, carried_text};
 
 use crate::text::{put_after, put_bytes, put_decimal};
 use codes::RefusalCode;
-use list::types::{Entry, Kind, Seal};
+use list::types::{Entry, Kind};
 
 // `day 12 entries 3 moves 1 broken 0`
 pub(crate) fn put_head(out: &mut [u8], at: usize, h: u16, n: u8, moves: u32, broken: u8) -> usize
@@ -21,12 +21,13 @@ pub(crate) fn put_head(out: &mut [u8], at: usize, h: u16, n: u8, moves: u32, bro
 }
 
 // ` 77` or ` -`
-fn put_seal_text(out: &mut [u8], at: usize, seal: Seal) -> usize
+fn put_seal_text(out: &mut [u8], at: usize, seal: Option<u32>) -> usize
     ensures { Puts out.old at (ascii " " ++ seal_text seal) out.new result }
 {
-    match seal {
-        Seal::Missing => put_bytes(out, at, b" -"),
-        Seal::Number(x) => put_after(out, at, b" ", x as u64),
+    if let Some(x) = seal {
+        put_after(out, at, b" ", u64::from(x))
+    } else {
+        put_bytes(out, at, b" -")
     }
 }
 

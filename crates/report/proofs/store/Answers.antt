@@ -3,7 +3,6 @@
 use Rattle.report.proofs.PromiseCases.{store_short, store_whole}
 use Rattle.report.proofs.store.Goals as goal
 
--- `store` meets its contract.
 pub returns-then-out-size : goal.returns-then-out-size
 returns-then-out-size c = store_short _ _ c.if-out-size.true
 

@@ -1,4 +1,4 @@
--- `day::put_day` meets its contract: head, entries and runs.
+-- `day::put_day_text` meets its contract: head, entries and runs.
 -- Assumes nothing.
 use Rattle.report.proofs.StepCases.{puts_then}
 use Rattle.report.proofs.day.put_day_text.Goals as goal

@@ -11,7 +11,6 @@ use Rattle.report.proofs.StepCases.{so_far_none, texts_next, texts_done}
 use Rattle.report.proofs.CallCases.{entry_put}
 use Rattle.report.proofs.day.put_entries.Goals as goal
 
--- `day::put_entries` meets its contract. The loop's invariant is `PutSoFar`.
 -- the line of the entry at a place
 abbrev line_at : DayList → List ℕ → List ℕ → ℕ → List ℕ
 line_at list ends starts = entry_line_at list (λ j. get_or ends j 0) (λ j. get_or starts j 0)

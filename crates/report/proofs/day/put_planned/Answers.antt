@@ -1,26 +1,20 @@
--- `day::put_planned` meets its contract.
+-- `day::put_planned` meets its contract: planning may refuse, by row 9 or 10; else the day's text is put.
 -- Assumes nothing.
 use mathlib.Core.Path.{refl}
-use Rattle.report.proofs.DayCases.{answered_few, bytes_long, bytes_room, answered_put, refused_is}
+use Rattle.list.proofs.Answered.{passed_on}
+use Rattle.report.proofs.DayCases.{unplanned_is, planned_few, bytes_room, planned_put}
 use Rattle.report.proofs.day.put_planned.Goals as goal
 
+pub returns-in_err-day : goal.returns-in_err-day
+returns-in_err-day c =
+    rw (passed_on _ _ c.from_residual.ensures.1) (unplanned_is c.args.list c.requires _ _ refl _ c.in_err-day.ensures)
+
 pub slice_bounds-plan-end : goal.slice_bounds-plan-end
-slice_bounds-plan-end c =
-    bytes_room c.args.list c.requires _ refl c.plan_day-answer.result _ c.plan_day-answer.ensures c.in-Accepted.is
+slice_bounds-plan-end c = rw c.from.ensures (bytes_room c.args.list c.requires _ _ refl c.in_ok-day.day c.in_ok-day.ensures)
 
-pub slice_bounds-put_day_text-end : goal.slice_bounds-put_day_text-end
-slice_bounds-put_day_text-end c =
-    bytes_long c.args.list c.requires _ refl c.plan_day-answer.result _ c.plan_day-answer.ensures c.in-Accepted.is
+pub put_day_text-requires : goal.put_day_text-requires
+put_day_text-requires c = planned_few c.args.list c.requires _ _ refl c.in_ok-day.day c.in_ok-day.ensures
 
-pub put_day_text-size-requires : goal.put_day_text-size-requires
-put_day_text-size-requires c =
-    answered_few c.args.list c.requires _ refl c.plan_day-answer.result _ c.plan_day-answer.ensures c.in-Accepted.is
-
-pub returns-in-Accepted : goal.returns-in-Accepted
-returns-in-Accepted c =
-    answered_put c.args.list c.requires _ refl c.plan_day-answer.result _ c.plan_day-answer.ensures c.in-Accepted.is
-    c.put_day_text-size.ensures
-
-pub returns-in-Refused : goal.returns-in-Refused
-returns-in-Refused c =
-    refused_is c.args.list c.requires _ refl c.plan_day-answer.result _ c.plan_day-answer.ensures _ c.in-Refused.is
+pub returns : goal.returns
+returns c =
+    planned_put c.args.list c.requires _ _ refl c.in_ok-day.day c.in_ok-day.ensures (rw c.from.ensures at c.put_day_text.ensures)

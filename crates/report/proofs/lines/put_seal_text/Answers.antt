@@ -3,10 +3,10 @@
 use Rattle.report.specs.Text.{ascii}
 use Rattle.report.proofs.lines.put_seal_text.Goals as goal
 
-pub returns-in-Missing : goal.returns-in-Missing
+pub returns-in-Some : goal.returns-in-Some
 unfolding ascii
-returns-in-Missing c = rw c.in-Missing.is c.put_bytes.ensures
+returns-in-Some c = rw (c.in-Some.is, ← c.from.ensures) c.put_after.ensures
 
-pub returns-in-Number : goal.returns-in-Number
+pub returns-in_default : goal.returns-in_default
 unfolding ascii
-returns-in-Number c = rw c.in-Number.is c.put_after.ensures
+returns-in_default c = rw c.in_default.is c.put_bytes.ensures
