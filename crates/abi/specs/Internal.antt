@@ -1,6 +1,6 @@
 -- What private functions promise each other. No public promise cites these.
 use Rattle.std.specs.Prelude.{ℕ, ◌≡◌, cond, List, ◌++◌, Result, Ok, Err}
-use Rattle.base.specs.Outcomes.{Outcome, answered, refused, and_then}
+use Rattle.base.specs.Outcomes.{Outcome, answered, and_then}
 use Rattle.list.specs.Refusals.{code_of, outcome_of}
 use Rattle.list.specs.declared.types.Refusal.{Refusal}
 use Rattle.narrow.specs.Calls.{narrow_answer_of}

@@ -9,7 +9,9 @@ ghost use Rattle.abi.specs.Internal.{committed_day};
 use crate::{Answer, give_planned};
 use commits::types::{CommitAnswer, StampedDay};
 use commits::{ask, commit, fresh_day};
-use flat::{BOUNDS, DAY_NUMBERS, ENTRY_NUMBERS, NUMBERS, day_in, entry_of, length_fault, list_in, put_day};
+use flat::{
+    BOUNDS, DAY_NUMBERS, ENTRY_NUMBERS, NUMBERS, day_in, entry_of, length_fault, list_in, put_day,
+};
 use list::types::{Entry, Refusal};
 
 // A fresh day of the list value that `fields` says, where a day's row of the length `lent` stands beside it.

@@ -130,7 +130,12 @@ pub fn dock_schedule(fields: &[u32], plan: &mut [u8]) -> Answer
 }
 
 // A narrowed list: the values are the moves and these two, and `narrowed` is the list.
-pub(crate) fn give_narrowed(found: NarrowedList, second: u64, third: u64, narrowed: &mut [u32]) -> Answer
+pub(crate) fn give_narrowed(
+    found: NarrowedList,
+    second: u64,
+    third: u64,
+    narrowed: &mut [u32],
+) -> Answer
     requires { length narrowed.old ≡ flat_numbers }
     ensures { NarrowCall (narrow_answer_of (Ok found)) second third narrowed.old result narrowed.new }
 {
@@ -168,7 +173,12 @@ pub(crate) fn give_planned(
     match answer {
         Ok(day) => {
             *bounds = joined(day.ends, day.starts);
-            give_narrowed(day.narrowed, u64::from(day.broken), u64::from(stamp), narrowed)
+            give_narrowed(
+                day.narrowed,
+                u64::from(day.broken),
+                u64::from(stamp),
+                narrowed,
+            )
         }
         Err(x) => Answer::from(x),
     }
