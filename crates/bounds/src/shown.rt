@@ -65,7 +65,7 @@ pub fn store_plan(
     if places_held(windows.n) <= k {
         return Err(Refusal::UnknownPlace(k));
     }
-    let h = windows.h as usize;
+    let h = usize::from(windows.h);
     if plan.len() < h {
         return Err(Refusal::PlanBufferShort(h));
     }

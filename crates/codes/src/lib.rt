@@ -22,7 +22,7 @@ fn with_one(number: u64, value: usize) -> RefusalCode
     ensures { result ≡ numbers_of (code number (value ∷ [])) }
 {
     RefusalCode {
-        number: number,
+        number,
         values: [value as u64, 0, 0],
     }
 }

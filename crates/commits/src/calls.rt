@@ -28,8 +28,7 @@ pub fn fresh_day(list: DayList) -> Result<StampedDay, Refusal>
 fn ask_fault(day: StampedDay) -> Result<(), Refusal>
     ensures { outcome_of result ≡ ask_fault day }
 {
-    let count = day.list.n as usize;
-    if count < ENTRIES {
+    if usize::from(day.list.n) < ENTRIES {
         return Ok(());
     }
     Err(Refusal::DayFull(day.stamp))
@@ -39,7 +38,7 @@ fn ask_fault(day: StampedDay) -> Result<(), Refusal>
 fn commit_fault(day: StampedDay, stamp: u64) -> Result<(), Refusal>
     ensures { outcome_of result ≡ commit_fault day stamp }
 {
-    if stamp == day.stamp as u64 {
+    if stamp == u64::from(day.stamp) {
         return ask_fault(day);
     }
     Err(Refusal::StaleStamp(day.stamp))

@@ -52,7 +52,7 @@ pub fn schedule(list: DayList, plan: &mut [u8]) -> Result<(), Refusal>
     ensures { Fills list plan.old result plan.new }
 {
     let day = start_day(list)?;
-    let h = list.frame.h as usize;
+    let h = usize::from(list.frame.h);
     if plan.len() < h {
         return Err(Refusal::PlanBufferShort(h));
     }
@@ -65,7 +65,7 @@ pub fn schedule(list: DayList, plan: &mut [u8]) -> Result<(), Refusal>
 pub fn unchecked_schedule(windows: WindowSet, plan: &mut [u8]) -> Result<(), Refusal>
     ensures { FillsWindows (windows_in windows) plan.old result plan.new }
 {
-    let h = windows.h as usize;
+    let h = usize::from(windows.h);
     if plan.len() < h {
         return Err(Refusal::PlanBufferShort(h));
     }

@@ -29,7 +29,7 @@ pub fn plan_checks(list: DayList, room: usize) -> Result<(), Refusal>
     ensures { outcome_of result ≡ plan_checks list room }
 {
     list::check(list)?;
-    buffer_fault(list.frame.h as usize, room)
+    buffer_fault(usize::from(list.frame.h), room)
 }
 
 // The value check, then rows 13 and 11.
@@ -37,10 +37,10 @@ fn shown_checks(list: DayList, k: usize, room: usize) -> Result<(), Refusal>
     ensures { outcome_of result ≡ shown_checks list k room }
 {
     list::check(list)?;
-    if list.n as usize <= k {
+    if usize::from(list.n) <= k {
         return Err(Refusal::UnknownPlace(k));
     }
-    buffer_fault(list.frame.h as usize, room)
+    buffer_fault(usize::from(list.frame.h), room)
 }
 
 // Plans a list: the value check, row 11, row 9 for the windows as given, then rounds and row 10, and Jackson's schedule of what they leave.

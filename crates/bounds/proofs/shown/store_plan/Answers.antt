@@ -20,16 +20,18 @@ returns-then-places_held-k c =
 pub returns-then-plan-h : goal.returns-then-plan-h
 returns-then-plan-h c =
     let known : c.args.k < (windows_in c.args.windows).n = omega (arith, c.if-places_held-k.false, c.places_held.ensures) in
-    no_buffer c.args.shown c.args.whole c.args.windows c.args.k c.args.plan.now c.in_ok-room_fault.ensures known c.if-plan-h.true
+    rw c.from-h.ensures
+    (no_buffer c.args.shown c.args.whole c.args.windows c.args.k c.args.plan.now c.in_ok-room_fault.ensures known
+    (rw c.from-h.ensures at c.if-plan-h.true))
 
 pub store_shown-requires : goal.store_shown-requires
 store_shown-requires c =
     let known : c.args.k < (windows_in c.args.windows).n = omega (arith, c.if-places_held-k.false, c.places_held.ensures) in
     let formed = stored_formed c.args.shown c.args.whole c.args.windows c.args.k c.args.plan.now c.in_ok-room_fault.ensures in
-    record { searchable = record { formed = formed; place = known }; h_in_bounds = c.if-plan-h.false }
+    record { searchable = record { formed = formed; place = known }; h_in_bounds = (rw c.from-h.ensures at c.if-plan-h.false) }
 
 pub returns : goal.returns
 returns c =
     let known : c.args.k < (windows_in c.args.windows).n = omega (arith, c.if-places_held-k.false, c.places_held.ensures) in
-    plan_stored c.args.shown c.args.whole c.args.windows c.args.k c.args.plan.now c.in_ok-room_fault.ensures known c.if-plan-h.false _ _
-    c.store_shown.ensures
+    plan_stored c.args.shown c.args.whole c.args.windows c.args.k c.args.plan.now c.in_ok-room_fault.ensures known
+    (rw c.from-h.ensures at c.if-plan-h.false) _ _ c.store_shown.ensures

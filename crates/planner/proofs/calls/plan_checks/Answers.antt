@@ -9,4 +9,4 @@ pub returns-in_err-check : goal.returns-in_err-check
 returns-in_err-check c = handed_on _ _ c.from_residual.ensures.1 ∙ plan_failed c.args.list c.in_err-check.ensures c.args.room
 
 pub returns : goal.returns
-returns c = c.buffer_fault.ensures ∙ plan_buffer c.args.list c.in_ok-check.ensures c.args.room
+returns c = (rw c.from.ensures at c.buffer_fault.ensures) ∙ plan_buffer c.args.list c.in_ok-check.ensures c.args.room
