@@ -32,6 +32,7 @@ use planner::{plan_day, show_early, show_late};
 pub use search::dock_unbroken;
 
 // What a call answers: 0 or a refusal's number, and three values, 0 where there are fewer.
+// Numbers, since callers in C read them.
 #[repr(C)]
 #[derive(Clone, Copy)]
 pub struct Answer {
@@ -71,6 +72,7 @@ impl From<Result<usize, Refusal>> for Answer {
         match written {
             Ok(count) => Answer {
                 number: 0,
+                // The library has no From of a usize, nor to one from u64.
                 values: [count as u64, 0, 0],
             },
             Err(x) => Answer::from(x),
@@ -129,7 +131,8 @@ pub fn dock_schedule(fields: &[u32], plan: &mut [u8]) -> Answer
     }
 }
 
-// A narrowed list: the values are the moves and these two, and `narrowed` is the list.
+// A narrowed list: the values are the moves and these two, and `narrowed` is the list. The row's length was
+// tested before, as all calls do first.
 pub(crate) fn give_narrowed(
     found: NarrowedList,
     second: u64,
@@ -215,6 +218,7 @@ fn give_shown(answer: Result<ShownPlan, Refusal>, narrowed: &mut [u32]) -> Answe
 
 // Shows the early plan of a place of the list value that `fields` says. Accepted: the values are the moves and the place's least end,
 // `narrowed` is the settled list, and `plan` begins with the plan. Refused: each keeps its values.
+// The C interface has this call and the next.
 pub fn dock_early(fields: &[u32], place: u64, plan: &mut [u8], narrowed: &mut [u32]) -> Answer
     ensures { EarlyCall fields.now place plan.old narrowed.old result
         plan.new narrowed.new }

@@ -11,6 +11,7 @@ ghost use Rattle.codes.specs.Codes.{numbers_of};
 use list::types::Refusal;
 
 // A refusal as numbers: its number, and three values: those that it carries, 0 where there are fewer.
+// Numbers, not a Refusal: callers in other languages hand in any number and values, for its line.
 #[derive(Clone, Copy)]
 pub struct RefusalCode {
     pub number: u64,
@@ -23,6 +24,7 @@ fn with_one(number: u64, value: usize) -> RefusalCode
 {
     RefusalCode {
         number,
+        // The library has no From of a usize.
         values: [value as u64, 0, 0],
     }
 }

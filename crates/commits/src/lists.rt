@@ -15,6 +15,7 @@ pub(crate) fn trimmed(list: DayList) -> DayList
     entries[..count].copy_from_slice(&list.entries[..count]);
     DayList {
         frame: list.frame,
+        // At most 64, so that it fits.
         n: count as u8,
         entries,
     }

@@ -12,6 +12,7 @@ use list::empty_list;
 use list::types::{DayList, Entry, Frame, Kind, Refusal, Seal};
 
 // The largest u16 for a number that is too large, and likewise below.
+// Two functions: no trait of the library has MAX.
 pub(crate) fn u16_of(x: u32) -> u16
     ensures { result ≡ min x 65535 }
 {
@@ -31,6 +32,7 @@ fn seal_in(flag: u32, number: u32) -> Seal
     (flag != 0).then_some(number)
 }
 
+// Not a From: a flag is no kind.
 fn kind_in(flag: u32) -> Kind
     ensures { result ≡ kind_of (not (eqb flag 0)) }
 {

@@ -3,6 +3,7 @@ ghost use Rattle.std.specs.Prelude.{◌≡◌, ◌+◌, ◌<◌, ◌≤◌, leng
 ghost use Rattle.format.specs.LittleEndian.{u16_at, u32_at, u16_bytes, u32_bytes};
 ghost use Rattle.base.specs.Storing.{Wrote};
 
+// Two functions for two sizes, here and below: no trait of the library has from_le_bytes.
 pub(crate) fn u16_at(s: &[u8], i: usize) -> u16
     requires { i + 1 < length s.now }
     ensures { result ≡ u16_at s.now i }

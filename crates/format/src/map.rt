@@ -53,6 +53,7 @@ fn follow(map: u8, seal: bool, r: bool, d: bool) -> Fields
 }
 
 // x, with y added where a field follows.
+// By name, since three places and a size add so.
 fn plus_if(x: usize, follows: bool, y: usize) -> usize
     requires { x + y < 2 ^ 64 }
     ensures { result ≡ x + cond follows y 0 }

@@ -83,6 +83,7 @@ fn map_place(list: DayList, entry: usize) -> usize
     ensures { result ≡ length (bytes_of (first_entries list entry)) }
 {
     list_size(DayList {
+        // Below 64, so that it fits.
         n: entry as u8,
         ..list
     })

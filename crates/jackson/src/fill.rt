@@ -38,6 +38,7 @@ fn store_places(day: Day, h: usize, plan: &mut [u8])
 {
     let mut today = day;
     let mut i = 0;
+    // No count: each step goes on by a stretch.
     while i < h {
         let stretch = today.stretch();
         let end = i + usize::from(stretch.minutes);

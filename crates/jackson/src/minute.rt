@@ -14,6 +14,7 @@ use list::types::ENTRIES;
 use windows::types::WindowSet;
 
 // The entry at place i has its r reached and minutes left.
+// It takes no Day, and those below neither: who had the minute before does not count.
 fn is_ready(windows: &WindowSet, t: u16, i: usize) -> bool
     requires { i < most_entries }
     ensures { result ≡ is_ready (state_at windows.now t) i }
@@ -37,6 +38,7 @@ fn better_ready(windows: &WindowSet, t: u16, i: usize, k: u8) -> u8
     ensures { result ≡ better_ready (state_at windows.now t) i k }
 {
     if is_ready(windows, t, i) && (k == 255 || comes_before(windows, i, usize::from(k))) {
+        // Below 64, so that it fits.
         i as u8
     } else {
         k

@@ -2,6 +2,7 @@
 use windows::types::WindowSet;
 
 // A day in planning: its minute t, the entry that had the minute before, 255 for none, and the windows, where p is the minutes left.
+// 255 is no Option: it is the byte that a plan has for an idle minute, here and below.
 #[derive(Clone, Copy)]
 pub struct Day {
     pub windows: WindowSet,

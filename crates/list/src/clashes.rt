@@ -30,6 +30,7 @@ fn clashes_earlier(list: DayList, place: usize) -> bool
 }
 
 // The first entry in list order that clashes with an earlier one, or the number of entries if there is none.
+// A number for none too, not an Option: the definition in its clause gives that number.
 pub fn first_clash(list: DayList) -> usize
     ensures { result ≡ first_clash (entries_of list) }
 {

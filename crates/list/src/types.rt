@@ -35,6 +35,7 @@ pub struct Frame {
 }
 
 // A day's list: the first n entries count, known by their place from 0.
+// The count stands beside the entries: no heap, and a list value may say an n over 64, which refusal 3 tells.
 #[derive(Clone, Copy)]
 pub struct DayList {
     pub frame: Frame,

@@ -28,6 +28,7 @@ fn list_with(list: DayList, windows: WindowSet) -> DayList
     }
     DayList {
         frame: list.frame,
+        // At most 64, so that it fits.
         n: count as u8,
         entries,
     }

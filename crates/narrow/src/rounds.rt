@@ -80,6 +80,7 @@ fn would_move(whole: bool, r: u16, from: u16, p: u16, end: u32, late: u32) -> bo
 }
 
 // The first place that a visit would move, or n if there is none.
+// Not an Option: it begins the range of a round's visits, which is empty from n on.
 fn first_moved(whole: [bool; ENTRIES], windows: WindowSet) -> usize
     ensures { result ≡ first_moved (marked whole) (windows_in windows) }
 {
@@ -149,6 +150,7 @@ fn all_rounds(whole: [bool; ENTRIES], windows: WindowSet) -> Result<NarrowedWind
     ensures { narrowed_of result ≡ all_rounds overload_of (marked whole) (windows_in windows) }
 {
     let mut now = NarrowedWindows { windows, moves: 0 };
+    // No count: the last round is the first without a move.
     loop {
         let next = one_round(whole, now)?;
         if next.moves == now.moves {
@@ -160,6 +162,7 @@ fn all_rounds(whole: [bool; ENTRIES], windows: WindowSet) -> Result<NarrowedWind
 
 // Narrows windows until they are settled, where `whole` marks the whole entries: rows 6 and 7, row 9 for the windows as given, then rounds
 // and row 10.
+// The marks are no part of the windows: each search makes other windows, under the same marks.
 pub fn narrow_windows(
     whole: [bool; ENTRIES],
     windows: WindowSet,

@@ -35,6 +35,7 @@ fn stage_of(number: u32) -> Stage
     }
 }
 
+// Not a From either, for the same reason.
 fn stage_number(stage: Stage) -> u32
     ensures { result ≡ stage_number stage }
 {

@@ -36,6 +36,7 @@ fn take_numbers(
     let n = numbers.len() / ROOM_NUMBERS;
     let HeldAnswer { rows, answer } = turn_held(eight_rooms(numbers), n, lists, number);
     match answer? {
+        // The library has no From of a usize.
         Turn::NoneUnfinished(used) => Ok([n as u64, 0, used as u64]),
         Turn::Took { room, round, next } => {
             put_room(rows[room], room, numbers);
