@@ -5,6 +5,7 @@
 // and order. proofs/Lib.antt says which laws the crates above may cite.
 #![tactic(auto)]
 
+mod by_release;
 mod interval;
 mod mirror;
 mod running_sum;
