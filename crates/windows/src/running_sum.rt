@@ -61,10 +61,10 @@ impl ByRelease {
         requires additions_le_passed { from.additions ≤ from.passed }
         ensures { WalksDown (windows_in self.now.windows) (value_at self.now.order) b from result }
     {
-        let windows = &self.windows;
-        let a = windows.r[self.order[from.passed]];
+        let ByRelease { windows, order } = self;
+        let a = windows.r[order[from.passed]];
         let mut sum = RunningSum { a, ..from };
-        for &i in &self.order[from.passed..places_held(windows.n)] {
+        for &i in &order[from.passed..places_held(windows.n)] {
             if windows.r[i] < a {
                 return sum;
             }

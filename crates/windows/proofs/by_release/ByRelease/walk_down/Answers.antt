@@ -1,18 +1,8 @@
 -- All places with the next r are passed. The loop's invariant is what was added since, over places whose r is at least this one.
 -- Assumes nothing.
-use borrow.Author.Rules.{rules}
 use native.Mathlib.Omega.{arith}
-use Rattle.base.proofs.Permutations.{once_in}
 use Rattle.windows.proofs.RunningSums.{places_from, walking_start, walking_next}
 use Rattle.windows.proofs.by_release.ByRelease.walk_down.Goals as goal
-
-pub offset_bounds-windows-self : goal.offset_bounds-windows-self
-offset_bounds-windows-self c =
-    search (rules, once_in _ _ c.args.self.now.latest_release_first.once _ c.requires.passed_lt_n)
-
-pub bounds-windows-self : goal.bounds-windows-self
-bounds-windows-self c =
-    search (rules, once_in _ _ c.args.self.now.latest_release_first.once _ c.requires.passed_lt_n)
 
 pub loop-i-init : goal.loop-i-init
 loop-i-init c =
