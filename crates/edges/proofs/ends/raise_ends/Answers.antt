@@ -15,8 +15,8 @@ loop-x-init c =
 
 pub overflow_sub-kept : goal.overflow_sub-kept
 overflow_sub-kept c =
-    raising_less _ _ _ _ _ _ _ _ c.loop-x.invariant (omega (arith, c.loop-x.auto.x, c.places_held-x.ensures)) (omega arith) c.loop-x-test.true _
-    c.minutes_by-kept.ensures
+    raising_less _ _ _ _ _ _ _ _ c.loop-x.invariant (omega (arith, c.loop-x.auto.x, c.places_held-x.ensures)) (omega arith)
+    c.loop-x-test.true _ c.minutes_by-kept.ensures
 
 pub loop-x-preserved : goal.loop-x-preserved
 loop-x-preserved c =

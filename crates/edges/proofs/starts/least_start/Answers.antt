@@ -23,14 +23,18 @@ loop-others-preserved c =
 pub returns-then-is_used_up : goal.returns-then-is_used_up
 returns-then-is_used_up c =
     let long : length c.args.windows.p ≡ 64 = search rules in
-    start_found c.args.windows c.args.k c.of-others.result.order (omega (arith, c.places_held.ensures, c.if-places_held-k.false)) long
-    c.of-others.ensures.holds_order _
-    (rw c.of-others.ensures.windows_are at (search_none _ _ _ _ _ _ _ c.loop-others.invariant (sym c.is_used_up.ensures.value ∙ c.if-is_used_up.true)))
+    let of = c.of-others in
+    start_found c.args.windows c.args.k of.result.order (omega (arith, c.places_held.ensures, c.if-places_held-k.false)) long
+    of.ensures.holds_order _
+    (rw of.ensures.windows_are at
+    (search_none _ _ _ _ _ _ _ c.loop-others.invariant (sym c.is_used_up.ensures.value ∙ c.if-is_used_up.true)))
 
 pub returns-then-next-s : goal.returns-then-next-s
 returns-then-next-s c =
     let long : length c.args.windows.p ≡ 64 = search rules in
-    start_found c.args.windows c.args.k c.of-others.result.order (omega (arith, c.places_held.ensures, c.if-places_held-k.false)) long
-    c.of-others.ensures.holds_order _
-    (rw c.of-others.ensures.windows_are at (search_found _ _ _ _ _ _ _ c.loop-others.invariant (sym c.is_used_up.ensures.value ∙ c.if-is_used_up.false) _
+    let of = c.of-others in
+    start_found c.args.windows c.args.k of.result.order (omega (arith, c.places_held.ensures, c.if-places_held-k.false)) long
+    of.ensures.holds_order _
+    (rw of.ensures.windows_are at
+    (search_found _ _ _ _ _ _ _ c.loop-others.invariant (sym c.is_used_up.ensures.value ∙ c.if-is_used_up.false) _
     (rw c.from.ensures at c.pass-next.ensures) c.if-next-s.true))
