@@ -2,18 +2,11 @@
 -- Assumes nothing.
 use mathlib.Core.Path.{◌≡◌}
 use mathlib.Core.List.{List}
-use Prim.Native.Nat.{ℕ, ◌<◌, ◌≤◌}
+use Prim.Native.Nat.{ℕ, ◌<◌}
 use native.Mathlib.Omega.{arith}
 use lib.ListN.{length, get_or, take, length-take}
 use lib.Seq.{get_or-take}
-use Rattle.base.specs.Counting.{EachOnce}
-use Rattle.base.proofs.Permutations.{once_in}
 use Rattle.order.specs.Orders.{value_at}
-use Rattle.edges.specs.Internal.{ListsPlaces}
-
--- an order that has each place once lists places alone
-pub lists_places : (n : ℕ) (order : List ℕ) → n ≤ 64 → EachOnce n (value_at order) → ListsPlaces n order
-lists_places n order few once x below = omega (arith, once_in n (value_at order) once x below)
 
 module _ (n : ℕ) (xs : List ℕ) (x : ℕ) (inside : x < length (take n xs)) where
   pub front_below : x < n

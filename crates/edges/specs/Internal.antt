@@ -9,10 +9,6 @@ use Rattle.edges.specs.Starts.{jumped}
 use Rattle.edges.specs.Ends.{largest}
 use Rattle.edges.specs.declared.starts.StartSoFar.{StartSoFar}
 
--- an order that lists places alone
-abbrev pub ListsPlaces : ℕ → List ℕ → Type 0
-ListsPlaces n xs = (x : ℕ) → x < n → value_at xs x < most_entries
-
 -- a box with this r and these minutes enters the walk for the right end b, in the search for an entry that needs p. That the minutes have
 -- 16 bits, an array does not tell the caller.
 pub record Enters (b p r minutes : ℕ) (old new : StartSoFar) : Type 0 where

@@ -1,15 +1,14 @@
 // Least ends in closed form: for each right end one walk over the left ends, from the smallest r up, for all entries at once.
 ghost use Rattle.std.specs.Prelude.{◌≡◌, ◌*◌, ◌≤◌, max, length};
-ghost use Rattle.base.specs.Counting.{EachOnce};
 ghost use Rattle.list.specs.DayLists.{most_entries};
 ghost use Rattle.order.specs.Orders.{value_at};
 ghost use Rattle.windows.specs.Windows.{windows_in};
 ghost use Rattle.edges.specs.Calls.{GivesEnds};
-ghost use Rattle.edges.specs.Internal.{ListsPlaces, MinutesBy, DueBy, asked_after, EndsBy, Raises, FirstEnds, AtPlaces};
+ghost use Rattle.edges.specs.Internal.{MinutesBy, DueBy, asked_after, EndsBy, Raises, FirstEnds, AtPlaces};
 
 use list::places_held;
 use list::types::ENTRIES;
-use order::largest_first;
+use windows::ByRelease;
 use windows::types::WindowSet;
 
 // An entry's minutes, if its d is at most b.
@@ -44,11 +43,11 @@ fn later_asked(end: u32, latest: u32, b: u16, d: u16, p: u16) -> u32
 }
 
 // Raises the ends, by position, to what the right end b asks.
-fn raise_ends(windows: &WindowSet, order: &[usize; ENTRIES], b: u16, ends: &mut [u32; ENTRIES])
-    requires each_once { EachOnce (windows_in windows.now).n (value_at order.now) }
+fn raise_ends(by_release: &ByRelease, b: u16, ends: &mut [u32; ENTRIES])
     requires ends_len { length ends.old ≡ most_entries }
-    ensures { Raises (windows_in windows.now) (value_at order.now) b ends.old ends.new }
+    ensures { Raises (windows_in by_release.now.windows) (value_at by_release.now.order) b ends.old ends.new }
 {
+    let ByRelease { windows, order } = by_release;
     let mut kept = work_by(windows, b);
     let mut latest = 0;
     for x in (0..places_held(windows.n)).rev() {
@@ -61,10 +60,10 @@ fn raise_ends(windows: &WindowSet, order: &[usize; ENTRIES], b: u16, ends: &mut 
 }
 
 // r + p, by position.
-fn first_ends(windows: &WindowSet, order: &[usize; ENTRIES]) -> [u32; ENTRIES]
-    requires { ListsPlaces (windows_in windows.now).n order.now }
-    ensures { FirstEnds (windows_in windows.now) (value_at order.now) (windows_in windows.now).n result }
+fn first_ends(by_release: &ByRelease) -> [u32; ENTRIES]
+    ensures { FirstEnds (windows_in by_release.now.windows) (value_at by_release.now.order) (windows_in by_release.now.windows).n result }
 {
+    let ByRelease { windows, order } = by_release;
     let mut ends = [0; ENTRIES];
     for (x, &i) in order[..places_held(windows.n)].iter().enumerate() {
         ends[x] = u32::from(windows.r[i]) + u32::from(windows.p[i]);
@@ -73,25 +72,25 @@ fn first_ends(windows: &WindowSet, order: &[usize; ENTRIES]) -> [u32; ENTRIES]
 }
 
 // The ends, by position, that all right ends ask.
-fn ends_by_position(windows: &WindowSet, order: &[usize; ENTRIES]) -> [u32; ENTRIES]
-    requires { EachOnce (windows_in windows.now).n (value_at order.now) }
-    ensures { EndsBy (windows_in windows.now) (value_at order.now) (windows_in windows.now).n result }
+fn ends_by_position(by_release: &ByRelease) -> [u32; ENTRIES]
+    ensures { EndsBy (windows_in by_release.now.windows) (value_at by_release.now.order) (windows_in by_release.now.windows).n result }
 {
-    let mut ends = first_ends(windows, order);
+    let windows = &by_release.windows;
+    let mut ends = first_ends(by_release);
     for &b in &windows.d[..places_held(windows.n)] {
-        raise_ends(windows, order, b, &mut ends);
+        raise_ends(by_release, b, &mut ends);
     }
     ends
 }
 
 // The ends, each at its entry's place.
-fn at_places(count: usize, order: &[usize; ENTRIES], ends: &[u32; ENTRIES]) -> [u32; ENTRIES]
-    requires count_le_most_entries { count ≤ most_entries }
-    requires each_once { EachOnce count (value_at order.now) }
-    ensures { AtPlaces count (value_at order.now) ends.now count result }
+fn at_places(by_release: &ByRelease, ends: &[u32; ENTRIES]) -> [u32; ENTRIES]
+    ensures { AtPlaces (windows_in by_release.now.windows).n (value_at by_release.now.order) ends.now
+        (windows_in by_release.now.windows).n result }
 {
+    let ByRelease { windows, order } = by_release;
     let mut places = [0; ENTRIES];
-    for (x, &i) in order[..count].iter().enumerate() {
+    for (x, &i) in order[..places_held(windows.n)].iter().enumerate() {
         places[i] = ends[x];
     }
     places
@@ -101,7 +100,7 @@ fn at_places(count: usize, order: &[usize; ENTRIES], ends: &[u32; ENTRIES]) -> [
 pub fn closed_ends(windows: WindowSet) -> [u32; ENTRIES]
     ensures { GivesEnds (windows_in windows) result }
 {
-    let order = largest_first(windows.n, &windows.r);
-    let ends = ends_by_position(&windows, &order);
-    at_places(places_held(windows.n), &order, &ends)
+    let by_release = ByRelease::of(windows);
+    let ends = ends_by_position(&by_release);
+    at_places(&by_release, &ends)
 }

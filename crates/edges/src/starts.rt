@@ -4,11 +4,10 @@ ghost use Rattle.order.specs.Orders.{value_at};
 ghost use Rattle.windows.specs.Windows.{windows_in};
 ghost use Rattle.edges.specs.Starts.{jumped, raised, considers, passed};
 ghost use Rattle.edges.specs.Calls.{FindsStart};
-ghost use Rattle.edges.specs.Internal.{ListsPlaces, Enters};
+ghost use Rattle.edges.specs.Internal.{Enters};
 
 use list::places_held;
-use list::types::ENTRIES;
-use order::largest_first;
+use windows::ByRelease;
 use windows::types::WindowSet;
 
 // A walk over the left ends of a right end so far: the work that entered, and the start.
@@ -43,11 +42,11 @@ fn enter(b: u16, p: u16, r: u16, minutes: u16, sum: StartSoFar) -> StartSoFar
 }
 
 // One right end: left end after left end, from the largest r down, the start is raised by what the work there asks.
-fn raise(windows: &WindowSet, order: &[usize; ENTRIES], b: u16, p: u16, start: u32) -> u32
-    requires { ListsPlaces (windows_in windows.now).n order.now }
-    ensures { result ≡ raised (windows_in windows.now) (value_at order.now) b p (windows_in windows.now).n
-        start }
+fn raise(by_release: &ByRelease, b: u16, p: u16, start: u32) -> u32
+    ensures { result ≡ raised (windows_in by_release.now.windows) (value_at by_release.now.order) b p
+        (windows_in by_release.now.windows).n start }
 {
+    let ByRelease { windows, order } = by_release;
     let mut sum = StartSoFar { work: 0, start };
     for &i in &order[..places_held(windows.n)] {
         if windows.d[i] <= b {
@@ -65,23 +64,16 @@ fn is_considered(initial: bool, d: u16, b: u16) -> bool
 }
 
 // One pass: all right ends that are above the start and considered, those of the smallest r first.
-fn pass(
-    windows: &WindowSet,
-    order: &[usize; ENTRIES],
-    p: u16,
-    initial: bool,
-    last: u16,
-    start: u32,
-) -> u32
-    requires { ListsPlaces (windows_in windows.now).n order.now }
-    ensures { result ≡ passed (windows_in windows.now) (value_at order.now) p initial
-        last (windows_in windows.now).n start }
+fn pass(by_release: &ByRelease, p: u16, initial: bool, last: u16, start: u32) -> u32
+    ensures { result ≡ passed (windows_in by_release.now.windows) (value_at by_release.now.order) p initial last
+        (windows_in by_release.now.windows).n start }
 {
+    let ByRelease { windows, order } = by_release;
     let mut s = start;
     for x in (0..places_held(windows.n)).rev() {
         let b = windows.d[order[x]];
         if s < u32::from(b) && is_considered(initial, last, b) {
-            s = raise(windows, order, b, p, s);
+            s = raise(by_release, b, p, s);
         }
     }
     s
@@ -108,13 +100,13 @@ pub fn least_start(windows: WindowSet, k: usize) -> Option<u16>
     // The others, without this entry's minutes. Work and intervals ask for no day's length.
     let mut others = WindowSet { h: 0, ..windows };
     others.p[k] = 0;
-    let order = largest_first(windows.n, &windows.r);
+    let others = ByRelease::of(others);
     let mut s = u32::from(first);
     loop {
         if is_used_up(last, s, p) {
             break None;
         }
-        let next = pass(&others, &order, p, s == u32::from(first), last, s);
+        let next = pass(&others, p, s == u32::from(first), last, s);
         if next == s {
             break Some(s as u16);
         }

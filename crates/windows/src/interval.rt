@@ -5,14 +5,13 @@ ghost use Rattle.list.specs.DayLists.{most_entries};
 ghost use Rattle.order.specs.Orders.{value_at};
 ghost use Rattle.windows.specs.Windows.{windows_in};
 ghost use Rattle.windows.specs.Intervals.{overload_of};
-ghost use Rattle.windows.specs.RunningSums.{LatestReleaseFirst};
 ghost use Rattle.windows.specs.Internal.{FindsLeft, FindsRight};
 
-use crate::running_sum::{RunningSum, start_anew, walk_down};
+use crate::by_release::ByRelease;
+use crate::running_sum::{RunningSum, start_anew};
 use crate::types::WindowSet;
 use list::places_held;
-use list::types::{ENTRIES, Refusal};
-use order::largest_first;
+use list::types::Refusal;
 
 // An interval [a, b) and its work.
 #[derive(Clone, Copy)]
@@ -36,90 +35,78 @@ fn is_overloaded(a: u16, b: u16, work: u32) -> bool
     a < b && u32::from(b - a) < work
 }
 
-// The largest left end of an overloaded interval that ends at b: the first one met as the left end walks down.
-fn left_end(
-    windows: &WindowSet,
-    order: &[usize; ENTRIES],
-    b: u16,
-    from: RunningSum,
-) -> ShownInterval
-    requires latest_release_first { LatestReleaseFirst (windows_in windows.now) (value_at order.now) }
-    requires additions_bound { from.earlier + from.additions ≤ most_entries * most_entries }
-    ensures { FindsLeft (windows_in windows.now) (value_at order.now) b from result }
-{
-    let count = places_held(windows.n);
-    let mut sum = start_anew(from);
-    while sum.passed < count {
-        sum = walk_down(windows, order, b, sum);
-        if is_overloaded(sum.a, b, sum.kept) {
-            let interval = Interval {
-                a: sum.a,
-                b,
-                work: sum.kept,
-            };
-            return ShownInterval {
-                overloaded: Some(interval),
-                sum,
-            };
+impl ByRelease {
+    // The largest left end of an overloaded interval that ends at b: the first one met as the left end walks down.
+    fn left_end(&self, b: u16, from: RunningSum) -> ShownInterval
+        requires additions_bound { from.earlier + from.additions ≤ most_entries * most_entries }
+        ensures { FindsLeft (windows_in self.now.windows) (value_at self.now.order) b from result }
+    {
+        let count = places_held(self.windows.n);
+        let mut sum = start_anew(from);
+        while sum.passed < count {
+            sum = self.walk_down(b, sum);
+            if is_overloaded(sum.a, b, sum.kept) {
+                let interval = Interval {
+                    a: sum.a,
+                    b,
+                    work: sum.kept,
+                };
+                return ShownInterval {
+                    overloaded: Some(interval),
+                    sum,
+                };
+            }
+        }
+        ShownInterval {
+            overloaded: None,
+            sum,
         }
     }
-    ShownInterval {
-        overloaded: None,
-        sum,
-    }
-}
 
-// What the right ends up to that of place i show, if those before it show `shown`. No walk is made if an overloaded interval is shown whose
-// b is no larger.
-fn smaller_right(
-    windows: &WindowSet,
-    order: &[usize; ENTRIES],
-    i: usize,
-    shown: ShownInterval,
-) -> ShownInterval
-    requires latest_release_first { LatestReleaseFirst (windows_in windows.now) (value_at order.now) }
-    requires i_lt_n { i < (windows_in windows.now).n }
-    requires finds_right { FindsRight (windows_in windows.now) i shown }
-    ensures { FindsRight (windows_in windows.now) (i + 1) result }
-{
-    let b = windows.d[i];
-    if shown.overloaded.is_some_and(|interval| interval.b <= b) {
-        return shown;
+    // What the right ends up to that of place i show, if those before it show `shown`. No walk is made if an overloaded interval is shown
+    // whose b is no larger.
+    fn smaller_right(&self, i: usize, shown: ShownInterval) -> ShownInterval
+        requires i_lt_n { i < (windows_in self.now.windows).n }
+        requires finds_right { FindsRight (windows_in self.now.windows) i shown }
+        ensures { FindsRight (windows_in self.now.windows) (i + 1) result }
+    {
+        let b = self.windows.d[i];
+        if shown.overloaded.is_some_and(|interval| interval.b <= b) {
+            return shown;
+        }
+        let left = self.left_end(b, shown.sum);
+        ShownInterval {
+            overloaded: left.overloaded.or(shown.overloaded),
+            sum: left.sum,
+        }
     }
-    let left = left_end(windows, order, b, shown.sum);
-    ShownInterval {
-        overloaded: left.overloaded.or(shown.overloaded),
-        sum: left.sum,
-    }
-}
 
-// The overloaded interval with the smallest b, and with it the largest a, if one is overloaded.
-fn right_end(windows: &WindowSet, order: &[usize; ENTRIES]) -> ShownInterval
-    requires { LatestReleaseFirst (windows_in windows.now) (value_at order.now) }
-    ensures { FindsRight (windows_in windows.now) (windows_in windows.now).n result }
-{
-    let mut shown = ShownInterval {
-        overloaded: None,
-        sum: RunningSum {
-            a: 0,
-            passed: 0,
-            kept: 0,
-            additions: 0,
-            earlier: 0,
-        },
-    };
-    for i in 0..places_held(windows.n) {
-        shown = smaller_right(windows, order, i, shown);
+    // The overloaded interval with the smallest b, and with it the largest a, if one is overloaded.
+    fn right_end(&self) -> ShownInterval
+        ensures { FindsRight (windows_in self.now.windows) (windows_in self.now.windows).n result }
+    {
+        let mut shown = ShownInterval {
+            overloaded: None,
+            sum: RunningSum {
+                a: 0,
+                passed: 0,
+                kept: 0,
+                additions: 0,
+                earlier: 0,
+            },
+        };
+        for i in 0..places_held(self.windows.n) {
+            shown = self.smaller_right(i, shown);
+        }
+        shown
     }
-    shown
 }
 
 // Row 9 for windows, whatever they are: the overloaded interval with the smallest b, and with it the largest a, and its work.
 pub fn unchecked_overload(windows: WindowSet) -> Result<(), Refusal>
     ensures { outcome_of result ≡ overload_of (windows_in windows) }
 {
-    let order = largest_first(windows.n, &windows.r);
-    let shown = right_end(&windows, &order);
+    let shown = ByRelease::of(windows).right_end();
     if let Some(Interval { a, b, work }) = shown.overloaded {
         return Err(Refusal::Overloaded(a, b, work));
     }

@@ -3,12 +3,11 @@ ghost use Rattle.std.specs.Prelude.{◌≡◌, ◌+◌, ◌*◌, ◌<◌, ◌≤
 ghost use Rattle.list.specs.DayLists.{most_entries};
 ghost use Rattle.order.specs.Orders.{value_at};
 ghost use Rattle.windows.specs.Windows.{windows_in};
-ghost use Rattle.windows.specs.RunningSums.{LatestReleaseFirst, WalksDown, anew};
+ghost use Rattle.windows.specs.RunningSums.{WalksDown, anew};
 ghost use Rattle.windows.specs.Internal.{Passes};
 
-use crate::types::WindowSet;
+use crate::by_release::ByRelease;
 use list::places_held;
-use list::types::ENTRIES;
 
 // The left end reached, how many places of the order are passed, the sum kept, the additions made for this b, and those made for the right
 // ends before it.
@@ -54,26 +53,23 @@ fn pass_place(sum: RunningSum, b: u16, d: u16, p: u16) -> RunningSum
     }
 }
 
-// Walks on to the next left end: all places with that r are passed.
-pub(crate) fn walk_down(
-    windows: &WindowSet,
-    order: &[usize; ENTRIES],
-    b: u16,
-    from: RunningSum,
-) -> RunningSum
-    requires latest_release_first { LatestReleaseFirst (windows_in windows.now) (value_at order.now) }
-    requires passed_lt_n { from.passed < (windows_in windows.now).n }
-    requires kept_bound { from.kept ≤ 65535 * from.passed }
-    requires additions_le_passed { from.additions ≤ from.passed }
-    ensures { WalksDown (windows_in windows.now) (value_at order.now) b from result }
-{
-    let a = windows.r[order[from.passed]];
-    let mut sum = RunningSum { a, ..from };
-    for &i in &order[from.passed..places_held(windows.n)] {
-        if windows.r[i] < a {
-            return sum;
+impl ByRelease {
+    // Walks on to the next left end: all places with that r are passed.
+    pub(crate) fn walk_down(&self, b: u16, from: RunningSum) -> RunningSum
+        requires passed_lt_n { from.passed < (windows_in self.now.windows).n }
+        requires kept_bound { from.kept ≤ 65535 * from.passed }
+        requires additions_le_passed { from.additions ≤ from.passed }
+        ensures { WalksDown (windows_in self.now.windows) (value_at self.now.order) b from result }
+    {
+        let ByRelease { windows, order } = self;
+        let a = windows.r[order[from.passed]];
+        let mut sum = RunningSum { a, ..from };
+        for &i in &order[from.passed..places_held(windows.n)] {
+            if windows.r[i] < a {
+                return sum;
+            }
+            sum = pass_place(sum, b, windows.d[i], windows.p[i]);
         }
-        sum = pass_place(sum, b, windows.d[i], windows.p[i]);
+        sum
     }
-    sum
 }

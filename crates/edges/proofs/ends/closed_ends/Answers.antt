@@ -8,7 +8,7 @@ pub returns : goal.returns
 returns c =
     record {
       ends =
-          ends_all _ _ _ _ c.largest_first-order.ensures.order c.ends_by_position-ends.ensures
-          (rw c.places_held.ensures at c.at_places.ensures);
+          rw c.of-by_release.ensures.windows_are at
+          (ends_all _ _ _ _ c.of-by_release.result.latest_release_first c.ends_by_position-ends.ensures c.at_places.ensures);
       law = λ formed planned k place. end_law _ formed planned k place;
     }

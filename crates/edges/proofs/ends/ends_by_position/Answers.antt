@@ -1,12 +1,8 @@
 -- The loop's invariant is the ends that the right ends met so far ask.
 -- Assumes nothing.
-use native.Mathlib.Omega.{arith}
-use Rattle.edges.proofs.Fronts.{lists_places, front_at}
+use Rattle.edges.proofs.Fronts.{front_at}
 use Rattle.edges.proofs.EndCases.{ends_first, ends_next}
 use Rattle.edges.proofs.ends.ends_by_position.Goals as goal
-
-pub first_ends-ends-requires : goal.first_ends-ends-requires
-first_ends-ends-requires c = lists_places _ _ (omega arith) c.requires
 
 pub loop-b-init : goal.loop-b-init
 loop-b-init c = ends_first _ _ _ c.first_ends-ends.ensures

@@ -6,4 +6,4 @@ use Rattle.edges.specs.Internal.{EndsBy}
 use Rattle.edges.proofs.ends.ends_by_position.Given as goal
 
 abbrev pub invariant-loop-b : goal.invariant-loop-b
-invariant-loop-b l = EndsBy (windows_in l.windows) (value_at l.order) l.b-index l.ends
+invariant-loop-b l = EndsBy (windows_in l.by_release.windows) (value_at l.by_release.order) l.b-index l.ends

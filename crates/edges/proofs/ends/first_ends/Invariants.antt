@@ -6,4 +6,4 @@ use Rattle.edges.specs.Internal.{FirstEnds}
 use Rattle.edges.proofs.ends.first_ends.Given as goal
 
 abbrev pub invariant-loop-x : goal.invariant-loop-x
-invariant-loop-x l = FirstEnds (windows_in l.windows) (value_at l.order) l.x l.ends
+invariant-loop-x l = FirstEnds (windows_in l.by_release.windows) (value_at l.by_release.order) l.x l.ends

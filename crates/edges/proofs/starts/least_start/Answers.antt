@@ -4,15 +4,11 @@ use borrow.Author.Rules.{rules}
 use mathlib.Core.Path.{◌≡◌, sym, ◌∙◌}
 use native.Mathlib.Omega.{arith}
 use lib.ListN.{length}
-use Rattle.edges.proofs.Fronts.{lists_places}
 use Rattle.edges.proofs.StartCases.{search_none, search_found, search_less, search_next, none_found, start_found}
 use Rattle.edges.proofs.starts.least_start.Goals as goal
 
 pub returns-then-places_held-k : goal.returns-then-places_held-k
 returns-then-places_held-k c = none_found c.args.windows _ (omega (arith, c.places_held.ensures, c.if-places_held-k.true))
-
-pub pass-next-requires : goal.pass-next-requires
-pass-next-requires c = lists_places _ _ (omega arith) c.largest_first-order.ensures.order.once
 
 pub loop-others-smaller : goal.loop-others-smaller
 loop-others-smaller c =
@@ -27,14 +23,18 @@ loop-others-preserved c =
 pub returns-then-is_used_up : goal.returns-then-is_used_up
 returns-then-is_used_up c =
     let long : length c.args.windows.p ≡ 64 = search rules in
-    start_found c.args.windows c.args.k c.largest_first-order.result (omega (arith, c.places_held.ensures, c.if-places_held-k.false)) long
-    c.largest_first-order.ensures _
-    (search_none _ _ _ _ _ _ _ c.loop-others.invariant (sym c.is_used_up.ensures.value ∙ c.if-is_used_up.true))
+    let of = c.of-others in
+    start_found c.args.windows c.args.k of.result.order (omega (arith, c.places_held.ensures, c.if-places_held-k.false)) long
+    of.ensures.holds_order _
+    (rw of.ensures.windows_are at
+    (search_none _ _ _ _ _ _ _ c.loop-others.invariant (sym c.is_used_up.ensures.value ∙ c.if-is_used_up.true)))
 
 pub returns-then-next-s : goal.returns-then-next-s
 returns-then-next-s c =
     let long : length c.args.windows.p ≡ 64 = search rules in
-    start_found c.args.windows c.args.k c.largest_first-order.result (omega (arith, c.places_held.ensures, c.if-places_held-k.false)) long
-    c.largest_first-order.ensures _
+    let of = c.of-others in
+    start_found c.args.windows c.args.k of.result.order (omega (arith, c.places_held.ensures, c.if-places_held-k.false)) long
+    of.ensures.holds_order _
+    (rw of.ensures.windows_are at
     (search_found _ _ _ _ _ _ _ c.loop-others.invariant (sym c.is_used_up.ensures.value ∙ c.if-is_used_up.false) _
-    (rw c.from.ensures at c.pass-next.ensures) c.if-next-s.true)
+    (rw c.from.ensures at c.pass-next.ensures) c.if-next-s.true))

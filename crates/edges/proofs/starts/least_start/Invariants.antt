@@ -9,9 +9,9 @@ use Rattle.edges.proofs.starts.least_start.Given as goal
 
 abbrev pub invariant-loop-others : goal.invariant-loop-others
 invariant-loop-others l =
-    let v = windows_in l.others in
-    Searching v (value_at l.order) l.first l.last l.p
-    (start_from v (value_at l.order) l.first l.last l.p (passes l.first l.last l.p) l.first) l.s
+    let v = windows_in l.others.windows in
+    Searching v (value_at l.others.order) l.first l.last l.p
+    (start_from v (value_at l.others.order) l.first l.last l.p (passes l.first l.last l.p) l.first) l.s
 
 abbrev pub decreases-loop-others : goal.decreases-loop-others
 decreases-loop-others l = suc l.last - l.s

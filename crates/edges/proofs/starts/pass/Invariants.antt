@@ -9,5 +9,5 @@ use Rattle.edges.proofs.starts.pass.Given as goal
 
 abbrev pub invariant-loop-x : goal.invariant-loop-x
 invariant-loop-x l =
-    let v = windows_in l.windows in
-    l.s ≡ passed v (value_at l.order) l.p l.initial' l.last (v.n - l.x) l.start
+    let v = windows_in l.by_release.windows in
+    l.s ≡ passed v (value_at l.by_release.order) l.p l.initial' l.last (v.n - l.x) l.start

@@ -3,7 +3,7 @@
 use Rattle.order.specs.Orders.{value_at}
 use Rattle.windows.specs.Windows.{windows_in}
 use Rattle.windows.proofs.RunningSums.{Walking}
-use Rattle.windows.proofs.running_sum.walk_down.Given as goal
+use Rattle.windows.proofs.by_release.ByRelease.walk_down.Given as goal
 
 abbrev pub invariant-loop-i : goal.invariant-loop-i
-invariant-loop-i l = Walking (windows_in l.windows) (value_at l.order) l.b l.initial.sum l.sum l.i-items l.i-index
+invariant-loop-i l = Walking (windows_in l.self.windows) (value_at l.self.order) l.b l.initial.sum l.sum l.i-items l.i-index

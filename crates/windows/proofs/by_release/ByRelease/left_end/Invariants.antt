@@ -4,10 +4,10 @@ use Prim.Native.Nat.{◌-◌}
 use Rattle.order.specs.Orders.{value_at}
 use Rattle.windows.specs.Windows.{windows_in}
 use Rattle.windows.proofs.LeftEndCases.{NoneSoFar}
-use Rattle.windows.proofs.interval.left_end.Given as goal
+use Rattle.windows.proofs.by_release.ByRelease.left_end.Given as goal
 
 abbrev pub invariant-loop-sum : goal.invariant-loop-sum
-invariant-loop-sum l = NoneSoFar (windows_in l.windows) (value_at l.order) l.b l.initial.sum l.sum
+invariant-loop-sum l = NoneSoFar (windows_in l.self.windows) (value_at l.self.order) l.b l.initial.sum l.sum
 
 abbrev pub decreases-loop-sum : goal.decreases-loop-sum
 decreases-loop-sum l = l.count - l.sum.passed
