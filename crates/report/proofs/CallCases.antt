@@ -5,21 +5,18 @@ use mathlib.Core.Bool.{Bool, true, false, cond}
 use mathlib.Core.List.{List, [], ◌∷◌, ◌++◌, append_assoc}
 use Prim.Native.Nat.{ℕ, ◌<◌}
 use lib.Dec.{eqb}
-use lib.ListN.{length, get_or}
+use lib.ListN.{get_or}
 use lib.Seq.{get_or-take}
 use Rattle.base.specs.Outcomes.{code}
 use Rattle.list.specs.DayLists.{blank}
 use Rattle.list.specs.declared.types.Entry.{Entry}
 use Rattle.list.specs.declared.types.DayList.{DayList}
-use Rattle.windows.specs.Plans.{places_in}
-use Rattle.windows.proofs.PlanFacts.{place_read}
 use Rattle.codes.specs.declared.RefusalCode.{RefusalCode}
 use Rattle.report.specs.Text.{ascii, decimal, line}
-use Rattle.report.specs.Runs.{begins_run, run_end}
-use Rattle.report.specs.Reports.{entry_line, entry_line_at, run_line, run_line_at, refusal_line}
+use Rattle.report.specs.Reports.{entry_line, entry_line_at, refusal_line}
 use Rattle.report.specs.Calls.{line_of}
 use Rattle.report.specs.Internal.{Puts, times_text, carried_text}
-use Rattle.report.proofs.StepCases.{puts_nothing, puts_then}
+use Rattle.report.proofs.StepCases.{puts_then}
 
 -- A refusal's line: its number, what it carries, and the newline.
 refusal_text : (number : ℕ) (values : List ℕ)
@@ -51,16 +48,6 @@ pub refusal_put : {room : ℕ} {old new : List ℕ} (c : RefusalCode)
     → Puts room old ((ascii "refused " ++ decimal c.number) ++ (carried_text c.number c.values ++ ascii "\n")) new
     → Puts room old (line_of c) new
 refusal_put {room} {old} {new} c p = subst (λ (t : List ℕ). Puts room old t new) (refusal_text c.number c.values) p
-
--- The line of the run that begins at a minute, if one does.
-module _ {room : ℕ} {old : List ℕ} (plan : List ℕ) (t : ℕ) where
-  pub run_put : {new : List ℕ} (e : ℕ) → t < length plan → true ≡ begins_run (places_in plan) t
-      → e ≡ run_end (length plan) (places_in plan) t → Puts room old (run_line t e (get_or plan t 0)) new
-      → Puts room old (run_line_at (length plan) (places_in plan) t) new
-  run_put e below begins end p = rw (← begins, ← end, ← place_read plan t below) p
-
-  pub run_none : false ≡ begins_run (places_in plan) t → Puts room old (run_line_at (length plan) (places_in plan) t) old
-  run_none begins = rw (← begins) (puts_nothing room old)
 
 -- The end of an entry's line: its five times, each after a space, and the newline.
 pub times_put : {room : ℕ} {s₀ s₁ s₂ s₃ s₄ s₅ s₆ : List ℕ} (e : Entry) (end start : ℕ)

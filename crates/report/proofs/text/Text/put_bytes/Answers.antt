@@ -1,10 +1,7 @@
 -- `put_bytes` meets its contract. The loop's invariant is `PutSoFar`.
 -- Assumes nothing.
-use Rattle.report.proofs.StepCases.{so_far_none, bytes_next, bytes_done}
+use Rattle.report.proofs.StepCases.{bytes_next, bytes_done}
 use Rattle.report.proofs.text.Text.put_bytes.Goals as goal
-
-pub loop-x-init : goal.loop-x-init
-loop-x-init g c = so_far_none _ _ _
 
 pub loop-x-preserved : goal.loop-x-preserved
 loop-x-preserved g c = bytes_next c.args.bytes.now c.loop-x.invariant c.loop-x-test.true c.put_byte.ensures
