@@ -5,21 +5,18 @@ use mathlib.Core.Bool.{Bool, true, false, cond}
 use mathlib.Core.List.{List, [], ◌∷◌, ◌++◌, append_assoc}
 use Prim.Native.Nat.{ℕ, ◌<◌}
 use lib.Dec.{eqb}
-use lib.ListN.{length, get_or}
+use lib.ListN.{get_or}
 use lib.Seq.{get_or-take}
 use Rattle.base.specs.Outcomes.{code}
 use Rattle.list.specs.DayLists.{blank}
 use Rattle.list.specs.declared.types.Entry.{Entry}
 use Rattle.list.specs.declared.types.DayList.{DayList}
-use Rattle.windows.specs.Plans.{places_in}
-use Rattle.windows.proofs.PlanFacts.{place_read}
 use Rattle.codes.specs.declared.RefusalCode.{RefusalCode}
 use Rattle.report.specs.Text.{ascii, decimal, line}
-use Rattle.report.specs.Runs.{begins_run, run_end}
-use Rattle.report.specs.Reports.{entry_line, entry_line_at, run_line, run_line_at, refusal_line}
+use Rattle.report.specs.Reports.{entry_line, entry_line_at, refusal_line}
 use Rattle.report.specs.Calls.{line_of}
 use Rattle.report.specs.Internal.{Puts, times_text, carried_text}
-use Rattle.report.proofs.StepCases.{puts_nothing, puts_then}
+use Rattle.report.proofs.StepCases.{puts_then}
 
 -- A refusal's line: its number, what it carries, and the newline.
 refusal_text : (number : ℕ) (values : List ℕ)
@@ -47,36 +44,26 @@ refusal_text number values = go (eqb number 9) (eqb number 10)
     go false true = refl
     go false false = refl
 
-pub refusal_put : {old new : List ℕ} {next : ℕ} (c : RefusalCode)
-    → Puts old 0 ((ascii "refused " ++ decimal c.number) ++ (carried_text c.number c.values ++ ascii "\n")) new next
-    → Puts old 0 (line_of c) new next
-refusal_put {old} {new} {next} c p = subst (λ (t : List ℕ). Puts old 0 t new next) (refusal_text c.number c.values) p
-
--- The line of the run that begins at a minute, if one does.
-module _ {old : List ℕ} {at : ℕ} (plan : List ℕ) (t : ℕ) where
-  pub run_put : {new : List ℕ} {next : ℕ} (e : ℕ) → t < length plan → true ≡ begins_run (places_in plan) t
-      → e ≡ run_end (length plan) (places_in plan) t → Puts old at (run_line t e (get_or plan t 0)) new next
-      → Puts old at (run_line_at (length plan) (places_in plan) t) new next
-  run_put e below begins end p = rw (← begins, ← end, ← place_read plan t below) p
-
-  pub run_none : false ≡ begins_run (places_in plan) t → Puts old at (run_line_at (length plan) (places_in plan) t) old at
-  run_none begins = rw (← begins) (puts_nothing old at)
+pub refusal_put : {room : ℕ} {old new : List ℕ} (c : RefusalCode)
+    → Puts room old ((ascii "refused " ++ decimal c.number) ++ (carried_text c.number c.values ++ ascii "\n")) new
+    → Puts room old (line_of c) new
+refusal_put {room} {old} {new} c p = subst (λ (t : List ℕ). Puts room old t new) (refusal_text c.number c.values) p
 
 -- The end of an entry's line: its five times, each after a space, and the newline.
-pub times_put : {s₀ s₁ s₂ s₃ s₄ s₅ s₆ : List ℕ} {at a b c d last next : ℕ} (e : Entry) (end start : ℕ)
-    → Puts s₀ at (ascii " " ++ decimal e.r) s₁ a
-    → Puts s₁ a (ascii " " ++ decimal e.d) s₂ b
-    → Puts s₂ b (ascii " " ++ decimal e.p) s₃ c
-    → Puts s₃ c (ascii " " ++ decimal end) s₄ d
-    → Puts s₄ d (ascii " " ++ decimal start) s₅ last
-    → Puts s₅ last (ascii "\n") s₆ next
-    → Puts s₀ at (times_text e end start) s₆ next
+pub times_put : {room : ℕ} {s₀ s₁ s₂ s₃ s₄ s₅ s₆ : List ℕ} (e : Entry) (end start : ℕ)
+    → Puts room s₀ (ascii " " ++ decimal e.r) s₁
+    → Puts room s₁ (ascii " " ++ decimal e.d) s₂
+    → Puts room s₂ (ascii " " ++ decimal e.p) s₃
+    → Puts room s₃ (ascii " " ++ decimal end) s₄
+    → Puts room s₄ (ascii " " ++ decimal start) s₅
+    → Puts room s₅ (ascii "\n") s₆
+    → Puts room s₀ (times_text e end start) s₆
 unfolding line ascii
 times_put e end start r d p least greatest newline =
     puts_then r (puts_then d (puts_then p (puts_then least (puts_then greatest newline))))
 
 -- The line of the entry at a place.
-pub entry_put : {old new : List ℕ} {at next : ℕ} (l : DayList) (ends starts : List ℕ) (i : ℕ) → i < l.n
-    → Puts old at (entry_line i (get_or l.entries i blank) (get_or ends i 0) (get_or starts i 0)) new next
-    → Puts old at (entry_line_at l (λ i. get_or ends i 0) (λ i. get_or starts i 0) i) new next
+pub entry_put : {room : ℕ} {old new : List ℕ} (l : DayList) (ends starts : List ℕ) (i : ℕ) → i < l.n
+    → Puts room old (entry_line i (get_or l.entries i blank) (get_or ends i 0) (get_or starts i 0)) new
+    → Puts room old (entry_line_at l (λ i. get_or ends i 0) (λ i. get_or starts i 0) i) new
 entry_put l ends starts i below p = rw (get_or-take l.n l.entries i blank below) p

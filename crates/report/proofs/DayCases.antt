@@ -124,10 +124,10 @@ module _ (l : DayList) (well : WellFormed l) (old new : List ℕ) (long : length
         head_line (list_is j).frame.h (list_is j).n p.narrowed.moves (broken_is j)
         ++ (entries_are j ++ run_lines (day_is j) (places_in (bytes_are j)))
 
-    pub planned_put : {out text : List ℕ} {next : ℕ} → Puts out 0 (answer_text p bytes) text next
-        → PutsOr (planned_text l) out (Ok next) text
-    planned_put {out} {text} {next} put =
-        (day_text l settled, rw narrowed_is refl, subst (λ (t : List ℕ). Puts out 0 t text next) answer_text_lem put)
+    pub planned_put : {room : ℕ} {before after : List ℕ} → Puts room before (answer_text p bytes) after
+        → PutsOr room (planned_text l) before (Ok tt) after
+    planned_put {room} {before} {after} put =
+        (day_text l settled, rw narrowed_is refl, subst (λ (t : List ℕ). Puts room before t after) answer_text_lem put)
 
 -- Reading an input.
 module _ (bs : List ℕ) where
@@ -140,6 +140,7 @@ module _ (bs : List ℕ) where
     pub read_formed : WellFormed l
     read_formed = read_well_formed bs l (sym reads.outcome)
 
-    pub read_put : (out text : List ℕ) (r : Result ℕ Refusal) → PutsOr (planned_text l) out r text → PutsOr (report_of bs) out r text
+    pub read_put : (room : ℕ) (before after : List ℕ) (r : Result (Unit {0}) Refusal) → PutsOr room (planned_text l) before r after
+        → PutsOr room (report_of bs) before r after
     unfolding report_of
-    read_put out text r p = rw (sym reads.outcome) p
+    read_put room before after r p = rw (sym reads.outcome) p

@@ -2,7 +2,6 @@
 use Rattle.std.specs.Prelude.{ℕ, ◌+◌, ◌≤◌, ◌≡◌, cond, List, [], ◌∷◌, ◌++◌, length, get_or, eqb, Err, Ok, Result}
 use Rattle.base.specs.Outcomes.{Outcome, answered, refused}
 use Rattle.list.specs.Refusals.{code_of}
-use Rattle.base.specs.Storing.{Wrote}
 use Rattle.list.specs.declared.types.Entry.{Entry}
 use Rattle.list.specs.declared.types.DayList.{DayList}
 use Rattle.list.specs.declared.types.Refusal.{Refusal}
@@ -11,14 +10,14 @@ use Rattle.planner.specs.declared.types.PlannedDay.{PlannedDay}
 use Rattle.report.specs.Text.{ascii, decimal, line}
 use Rattle.report.specs.Reports.{head_line, entry_lines, run_line_at, run_lines}
 
--- A step of the report's writer: if there is room for a text, it stores it from place at on and answers the place after it.
-pub record Puts (old : List ℕ) (at : ℕ) (text new : List ℕ) (next : ℕ) : Type 0 where
-  pub wrote : at + length text ≤ length old → Wrote old at text new next
+-- A step of the report's writer, in a buffer of so many bytes: if there is room for a text, it puts it after what stands there.
+pub record Puts (room : ℕ) (old text new : List ℕ) : Type 0 where
+  pub put : length old + length text ≤ room → new ≡ old ++ text
 
--- what putting a text to the start of a buffer answers: the place after it, or the refusal that stands instead of a text
-abbrev pub PutsOr : Outcome (List ℕ) → List ℕ → Result ℕ Refusal → List ℕ → Type 0
-PutsOr o old (Ok next) new = (text : List ℕ) × (o ≡ answered text) × Puts old 0 text new next
-PutsOr o old (Err x) new = o ≡ refused (code_of x)
+-- what putting a text answers, or the refusal that stands instead of one
+abbrev pub PutsOr : ℕ → Outcome (List ℕ) → List ℕ → Result (Unit {0}) Refusal → List ℕ → Type 0
+PutsOr room o old (Ok _) new = (text : List ℕ) × (o ≡ answered text) × Puts room old text new
+PutsOr room o old (Err x) new = o ≡ refused (code_of x)
 
 -- the lines of a plan's runs, and the line of the one that begins at minute t, if one does
 abbrev pub runs_text : List ℕ → List ℕ

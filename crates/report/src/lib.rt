@@ -17,10 +17,8 @@ ghost use Rattle.base.specs.Outcomes.{answered};
 ghost use Rattle.report.specs.Calls.{StoresText, Reports, StoresLine};
 
 use codes::RefusalCode;
-use day::put_report;
-use lines::put_refusal;
 use list::types::Refusal;
-use text::put_bytes;
+use text::Text;
 
 // Room for the text of every day.
 pub const REPORT_BYTES: usize = 22352;
@@ -36,7 +34,7 @@ fn store(text: &[u8], out: &mut [u8]) -> Result<usize, Refusal>
     if out.len() < size {
         return Err(Refusal::ListBufferShort(size));
     }
-    put_bytes(out, 0, text);
+    out[..size].copy_from_slice(text);
     Ok(size)
 }
 
@@ -44,16 +42,16 @@ fn store(text: &[u8], out: &mut [u8]) -> Result<usize, Refusal>
 pub fn report(input: &[u8], out: &mut [u8]) -> Result<usize, Refusal>
     ensures { Reports input.now out.old result out.new }
 {
-    let mut text = [0u8; REPORT_BYTES];
-    let size = put_report(input, &mut text)?;
-    store(&text[..size], out)
+    let mut text = Text::<REPORT_BYTES>::new();
+    text.put_report(input)?;
+    store(text.as_bytes(), out)
 }
 
 // The line of a refusal, made in a buffer of this call's own first.
 pub fn refusal_line(code: RefusalCode, out: &mut [u8]) -> Result<usize, Refusal>
     ensures { StoresLine code out.old result out.new }
 {
-    let mut line = [0u8; REFUSAL_BYTES];
-    let size = put_refusal(&mut line, code);
-    store(&line[..size], out)
+    let mut line = Text::<REFUSAL_BYTES>::new();
+    line.put_refusal(code);
+    store(line.as_bytes(), out)
 }

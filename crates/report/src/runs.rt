@@ -4,7 +4,7 @@ ghost use Rattle.windows.specs.Plans.{places_in};
 ghost use Rattle.report.specs.Runs.{begins_run, run_end};
 ghost use Rattle.report.specs.Internal.{Puts, run_text_at, runs_text};
 
-use crate::lines::put_run;
+use crate::text::Text;
 
 // Whether an entry has minute t that did not have the minute before.
 fn begins_run(plan: &[u8], t: usize) -> bool
@@ -30,25 +30,23 @@ fn run_end(plan: &[u8], t: usize) -> usize
     plan.len()
 }
 
-// The line of the run that begins at minute t, if one does.
-fn put_run_at(out: &mut [u8], at: usize, plan: &[u8], t: usize) -> usize
-    requires { t < length plan.now }
-    ensures { Puts out.old at (run_text_at plan.now t) out.new result }
-{
-    if begins_run(plan, t) {
-        put_run(out, at, t, run_end(plan, t), plan[t])
-    } else {
-        at
+impl<const N: usize> Text<N> {
+    // The line of the run that begins at minute t, if one does.
+    fn put_run_at(&mut self, plan: &[u8], t: usize)
+        requires { t < length plan.now }
+        ensures { Puts N self.old (run_text_at plan.now t) self.new }
+    {
+        if begins_run(plan, t) {
+            self.put_run(t, run_end(plan, t), plan[t]);
+        }
     }
-}
 
-// The lines of all runs of a plan.
-pub(crate) fn put_runs(out: &mut [u8], at: usize, plan: &[u8]) -> usize
-    ensures { Puts out.old at (runs_text plan.now) out.new result }
-{
-    let mut next = at;
-    for t in 0..plan.len() {
-        next = put_run_at(out, next, plan, t);
+    // The lines of all runs of a plan.
+    pub(crate) fn put_runs(&mut self, plan: &[u8])
+        ensures { Puts N self.old (runs_text plan.now) self.new }
+    {
+        for t in 0..plan.len() {
+            self.put_run_at(plan, t);
+        }
     }
-    next
 }

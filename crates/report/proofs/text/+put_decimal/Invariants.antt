@@ -1,6 +1,0 @@
--- `text::put_decimal` calls itself with a smaller number.
--- Assumes nothing.
-use Rattle.report.proofs.text.+put_decimal.Given as goal
-
-abbrev pub decreases-put_decimal : goal.decreases-put_decimal
-decreases-put_decimal l = l.x
