@@ -6,7 +6,7 @@ ghost use Rattle.list.specs.DayLists.{marked};
 ghost use Rattle.windows.specs.Windows.{windows_in, with_window};
 ghost use Rattle.windows.specs.Intervals.{overload_of};
 ghost use Rattle.backtracking.specs.Calls.{is_found, ending_number, SearchesWindows};
-ghost use Rattle.backtracking.specs.Internal.{NextWhole, LastWhole, FixedBelow, Stands, Entered, Reopens, StartLeft, Tries};
+ghost use Rattle.backtracking.specs.Internal.{NextWhole, FindsLast, FixedBelow, Stands, Entered, Reopens, StartLeft, Tries};
 
 use crate::types::{Ending, SearchAnswer};
 use list::places_held;
@@ -68,12 +68,12 @@ fn next_whole(whole: [bool; ENTRIES], count: usize, k: usize) -> usize
     (k..count).find(|j| whole[*j]).unwrap_or(count)
 }
 
-// The last whole place below k, plus 1, or 0 for none.
-fn last_whole(whole: [bool; ENTRIES], k: usize) -> usize
+// The last whole place below k.
+fn last_whole(whole: [bool; ENTRIES], k: usize) -> Option<usize>
     requires { k ≤ 64 }
-    ensures { LastWhole (marked whole) k result }
+    ensures { FindsLast (marked whole) k result }
 {
-    whole[..k].iter().rposition(|w| *w).map_or(0, |j| j + 1)
+    whole[..k].iter().rposition(|w| *w)
 }
 
 // Goes on to the next whole entry from place k on, at its first start; `fixed` are the windows with the starts before.
@@ -173,15 +173,14 @@ pub fn search_windows(whole: [bool; ENTRIES], windows: WindowSet, limit: u32) ->
             }
             at = tried(whole, windows, at);
         } else {
-            let last = last_whole(whole, at.place);
-            if last == 0 {
+            let Some(last) = last_whole(whole, at.place) else {
                 break SearchAnswer {
                     ending: Ending::NoneExists,
                     windows,
                     trials: at.trials,
                 };
-            }
-            at = gone_back(windows, at, last - 1);
+            };
+            at = gone_back(windows, at, last);
         }
     }
 }
