@@ -12,6 +12,11 @@ pub record NextWhole (whole : ℕ → Bool) (n k j : ℕ) : Type 0 where
   pub pauses : (i : ℕ) → k ≤ i → i < j → whole i ≡ false
   pub is_whole : j < n → whole j ≡ true
 
+-- the first whole place of those from k on and below n, none where all of those are pauses
+abbrev pub FindsNext : (ℕ → Bool) → ℕ → ℕ → Option ℕ → Type 0
+FindsNext whole n k (Some j) = (j < n) × NextWhole whole n k j
+FindsNext whole n k None = NextWhole whole n k n
+
 -- j is the last whole place below k, plus 1, or 0
 pub record LastWhole (whole : ℕ → Bool) (k j : ℕ) : Type 0 where
   pub within : j ≤ k

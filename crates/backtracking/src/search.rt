@@ -6,7 +6,7 @@ ghost use Rattle.list.specs.DayLists.{marked};
 ghost use Rattle.windows.specs.Windows.{windows_in, with_window};
 ghost use Rattle.windows.specs.Intervals.{overload_of};
 ghost use Rattle.backtracking.specs.Calls.{is_found, ending_number, SearchesWindows};
-ghost use Rattle.backtracking.specs.Internal.{NextWhole, FindsLast, FixedBelow, Stands, Entered, Reopens, StartLeft, Tries};
+ghost use Rattle.backtracking.specs.Internal.{FindsNext, FindsLast, FixedBelow, Stands, Entered, Reopens, StartLeft, Tries};
 
 use crate::types::{Ending, SearchAnswer};
 use list::places_held;
@@ -59,13 +59,13 @@ fn has_plan(windows: WindowSet) -> bool
     unchecked_overload(windows).is_ok()
 }
 
-// The first whole place from k on, or count for none.
-fn next_whole(whole: [bool; ENTRIES], count: usize, k: usize) -> usize
+// The first whole place from k on and below count.
+fn next_whole(whole: [bool; ENTRIES], count: usize, k: usize) -> Option<usize>
     requires k_le_count { k ≤ count }
     requires count_bound { count ≤ 64 }
-    ensures { NextWhole (marked whole) count k result }
+    ensures { FindsNext (marked whole) count k result }
 {
-    (k..count).find(|j| whole[*j]).unwrap_or(count)
+    (k..count).find(|j| whole[*j])
 }
 
 // The last whole place below k.
@@ -89,11 +89,9 @@ fn entered(
     ensures { Entered (marked whole) (windows_in windows) (windows_in fixed) k trials result }
 {
     let count = places_held(windows.n);
-    let place = next_whole(whole, count, k);
-    let start = if place < count {
-        u32::from(windows.r[place])
-    } else {
-        0
+    let (place, start) = match next_whole(whole, count, k) {
+        Some(place) => (place, u32::from(windows.r[place])),
+        None => (count, 0),
     };
     Position {
         windows: fixed,
