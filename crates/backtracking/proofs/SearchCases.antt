@@ -7,7 +7,7 @@ use native.Mathlib.Omega.{arith}
 use borrow.Author.Tests.{lt-ltb, le-ltb, leb-true, leb-false}
 use lib.Dec.{leb}
 use Rattle.std.proofs.Common.{Option, None, Some}
-use Rattle.std.specs.Option.{MatchOption, unwrap_or}
+use Rattle.std.specs.Option.{MatchOption}
 use Rattle.base.specs.Outcomes.{accepts}
 use Rattle.windows.specs.Windows.{Windows, windows_in, with_windows, with_window, fixed_at, put}
 use Rattle.windows.specs.Intervals.{overload_of}
@@ -16,21 +16,21 @@ use Rattle.base.proofs.Sums.{le_or_lt}
 use Rattle.windows.proofs.Puts.{put_same, put_other}
 use Rattle.backtracking.specs.Searches.{Search, found, none, spent, search_within}
 use Rattle.backtracking.specs.Calls.{AnswersSearch}
-use Rattle.backtracking.specs.Internal.{NextWhole, LastWhole, FixedBelow, going_back, from_start, Stands, Entered, Reopens}
+use Rattle.backtracking.specs.Internal.{NextWhole, FindsNext, LastWhole, FixedBelow, going_back, from_start, Stands, Entered, Reopens}
 use Rattle.backtracking.specs.Internal.{StartLeft, Tries, OnTheWay}
 use Rattle.backtracking.specs.declared.search.Position.{Position}
 use Rattle.backtracking.specs.declared.types.Ending.TheVariants.{DayFound, NoneExists, TrialsSpent}
 use Rattle.backtracking.proofs.Remainders.{from_first, from_last, from_next, from_whole, back_none, back_whole}
 use Rattle.backtracking.proofs.Remainders.{start_none, start_spent, start_fails, start_holds}
 
--- The first whole place that a search of those from k on and below n finds, or n.
+-- The first whole place that a search of those from k on and below n finds, if any.
 pub next_found : (whole : ℕ → Bool) (n k : ℕ) → k ≤ n → (r : Option ℕ)
     → MatchOption r ((i : ℕ) → k ≤ i → i < n → whole i ≡ false)
     (λ j. (k ≤ j) × (j < n) × (whole j ≡ true) × ((i : ℕ) → k ≤ i → i < j → whole i ≡ false))
-    → NextWhole whole n k (unwrap_or r n)
+    → FindsNext whole n k r
 next_found whole n k h None pauses = record { from = h; within = omega arith; pauses = pauses; is_whole = λ l. absurd (omega arith) }
 next_found whole n k h (Some j) (from, below, is, pauses) =
-    record { from = from; within = omega arith; pauses = pauses; is_whole = λ _. is }
+    (below, record { from = from; within = omega arith; pauses = pauses; is_whole = λ _. is })
 
 -- Which starts are fixed.
 module _ (whole : ℕ → Bool) (w : Windows) where
@@ -81,11 +81,10 @@ module _ (whole : ℕ → Bool) (w : Windows) where
         }
 
 -- Place k is reached.
-module _ (whole : ℕ → Bool) (w : Windows) (v : WindowSet) (k t j : ℕ) (so : FixedBelow whole w (windows_in v) k)
-    (next : NextWhole whole w.n k j) where
-  pub enters_whole : j < w.n → w.r j ≤ 65536
+module _ (whole : ℕ → Bool) (w : Windows) (v : WindowSet) (k t : ℕ) (so : FixedBelow whole w (windows_in v) k) where
+  pub enters_whole : (j : ℕ) → NextWhole whole w.n k j → j < w.n → w.r j ≤ 65536
       → Entered whole w (windows_in v) k t (record { windows = v; place = j; start = w.r j; trials = t })
-  enters_whole place small =
+  enters_whole j next place small =
       let here = fixed_later whole w (windows_in v) k so j next.from in
       record {
         stands = record { fixed = here; within = next.within; is_whole = next.is_whole; start = small };
@@ -97,21 +96,21 @@ module _ (whole : ℕ → Bool) (w : Windows) (v : WindowSet) (k t j : ℕ) (so 
             ∙ from_whole limit whole w j (windows_in v) t here place (next.is_whole place)));
       }
 
-  pub enters_all : w.n ≤ j → Entered whole w (windows_in v) k t (record { windows = v; place = j; start = 0; trials = t })
-  enters_all end =
-      let last : j ≡ w.n = omega (arith, next.within) in
+  pub enters_all : NextWhole whole w.n k w.n
+      → Entered whole w (windows_in v) k t (record { windows = v; place = w.n; start = 0; trials = t })
+  enters_all next =
       record {
         stands =
             record {
-              fixed = fixed_later whole w (windows_in v) k so j next.from;
+              fixed = fixed_later whole w (windows_in v) k so w.n next.from;
               within = next.within;
               is_whole = next.is_whole;
               start = omega arith;
             };
         trials = refl;
         means = λ limit.
-            rw (le-ltb j w.n end)
-            (sym (from_next limit whole w k j (windows_in v) t next ∙ rw last (from_last limit whole w (windows_in v) t)));
+            rw (le-ltb w.n w.n (omega arith))
+            (sym (from_next limit whole w k w.n (windows_in v) t next ∙ from_last limit whole w (windows_in v) t));
       }
 
 -- One trial, at the position `at`.

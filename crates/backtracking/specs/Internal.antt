@@ -1,5 +1,5 @@
 -- What the private functions promise each other: where the search stands, and what is left of it there.
-use Rattle.std.specs.Prelude.{ℕ, zero, suc, ◌+◌, ◌-◌, ◌<◌, ◌≤◌, ◌≡◌, Bool, true, false, cond, ltb}
+use Rattle.std.specs.Prelude.{ℕ, zero, suc, ◌+◌, ◌-◌, ◌<◌, ◌≤◌, ◌≡◌, Bool, true, false, cond, ltb, Option, Some, None}
 use Rattle.windows.specs.Windows.{Windows, windows_in, with_windows, with_window}
 use Rattle.windows.specs.Intervals.{overload_of}
 use Rattle.backtracking.specs.Searches.{Search, found, none, or_else, starts_from, search_from, search_within}
@@ -12,11 +12,21 @@ pub record NextWhole (whole : ℕ → Bool) (n k j : ℕ) : Type 0 where
   pub pauses : (i : ℕ) → k ≤ i → i < j → whole i ≡ false
   pub is_whole : j < n → whole j ≡ true
 
+-- the first whole place of those from k on and below n, none where all of those are pauses
+abbrev pub FindsNext : (ℕ → Bool) → ℕ → ℕ → Option ℕ → Type 0
+FindsNext whole n k (Some j) = (j < n) × NextWhole whole n k j
+FindsNext whole n k None = NextWhole whole n k n
+
 -- j is the last whole place below k, plus 1, or 0
 pub record LastWhole (whole : ℕ → Bool) (k j : ℕ) : Type 0 where
   pub within : j ≤ k
   pub pauses : (i : ℕ) → j ≤ i → i < k → whole i ≡ false
   pub is_whole : (i : ℕ) → j ≡ suc i → whole i ≡ true
+
+-- the last whole place below k, none where all of those are pauses
+abbrev pub FindsLast : (ℕ → Bool) → ℕ → Option ℕ → Type 0
+FindsLast whole k (Some j) = LastWhole whole k (suc j)
+FindsLast whole k None = LastWhole whole k 0
 
 -- v are the windows w with starts fixed at whole places below k alone
 pub record FixedBelow (whole : ℕ → Bool) (w v : Windows) (k : ℕ) : Type 0 where

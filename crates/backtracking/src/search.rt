@@ -6,7 +6,7 @@ ghost use Rattle.list.specs.DayLists.{marked};
 ghost use Rattle.windows.specs.Windows.{windows_in, with_window};
 ghost use Rattle.windows.specs.Intervals.{overload_of};
 ghost use Rattle.backtracking.specs.Calls.{is_found, ending_number, SearchesWindows};
-ghost use Rattle.backtracking.specs.Internal.{NextWhole, LastWhole, FixedBelow, Stands, Entered, Reopens, StartLeft, Tries};
+ghost use Rattle.backtracking.specs.Internal.{FindsNext, FindsLast, FixedBelow, Stands, Entered, Reopens, StartLeft, Tries};
 
 use crate::types::{Ending, SearchAnswer};
 use list::places_held;
@@ -59,21 +59,21 @@ fn has_plan(windows: WindowSet) -> bool
     unchecked_overload(windows).is_ok()
 }
 
-// The first whole place from k on, or count for none.
-fn next_whole(whole: [bool; ENTRIES], count: usize, k: usize) -> usize
+// The first whole place from k on and below count.
+fn next_whole(whole: [bool; ENTRIES], count: usize, k: usize) -> Option<usize>
     requires k_le_count { k ≤ count }
     requires count_bound { count ≤ 64 }
-    ensures { NextWhole (marked whole) count k result }
+    ensures { FindsNext (marked whole) count k result }
 {
-    (k..count).find(|j| whole[*j]).unwrap_or(count)
+    (k..count).find(|j| whole[*j])
 }
 
-// The last whole place below k, plus 1, or 0 for none.
-fn last_whole(whole: [bool; ENTRIES], k: usize) -> usize
+// The last whole place below k.
+fn last_whole(whole: [bool; ENTRIES], k: usize) -> Option<usize>
     requires { k ≤ 64 }
-    ensures { LastWhole (marked whole) k result }
+    ensures { FindsLast (marked whole) k result }
 {
-    whole[..k].iter().rposition(|w| *w).map_or(0, |j| j + 1)
+    whole[..k].iter().rposition(|w| *w)
 }
 
 // Goes on to the next whole entry from place k on, at its first start; `fixed` are the windows with the starts before.
@@ -89,11 +89,9 @@ fn entered(
     ensures { Entered (marked whole) (windows_in windows) (windows_in fixed) k trials result }
 {
     let count = places_held(windows.n);
-    let place = next_whole(whole, count, k);
-    let start = if place < count {
-        u32::from(windows.r[place])
-    } else {
-        0
+    let (place, start) = match next_whole(whole, count, k) {
+        Some(place) => (place, u32::from(windows.r[place])),
+        None => (count, 0),
     };
     Position {
         windows: fixed,
@@ -173,15 +171,14 @@ pub fn search_windows(whole: [bool; ENTRIES], windows: WindowSet, limit: u32) ->
             }
             at = tried(whole, windows, at);
         } else {
-            let last = last_whole(whole, at.place);
-            if last == 0 {
+            let Some(last) = last_whole(whole, at.place) else {
                 break SearchAnswer {
                     ending: Ending::NoneExists,
                     windows,
                     trials: at.trials,
                 };
-            }
-            at = gone_back(windows, at, last - 1);
+            };
+            at = gone_back(windows, at, last);
         }
     }
 }

@@ -6,9 +6,9 @@ use mathlib.Core.List.{List, ◌++◌, reverse}
 use Prim.Native.Nat.{ℕ, suc, ◌-◌, ◌<◌, ◌≤◌}
 use native.Mathlib.Omega.{arith}
 use borrow.Author.Tests.{lt-ltb, le-ltb, le-leb, lt-leb}
-use lib.ListN.{length, get_or, take, drop, get_or-append}
-use lib.Seq.{ext_get_or, length-take-le, drop_at}
-use Rattle.std.proofs.lemmas.List.{get_or-reverse, get_or-take, length-reverse}
+use lib.ListN.{length, get_or, take, drop}
+use lib.Seq.{ext_get_or, drop_at}
+use Rattle.std.proofs.lemmas.List.{get_or-reverse, length-reverse, take_at}
 use Rattle.base.specs.Outcomes.{Code, answered, refused}
 use Rattle.list.specs.Refusals.{outcome_of}
 use Rattle.list.specs.declared.types.Refusal.{Refusal}
@@ -20,7 +20,7 @@ use Rattle.windows.specs.Mirrors.{mirror, mirror_bytes, MirrorOf}
 use Rattle.windows.specs.Intervals.{overload_of}
 use Rattle.windows.specs.declared.types.WindowSet.{WindowSet}
 use Rattle.jackson.specs.Calls.{FillsWindows}
-use Rattle.base.proofs.Listed.{list_same, list_length}
+use Rattle.base.proofs.Listed.{list_length}
 use Rattle.windows.proofs.Room.{passes_formed}
 use Rattle.windows.proofs.PlanFacts.{mirror_at}
 use Rattle.jackson.proofs.Schedules.{schedule_long}
@@ -42,10 +42,6 @@ pub stored_early : (whole : ℕ → Bool) (w u : Windows) (k e : ℕ) (old : Lis
 stored_early whole w u k e old v new same fills room bound =
     record { bound = bound; buffer = rw (← bound) (filled_with (with_d w k e) old v new (rw same at fills) room) }
 
--- the mirror looks at the plan's own bytes alone
-mirror_front : (h : ℕ) (xs ys : List ℕ) → length xs ≡ h → mirror_bytes h (xs ++ ys) ≡ mirror_bytes h xs
-mirror_front h xs ys long = list_same h _ _ (λ t below. get_or-append xs ys idle (h - suc t) (rw long (omega arith)))
-
 -- arrays with the mirrored windows can be searched too
 pub searchable_mirror : {s t : WindowSet} {k : ℕ} → Searchable s k → MirrorOf s t → Searchable t k
 searchable_mirror {s} can turned =
@@ -54,7 +50,7 @@ searchable_mirror {s} can turned =
       place = omega (arith, turned.n, can.place);
     }
 
--- the late plan: a buffer that holds the early plan in the mirrored windows u, with the end e, is mirrored
+-- the late plan: a buffer holds the early plan in the mirrored windows u, with the end e, and that plan is mirrored
 module _ {whole : ℕ → Bool} {w u : Windows} (formed : Formed w) {k : ℕ} (place : k < w.n) (turned : u ≡ mirror w)
     {old : List ℕ} {e : ℕ} {one : List ℕ} (stores : StoresShown Early whole u k old e one) where
   end_is : e ≡ least_end overload_of whole (mirror w) k
@@ -65,26 +61,32 @@ module _ {whole : ℕ → Bool} {w u : Windows} (formed : Formed w) {k : ℕ} (p
       let there = formed_mirror w formed in
       omega (arith, end_is, (least_end_range overload_of whole (mirror w) there k place).1, there.in_day k place)
 
-  pub stored_late : (new : List ℕ) → new ≡ mirror_bytes w.h one ++ drop w.h one → StoresShown Late whole w k old (w.h - e) new
-  stored_late new q =
-      record { bound = start_is; buffer = q ∙ rw (one_is, front, rest) (ap (λ (xs : List ℕ). xs ++ drop w.h old) plan_is) }
+  pub stored_late : (new : List ℕ) → new ≡ mirror_bytes (length (take w.h one)) (take w.h one)
+      → StoresShown Late whole w k old (w.h - e) (new ++ drop w.h one)
+  stored_late new q = record { bound = start_is; buffer = λ i. new_is i ++ rest i }
     where
+      early : List ℕ
+      early = early_plan (mirror w) k e
+
+      long : length early ≡ w.h
+      long = schedule_long _
+
       start_is : w.h - e ≡ greatest_start overload_of whole w k
       start_is = rw end_is (sym (start_by_mirror overload_planner w formed k place whole))
 
-      plan_is : mirror_bytes w.h (early_plan (mirror w) k e) ≡ shown_plan Late whole k w
-      plan_is = sym (late_by_mirror w k place e end_in_day) ∙ ap (late_plan w k) start_is
-
-      one_is : one ≡ early_plan (mirror w) k e ++ drop w.h old
+      one_is : one ≡ early ++ drop w.h old
       one_is =
           let bound = sym stores.bound in
           stores.buffer ∙ (λ i. early_plan (turned i) k (bound i) ++ drop (turned i).h old)
 
-      front : mirror_bytes w.h (early_plan (mirror w) k e ++ drop w.h old) ≡ mirror_bytes w.h (early_plan (mirror w) k e)
-      front = mirror_front w.h (early_plan (mirror w) k e) (drop w.h old) (schedule_long _)
+      lent : take w.h one ≡ early
+      lent = ap (take w.h) one_is ∙ take_at early (drop w.h old) w.h long
 
-      rest : drop w.h (early_plan (mirror w) k e ++ drop w.h old) ≡ drop w.h old
-      rest = drop_at (early_plan (mirror w) k e) (drop w.h old) w.h (schedule_long _)
+      rest : drop w.h one ≡ drop w.h old
+      rest = ap (drop w.h) one_is ∙ drop_at early (drop w.h old) w.h long
+
+      new_is : new ≡ shown_plan Late whole k w
+      new_is = q ∙ rw (lent, long) (sym (late_by_mirror w k place e end_in_day)) ∙ ap (late_plan w k) start_is
 
 -- `store_plan`: what it refuses, and what it stores.
 module _ (x : Shown) (whole : Bool) (s : WindowSet) (k : ℕ) (old : List ℕ) where
@@ -118,18 +120,14 @@ module _ (x : Shown) (whole : Bool) (s : WindowSet) (k : ℕ) (old : List ℕ) w
           rw (← room, lt-leb _ k known, le-ltb (length old) s.h h) refl in
           record { outcome = rw passed (ap answered stores.bound); buffer = rw passed stores.buffer }
 
--- the first h bytes the other way round are their mirror
-pub mirror_reversed : (h : ℕ) (bytes : List ℕ) → h ≤ length bytes → reverse (take h bytes) ≡ mirror_bytes h bytes
-mirror_reversed h bytes room = ext_get_or idle _ _ (length-reverse (take h bytes) ∙ taken ∙ sym (list_length h _)) same
+-- bytes the other way round are their mirror
+pub mirror_reversed : (bytes : List ℕ) → reverse bytes ≡ mirror_bytes (length bytes) bytes
+mirror_reversed bytes = ext_get_or idle _ _ (length-reverse bytes ∙ sym (list_length (length bytes) _)) same
   where
-    taken : length (take h bytes) ≡ h
-    taken = length-take-le h bytes room
-
-    same : (t : ℕ) → t < length (reverse (take h bytes)) → get_or (reverse (take h bytes)) t idle ≡ places_in (mirror_bytes h bytes) t
+    same : (t : ℕ) → t < length (reverse bytes) → get_or (reverse bytes) t idle ≡ places_in (mirror_bytes (length bytes) bytes) t
     same t l =
-        let below : t < h = omega (arith, length-reverse (take h bytes), taken) in
-        let at : length (take h bytes) - 1 - t ≡ h - suc t = omega (arith, taken) in
-        get_or-reverse (take h bytes) t idle (omega (arith, taken))
-        ∙ ap (λ (i : ℕ). get_or (take h bytes) i idle) at
-        ∙ get_or-take h bytes (h - suc t) idle (omega arith)
-        ∙ sym (mirror_at h bytes t below)
+        let below : t < length bytes = omega (arith, length-reverse bytes) in
+        let at : length bytes - 1 - t ≡ length bytes - suc t = omega arith in
+        get_or-reverse bytes t idle below
+        ∙ ap (λ (i : ℕ). get_or bytes i idle) at
+        ∙ sym (mirror_at (length bytes) bytes t below)

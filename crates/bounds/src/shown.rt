@@ -1,5 +1,5 @@
 // Plans that are shown for a place.
-ghost use Rattle.std.specs.Prelude.{◌≡◌, ◌++◌, ◌≤◌, length, drop};
+ghost use Rattle.std.specs.Prelude.{◌≡◌, ◌≤◌, length};
 ghost use Rattle.windows.specs.Windows.{windows_in, Searchable};
 ghost use Rattle.windows.specs.Mirrors.{mirror_bytes};
 ghost use Rattle.bounds.specs.declared.types.Shown.TheVariants.{Early};
@@ -27,12 +27,11 @@ fn store_early(windows: WindowSet, k: usize, whole: bool, plan: &mut [u8]) -> u1
     end
 }
 
-// Mirrors the plan of h minutes in its buffer: "minute t becomes H-1-t".
-fn mirror_plan(h: usize, plan: &mut [u8])
-    requires { h ≤ length plan.old }
-    ensures { plan.new ≡ mirror_bytes h plan.old ++ drop h plan.old }
+// Mirrors a plan: "minute t becomes H-1-t".
+fn mirror_plan(plan: &mut [u8])
+    ensures { plan.new ≡ mirror_bytes (length plan.old) plan.old }
 {
-    plan[..h].reverse();
+    plan.reverse();
 }
 
 // Stores the plan of entry k that is shown, and answers its bound. The late plan is the mirror of the early one in the mirror.
@@ -45,7 +44,7 @@ fn store_shown(shown: Shown, windows: WindowSet, k: usize, whole: bool, plan: &m
         Shown::Early => store_early(windows, k, whole, plan),
         Shown::Late => {
             let end = store_early(mirrored(windows), k, whole, plan);
-            mirror_plan(usize::from(windows.h), plan);
+            mirror_plan(&mut plan[..usize::from(windows.h)]);
             windows.h - end
         }
     }

@@ -2,7 +2,7 @@
 use list::types::ENTRIES;
 
 // Which of a place's two plans is shown.
-#[derive(Clone, Copy)]
+#[derive(Clone, Copy, Debug, PartialEq, Eq)]
 pub enum Shown {
     Early,
     Late,

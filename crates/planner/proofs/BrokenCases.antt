@@ -9,6 +9,7 @@ use native.Mathlib.Omega.{arith}
 use borrow.Author.Tests.{eq-eqb, eqb-true, not-true}
 use lib.Dec.{eqb}
 use lib.ListN.{length, get_or, take}
+use lib.Seq.{length-take-le}
 use Rattle.base.specs.Counting.{last_below, sum}
 use Rattle.windows.specs.Windows.{Windows}
 use Rattle.windows.specs.Plans.{places_in, start_of, end_of}
@@ -44,38 +45,40 @@ last_at (suc n) f t below at after =
     rw here (last_at n f t l at (λ i u v. after i u (omega arith))))
 
 -- A search for place k among the minutes xs of a plan, by the index that it answers, if any.
-module _ (h : ℕ) (xs : List ℕ) (long : length xs ≡ h) (k : ℕ) where
+module _ (xs : List ℕ) (k : ℕ) where
+  -- the minutes of the day
+  abbrev h : ℕ
+  h = length xs
+
   abbrev is_minute : ℕ → Bool
   is_minute t = eqb (places_in xs t) k
 
   minute : (t : ℕ) → t < h → get_or xs t 0 ≡ k → is_minute t ≡ true
-  minute t below e = eq-eqb _ _ (sym (place_read xs t (omega (arith, long))) ∙ e)
+  minute t below e = eq-eqb _ _ (sym (place_read xs t below) ∙ e)
 
   another : (t : ℕ) → t < h → (get_or xs t 0 ≡ k → ⊥) → is_minute t ≡ true → ⊥
-  another t below other e = other (place_read xs t (omega (arith, long)) ∙ eqb-true _ _ e)
+  another t below other e = other (place_read xs t below ∙ eqb-true _ _ e)
 
   -- the first
-  pub found_first : (r : Option ℕ) → MatchOption r ((t : ℕ) → t < length xs → get_or xs t 0 ≡ k → ⊥)
-      (λ t. (t < length xs) × (get_or xs t 0 ≡ k) × ((i : ℕ) → i < t → get_or xs i 0 ≡ k → ⊥))
+  pub found_first : (r : Option ℕ) → MatchOption r ((t : ℕ) → t < h → get_or xs t 0 ≡ k → ⊥)
+      (λ t. (t < h) × (get_or xs t 0 ≡ k) × ((i : ℕ) → i < t → get_or xs i 0 ≡ k → ⊥))
       → unwrap_or r h ≡ start_of h (places_in xs) k
   found_first None none =
       let passed : Passed h is_minute h =
-      record { within = omega arith; none_before = λ i l. another i l (none i (omega (arith, long))) } in
+      record { within = omega arith; none_before = λ i l. another i l (none i l) } in
       sym (passed_all h is_minute h passed (omega arith))
   found_first (Some t) (below, at, before) =
-      let inside : t < h = omega (arith, long) in
       let passed : Passed h is_minute t =
       record { within = omega arith; none_before = λ i l. another i (omega arith) (before i l) } in
-      sym (passed_found h is_minute t passed (minute t inside at))
+      sym (passed_found h is_minute t passed (minute t below at))
 
   -- the last
-  pub found_last : (r : Option ℕ) → MatchOption r ((t : ℕ) → t < length xs → get_or xs t 0 ≡ k → ⊥)
-      (λ t. (t < length xs) × (get_or xs t 0 ≡ k) × ((i : ℕ) → t < i → i < length xs → get_or xs i 0 ≡ k → ⊥))
+  pub found_last : (r : Option ℕ) → MatchOption r ((t : ℕ) → t < h → get_or xs t 0 ≡ k → ⊥)
+      (λ t. (t < h) × (get_or xs t 0 ≡ k) × ((i : ℕ) → t < i → i < h → get_or xs i 0 ≡ k → ⊥))
       → (end : ℕ) → MatchOption r (end ≡ 0) (λ t. end ≡ t + 1) → end ≡ end_of h (places_in xs) k
-  found_last None none end is = is ∙ sym (last_none h is_minute (λ t l. another t l (none t (omega (arith, long)))))
+  found_last None none end is = is ∙ sym (last_none h is_minute (λ t l. another t l (none t l)))
   found_last (Some t) (below, at, after) end is =
-      let inside : t < h = omega (arith, long) in
-      is ∙ sym (last_at h is_minute t inside (minute t inside at) (λ i u l. another i l (after i u (omega (arith, long)))))
+      is ∙ sym (last_at h is_minute t below (minute t below at) (λ i u l. another i l (after i u l)))
 
 -- one entry
 module _ {w : Windows} {bytes : List ℕ} (has : HoldsPlan w bytes) {k : ℕ} (place : k < w.n) where
@@ -85,8 +88,8 @@ module _ {w : Windows} {bytes : List ℕ} (has : HoldsPlan w bytes) {k : ℕ} (p
   pub minutes_in_day : w.p k ≤ w.h
   minutes_in_day = omega (arith, has.plan.exact k place, minutes_within w.h m k 0 w.h (λ t below _. (omega arith, below)))
 
-  pub start_in_day : start_of w.h m k ≤ w.h
-  start_in_day = (first_below_lem w.h _).within
+  pub start_in_day : start_of (length (take w.h bytes)) m k ≤ w.h
+  start_in_day = rw (length-take-le w.h bytes has.room) (first_below_lem w.h _).within
 
   pub not_whole : (whole : Bool) → not whole ≡ true → 0 ≡ one_broken (λ _. whole) w bytes k
   not_whole whole e = rw (not-true whole e) refl

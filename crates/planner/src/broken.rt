@@ -1,5 +1,5 @@
 // Broken entries of a plan.
-ghost use Rattle.std.specs.Prelude.{◌≡◌, ◌<◌, ◌≤◌, length, take};
+ghost use Rattle.std.specs.Prelude.{◌≡◌, ◌<◌, length, take};
 ghost use Rattle.list.specs.DayLists.{marked};
 ghost use Rattle.windows.specs.Windows.{windows_in};
 ghost use Rattle.windows.specs.Plans.{places_in, start_of, end_of};
@@ -10,20 +10,18 @@ use list::places_held;
 use list::types::ENTRIES;
 use windows::types::WindowSet;
 
-// The first of h minutes that place k has, h for none.
-fn start_in(plan: &[u8], h: usize, k: u8) -> usize
-    requires { h ≤ length plan.now }
-    ensures { result ≡ start_of h (places_in (take h plan.now)) k }
+// The first minute of a plan that place k has, the plan's length for none.
+fn start_in(plan: &[u8], k: u8) -> usize
+    ensures { result ≡ start_of (length plan.now) (places_in plan.now) k }
 {
-    plan[..h].iter().position(|x| *x == k).unwrap_or(h)
+    plan.iter().position(|x| *x == k).unwrap_or(plan.len())
 }
 
-// The minute after the last of h minutes that place k has, 0 for none.
-fn end_in(plan: &[u8], h: usize, k: u8) -> usize
-    requires { h ≤ length plan.now }
-    ensures { result ≡ end_of h (places_in (take h plan.now)) k }
+// The minute after the last of a plan that place k has, 0 for none.
+fn end_in(plan: &[u8], k: u8) -> usize
+    ensures { result ≡ end_of (length plan.now) (places_in plan.now) k }
 {
-    plan[..h].iter().rposition(|x| *x == k).map_or(0, |t| t + 1)
+    plan.iter().rposition(|x| *x == k).map_or(0, |t| t + 1)
 }
 
 // 1 for a broken entry, that is a whole one that has fewer minutes than lie from its start to its end; 0 for another.
@@ -35,10 +33,10 @@ fn one_broken(whole: bool, windows: WindowSet, plan: &[u8], k: usize) -> u8
     if !whole {
         return 0;
     }
-    let h = usize::from(windows.h);
+    let minutes = &plan[..usize::from(windows.h)];
     let place = k as u8;
     let p = usize::from(windows.p[k]);
-    u8::from(start_in(plan, h, place) + p != end_in(plan, h, place))
+    u8::from(start_in(minutes, place) + p != end_in(minutes, place))
 }
 
 // How many entries the plan in the windows breaks, of which `whole` marks the whole ones.

@@ -11,24 +11,19 @@ use Rattle.windows.specs.Windows.{windows_in}
 use Rattle.backtracking.proofs.SearchCases.{enters_whole, enters_all}
 use Rattle.backtracking.proofs.search.entered.Goals as goal
 
-pub returns-then-place-count : goal.returns-then-place-count
-returns-then-place-count c =
-    let count_says = c.places_held-count.ensures in
-    let place = c.next_whole-place.result in
+pub returns-in-Some : goal.returns-in-Some
+returns-in-Some c =
+    let place = c.in-Some.place in
     let windows = c.args.windows in
-    let next_one = rw count_says at c.next_whole-place.ensures in
+    let next = rw c.places_held-count.ensures at c.in-Some.ensures in
     let fits_r : (j : ℕ) → Fits w16 (get_or windows.r j 0) = λ j. search rules in
-    let enters = enters_whole (marked c.args.whole) (windows_in windows) c.args.fixed c.args.k c.args.trials place
-    c.requires.fixed_below next_one
-    (omega (arith, c.if-place-count.true, count_says))
-    (omega (arith, fits_r place)) in
-    rw c.from-start.ensures enters
+    let enters = enters_whole (marked c.args.whole) (windows_in windows) c.args.fixed c.args.k c.args.trials
+    c.requires.fixed_below place next.1 next.0 (omega (arith, fits_r place)) in
+    rw c.from.ensures enters
 
-pub returns-else-place-count : goal.returns-else-place-count
-returns-else-place-count c =
+pub returns-in-None : goal.returns-in-None
+returns-in-None c =
     let count_says = c.places_held-count.ensures in
-    let place = c.next_whole-place.result in
-    let next_one = rw count_says at c.next_whole-place.ensures in
-    enters_all (marked c.args.whole) (windows_in c.args.windows) c.args.fixed c.args.k c.args.trials place
-    c.requires.fixed_below next_one
-    (omega (arith, c.if-place-count.false, count_says))
+    rw count_says
+    (enters_all (marked c.args.whole) (windows_in c.args.windows) c.args.fixed c.args.k c.args.trials
+    c.requires.fixed_below (rw count_says at c.in-None.ensures))

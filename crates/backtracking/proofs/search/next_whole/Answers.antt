@@ -15,4 +15,4 @@ returns c =
     let whole = marked c.args.whole in
     let found = first_from_Range _ _ _ c.find.result (λ (j : ℕ). whole j ≡ true) (λ (j : ℕ). whole j ≡ false) c.find.ensures.ran
     (λ x q call. search (rules, tests)) (λ x q call. search (rules, tests)) in
-    rw c.unwrap_or.ensures (next_found whole c.args.count c.args.k c.requires.k_le_count c.find.result found)
+    next_found whole c.args.count c.args.k c.requires.k_le_count c.find.result found

@@ -1,18 +1,11 @@
 -- The search begins on its way, stays there where it goes back, and each of its three ends is what the defined search ends with.
 -- Assumes nothing.
-use mathlib.Core.Path.{◌≡◌, sym, ◌∙◌}
-use Prim.Native.Nat.{ℕ, suc, ◌-◌}
+use mathlib.Core.Path.{sym, ◌∙◌}
 use native.Mathlib.Omega.{arith}
-use mathlib.Core.Bool.{Bool}
 use Rattle.list.specs.DayLists.{marked}
-use Rattle.backtracking.specs.Internal.{LastWhole}
 use Rattle.backtracking.proofs.SearchCases.{way_begins, way_found, way_left, way_spent, way_none, way_again}
 use Rattle.backtracking.proofs.UnbrokenLaws.{searches_so}
 use Rattle.backtracking.proofs.search.search_windows.Goals as goal
-
--- the last whole place, where there is one
-one_below : {whole : ℕ → Bool} {k j : ℕ} → (j ≡ 0 → ⊥) → LastWhole whole k j → LastWhole whole k (suc (j - 1))
-one_below {whole} {k} {j} some last = let z : j ≡ suc (j - 1) = omega arith in rw (← z) last
 
 pub loop-at-init : goal.loop-at-init
 loop-at-init c =
@@ -24,9 +17,8 @@ loop-at-preserved c =
     let place = rw c.places_held-count.ensures at c.if-count-at.false in
     let none_left =
     sym c.start_left.ensures ∙ c.if-start_left.false in
-    let last = one_below c.if-last-eq0.false c.last_whole-last.ensures in
     way_again (marked c.args.whole) windows c.args.limit c.loop-at.at c.loop-at.invariant
-    place none_left _ last
+    place none_left c.in-Some.last c.in-Some.ensures
     c.gone_back-at.result c.gone_back-at.ensures
 
 pub returns-then-count-at : goal.returns-then-count-at
@@ -48,12 +40,12 @@ returns-then-limit-at c =
     (way_spent (marked whole) windows limit c.loop-at.at holds
     place left c.if-limit-at.true)
 
-pub returns-then-last-eq0 : goal.returns-then-last-eq0
-returns-then-last-eq0 c =
+pub returns-in_default : goal.returns-in_default
+returns-in_default c =
     let windows = c.args.windows in
     let place = rw c.places_held-count.ensures at c.if-count-at.false in
     let none_left =
     sym c.start_left.ensures ∙ c.if-start_left.false in
     searches_so (marked c.args.whole) windows c.args.limit _
     (way_none (marked c.args.whole) windows c.args.limit c.loop-at.at c.loop-at.invariant
-    place none_left (rw c.if-last-eq0.true at c.last_whole-last.ensures))
+    place none_left c.in_default.ensures)

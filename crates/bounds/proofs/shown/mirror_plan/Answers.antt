@@ -1,7 +1,8 @@
--- The first h bytes the other way round are their mirror.
+-- Bytes the other way round are their mirror.
 -- Assumes nothing.
+use mathlib.Core.Path.{◌∙◌}
 use Rattle.bounds.proofs.ShownCases.{mirror_reversed}
 use Rattle.bounds.proofs.shown.mirror_plan.Goals as goal
 
 pub returns : goal.returns
-returns c = rw (c.reverse.ensures.after, mirror_reversed c.args.h c.args.plan.now c.requires)
+returns c = c.reverse.ensures.after ∙ mirror_reversed c.args.plan.now

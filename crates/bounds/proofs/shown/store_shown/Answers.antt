@@ -25,6 +25,6 @@ returns-in-Early c = rw c.in-Early.is c.store_early.ensures
 
 pub returns-in-Late : goal.returns-in-Late
 returns-in-Late c =
-    rw c.in-Late.is
+    rw (c.in-Late.is, c.from.ensures)
     (stored_late c.requires.searchable.formed c.requires.searchable.place c.mirrored.ensures.windows c.store_early-end.ensures _
     (rw c.from.ensures at c.mirror_plan.ensures))

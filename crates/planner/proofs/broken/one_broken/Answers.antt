@@ -17,5 +17,5 @@ overflow_add-start_in c =
       start_in_day c.requires.holds_plan c.requires.k_bound,
       minutes_in_day c.requires.holds_plan c.requires.k_bound,
       c.from-p.ensures,
-      rw c.from-h.ensures at c.start_in.ensures,
+      rw c.from.ensures at c.start_in.ensures,
     )
