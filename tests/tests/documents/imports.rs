@@ -70,14 +70,15 @@ fn definition(file: &str, import: &str) -> Option<String> {
     Some(found)
 }
 
-/// The code that a file names: by lines "use crate::types::Found;", "use list::types::{Refusal, Verdict};", "use
+/// The code that a file names: by lines "use crate::types::Day;", "use list::types::{DayList, Refusal};", "use
 /// windows::mirrored;" and, in lib.rt, "pub use mirror::mirrored;", and where it is called, "list::check(list)".
 #[track_caller]
 fn code(file: &str) -> Vec<String> {
     let own = file.split('/').nth(1).expect("a crate");
     let text = page(file);
     let lines = text.lines().map(str::trim_start);
-    let lines = lines.filter(|line| !line.starts_with("//") && !line.starts_with("ghost "));
+    let passed_over = ["//", "ghost ", "#["];
+    let lines = lines.filter(|line| !passed_over.iter().any(|start| line.starts_with(start)));
     let named = lines.flat_map(|line| match line.strip_prefix("pub use ") {
         Some(import) => items(import).into_iter().map(|path| format!("crate::{path}")).collect(),
         None => line.strip_prefix("use ").map_or_else(|| paths(line), items),
@@ -85,18 +86,18 @@ fn code(file: &str) -> Vec<String> {
     named.map(|path| source(file, own, &path)).collect()
 }
 
-/// The items of an import: "list::types::Refusal" and "list::types::Verdict" in "list::types::{Refusal, Verdict};".
+/// The items of an import: "list::types::DayList" and "list::types::Refusal" in "list::types::{DayList, Refusal};".
 fn items(import: &str) -> Vec<String> {
     let import = import.trim_end_matches(';');
     let Some((path, names)) = import.split_once("::{") else { return vec![import.to_string()] };
     names.trim_end_matches('}').split(", ").map(|name| format!("{path}::{name}")).collect()
 }
 
-/// Types that the language has, whose functions no crate here declares.
-const BUILT_IN: [&str; 5] = ["u8::", "u16::", "u32::", "u64::", "usize::"];
+/// What the language has, whose functions no crate here declares.
+const BUILT_IN: [&str; 6] = ["u8::", "u16::", "u32::", "u64::", "usize::", "std::"];
 
-/// The paths in a line, "list::check" in "let verdict = list::check(list);". Crates and modules begin with a small
-/// letter, types do not, but for the language's own: "Verdict::Accepted" is none, nor is "usize::from".
+/// The paths in a line, "list::check" in "list::check(list)?;". Crates and modules begin with a small
+/// letter, types do not, but for the language's own: "Kind::Whole" is none, nor is "usize::from".
 fn paths(line: &str) -> Vec<String> {
     let words = line.split(|letter: char| !(letter.is_alphanumeric() || letter == '_' || letter == ':'));
     words
@@ -106,7 +107,7 @@ fn paths(line: &str) -> Vec<String> {
         .collect()
 }
 
-/// The file that declares "crate::types::Found", "list::types::Verdict" or "windows::mirrored".
+/// The file that declares "crate::types::Day", "list::types::Refusal" or "windows::mirrored".
 #[track_caller]
 fn source(file: &str, own: &str, import: &str) -> String {
     let parts: Vec<&str> = import.split("::").collect();
@@ -200,6 +201,6 @@ fn plans_are_defined_proved_and_coded_with_the_tie_rule() {
     }
     let met = met("crates/bounds/src/shown.rt", code);
     assert!(met.contains_key("crates/jackson/src/fill.rt"), "{met:?}");
-    assert!(page("crates/jackson/src/fill.rt").contains("use crate::types::{Day, "));
+    assert!(page("crates/jackson/src/fill.rt").contains("use crate::types::Day;"));
     assert!(code("crates/narrow/src/rounds.rt").contains(&"crates/windows/src/interval.rt".to_string()));
 }
