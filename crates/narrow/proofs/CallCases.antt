@@ -22,7 +22,7 @@ use Rattle.base.proofs.Sums.{sum_most}
 use Rattle.windows.proofs.Room.{formed_passes, passes_formed}
 use Rattle.windows.proofs.FormedLists.{list_formed}
 use Rattle.narrow.specs.Rounds.{Narrowed, unmoved, round, all_rounds, narrowing}
-use Rattle.narrow.specs.Calls.{list_with, listed, narrow_windows, narrowed_by, narrowed_of, narrow_answer_of, settle_of, round_of}
+use Rattle.narrow.specs.Calls.{listed, narrow_windows, narrowed_by, narrowed_of, narrow_answer_of, settle_of, round_of}
 use Rattle.narrow.specs.Calls.{AnswersAs, NarrowsWindows, Settles, MakesRound}
 use Rattle.narrow.specs.Internal.{Countable}
 use Rattle.narrow.specs.declared.types.NarrowedWindows.{NarrowedWindows}
@@ -157,20 +157,10 @@ module _ (l : DayList) where
         let given : _ ≡ _ = λ i. round overload_of (kinds i) (unmoved (holds.windows i)) in
         given ∙ rw (← passes) refl
 
-    module _ (a : Result NarrowedList Refusal) (x : Refusal) (e : a ≡ Err x) where
-      pub settle_stopped : NarrowsWindows (marked marks) s (Err x) → Settles l a
-      settle_stopped is = settles l a (turned a x e (sym (is.outcome ∙ settled)))
+    -- the windows found, or their refusal
+    module _ (found : Result NarrowedWindows Refusal) (a : Result NarrowedList Refusal) (is : AnswersAs l (narrowed_of found) a) where
+      pub settle_narrowed : NarrowsWindows (marked marks) s found → Settles l a
+      settle_narrowed narrows = settles l a (is ∙ ap (listed l) (narrows.outcome ∙ settled))
 
-      pub round_stopped : refused (code_of x) ≡ round overload_of (marked marks) (unmoved (windows_in s)) → MakesRound l a
-      round_stopped is = makes_round l a (turned a x e (sym (is ∙ rounded)))
-
-    module _ (found : NarrowedWindows) (b : NarrowedList)
-        (is : b ≡ record { list = list_with l (windows_in found.windows); moves = found.moves }) where
-      found_answer : {o : Outcome Narrowed} → answered (narrowed_by found) ≡ o → AnswersAs l o (Ok b)
-      found_answer e = rw is (ap (listed l) e)
-
-      pub settle_found : NarrowsWindows (marked marks) s (Ok found) → Settles l (Ok b)
-      settle_found narrows = settles l (Ok b) (found_answer (narrows.outcome ∙ settled))
-
-      pub round_found : answered (narrowed_by found) ≡ round overload_of (marked marks) (unmoved (windows_in s)) → MakesRound l (Ok b)
-      round_found e = makes_round l (Ok b) (found_answer (e ∙ rounded))
+      pub round_made : narrowed_of found ≡ round overload_of (marked marks) (unmoved (windows_in s)) → MakesRound l a
+      round_made e = makes_round l a (is ∙ ap (listed l) (e ∙ rounded))

@@ -1,7 +1,7 @@
 // Narrowing a list.
 ghost use Rattle.std.specs.Prelude.{◌≡◌};
 ghost use Rattle.windows.specs.Windows.{windows_in};
-ghost use Rattle.narrow.specs.Calls.{entry_with, list_with, Settles, MakesRound};
+ghost use Rattle.narrow.specs.Calls.{entry_with, list_with, narrowed_of, AnswersAs, Settles, MakesRound};
 
 use crate::rounds::{narrow_windows, single_round};
 use crate::types::{NarrowedList, NarrowedWindows};
@@ -35,7 +35,7 @@ fn list_with(list: DayList, windows: WindowSet) -> DayList
 }
 
 // The list with the windows found, and their moves.
-pub fn answer_with(list: DayList, found: NarrowedWindows) -> NarrowedList
+pub fn list_found(list: DayList, found: NarrowedWindows) -> NarrowedList
     ensures { result ≡ record { list = list_with list (windows_in found.windows); moves = found.moves } }
 {
     NarrowedList {
@@ -44,13 +44,23 @@ pub fn answer_with(list: DayList, found: NarrowedWindows) -> NarrowedList
     }
 }
 
+// The same where the windows may be refused: the refusal is handed on.
+pub fn answer_with(
+    list: DayList,
+    found: Result<NarrowedWindows, Refusal>,
+) -> Result<NarrowedList, Refusal>
+    ensures { AnswersAs list (narrowed_of found) result }
+{
+    Ok(list_found(list, found?))
+}
+
 // Narrows a list until its windows are settled: the value check, row 9 for the windows as given, then rounds and row 10.
 pub fn settle(list: DayList) -> Result<NarrowedList, Refusal>
     ensures { Settles list result }
 {
     list::check(list)?;
-    let found = narrow_windows(whole_places(list), unchecked_windows(list))?;
-    Ok(answer_with(list, found))
+    let found = narrow_windows(whole_places(list), unchecked_windows(list));
+    answer_with(list, found)
 }
 
 // Makes one round of a list from its windows as given, for a caller that has tested them: the value check, then the round and row 10. Row 9
@@ -59,6 +69,6 @@ pub fn make_round(list: DayList) -> Result<NarrowedList, Refusal>
     ensures { MakesRound list result }
 {
     list::check(list)?;
-    let found = single_round(whole_places(list), unchecked_windows(list))?;
-    Ok(answer_with(list, found))
+    let found = single_round(whole_places(list), unchecked_windows(list));
+    answer_with(list, found)
 }

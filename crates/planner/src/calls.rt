@@ -11,7 +11,7 @@ use bounds::{bounds_of, store_plan};
 use jackson::unchecked_schedule;
 use list::types::{DayList, Refusal};
 use list::whole_places;
-use narrow::{answer_with, narrow_windows};
+use narrow::{list_found, narrow_windows};
 use windows::unchecked_windows;
 
 // Row 11 for a plan buffer of this length.
@@ -55,7 +55,7 @@ pub fn plan_day(list: DayList, plan: &mut [u8]) -> Result<PlannedDay, Refusal>
     let broken = broken_in(whole, found.windows, plan);
     let Bounds { ends, starts } = bounds_of(whole, found.windows);
     Ok(PlannedDay {
-        narrowed: answer_with(list, found),
+        narrowed: list_found(list, found),
         broken,
         ends,
         starts,
@@ -71,7 +71,7 @@ fn show_plan(shown: Shown, list: DayList, k: usize, plan: &mut [u8]) -> Result<S
     let found = narrow_windows(whole, unchecked_windows(list))?;
     let bound = store_plan(shown, whole[k], found.windows, k, plan)?;
     Ok(ShownPlan {
-        narrowed: answer_with(list, found),
+        narrowed: list_found(list, found),
         bound,
     })
 }

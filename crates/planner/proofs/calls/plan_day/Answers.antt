@@ -41,5 +41,5 @@ returns c =
     let planning = found_planning _ c.args.list c.args.plan.now (λ e. e) c.in_ok-plan_checks.ensures c.whole_places-whole.result
     c.whole_places-whole.ensures c.unchecked_windows.result c.unchecked_windows.ensures c.in_ok-found.found c.in_ok-found.ensures in
     let after = narrows_after _ c.args.list (plan_formed c.args.list (length c.args.plan.now)) c.in_ok-found.found (sym planning.outcome) _
-    c.answer_with.ensures in
+    c.list_found.ensures in
     plan_done planning c.unchecked_schedule-filled.ensures c.broken_in-broken.ensures c.bounds_of.ensures after

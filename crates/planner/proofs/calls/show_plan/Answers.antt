@@ -46,5 +46,5 @@ returns c =
     c.whole_places-whole.result c.whole_places-whole.ensures c.unchecked_windows.result c.unchecked_windows.ensures c.in_ok-found.found
     c.in_ok-found.ensures in
     let after = narrows_after _ c.args.list (shown_formed c.args.list c.args.k (length c.args.plan.now)) c.in_ok-found.found
-    (sym planning.outcome) _ c.answer_with.ensures in
+    (sym planning.outcome) _ c.list_found.ensures in
     shown_done planning long c.in_ok-bound.ensures _ refl after
