@@ -31,6 +31,7 @@ pub fn is_found(ending: Ending) -> bool
 }
 
 // How the search ended, as a number.
+// The numbers are those of the C interface.
 pub fn ending_number(ending: Ending) -> u64
     ensures { result ≡ ending_number ending }
 {
@@ -136,6 +137,7 @@ fn tried(whole: [bool; ENTRIES], windows: WindowSet, at: Position) -> Position
     let s = at.start;
     let e = s + u32::from(windows.p[k]);
     let trials = at.trials + 1;
+    // Both are at most d, so that they fit.
     let fixed = with_window(at.windows, k, s as u16, e as u16);
     if has_plan(fixed) {
         return entered(whole, windows, fixed, k + 1, trials);
@@ -153,6 +155,7 @@ pub fn search_windows(whole: [bool; ENTRIES], windows: WindowSet, limit: u32) ->
 {
     let count = places_held(windows.n);
     let mut at = entered(whole, windows, windows, 0, 0);
+    // No count: the search goes on and back, and ends in one of three ways.
     loop {
         if count <= at.place {
             break SearchAnswer {

@@ -23,6 +23,7 @@ fn end_by_kind(whole: bool, planned: bool, r: u16, d: u16, p: u16, closed: u32) 
     if whole {
         r + p
     } else if planned {
+        // Fits, by the second clause.
         closed as u16
     } else {
         d
@@ -122,6 +123,7 @@ pub fn bounds_of(whole: [bool; ENTRIES], windows: WindowSet) -> Bounds
                 starts: greatest_starts(whole, windows, planned),
             }
         }
+        // Zeros, not an Err: this call cannot fail.
         Err(_) => Bounds {
             ends: zeros(),
             starts: zeros(),

@@ -9,6 +9,7 @@ pub enum Shown {
 }
 
 // Of each place its least end and greatest start. Places from n on, and all of windows without room, are 0.
+// Two arrays: each is made alone, and the mirror makes one of the other.
 #[derive(Clone, Copy)]
 pub struct Bounds {
     pub ends: [u16; ENTRIES],

@@ -102,12 +102,14 @@ pub fn least_start(windows: WindowSet, k: usize) -> Option<u16>
     others.p[k] = 0;
     let others = ByRelease::of(others);
     let mut s = u32::from(first);
+    // Document 01's form: the least start, or none, by break.
     loop {
         if is_used_up(last, s, p) {
             break None;
         }
         let next = pass(&others, p, s == u32::from(first), last, s);
         if next == s {
+            // At most d, so that it fits.
             break Some(s as u16);
         }
         s = next;

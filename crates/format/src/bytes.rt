@@ -18,7 +18,8 @@ pub(crate) fn u32_at(s: &[u8], i: usize) -> u32
     u32::from_le_bytes([s[i], s[i + 1], s[i + 2], s[i + 3]])
 }
 
-// Each `put` writes at place `at` and answers the place after what it wrote.
+// Each `put` writes at place `at` and answers the place after what it wrote. The buffer is the caller's, and each promise
+// speaks of all of it; so the place stands beside it.
 pub(crate) fn put_u16(out: &mut [u8], at: usize, x: u16) -> usize
     requires { at + 2 ≤ length out.old }
     ensures { Wrote out.old at (u16_bytes x) out.new result }

@@ -11,6 +11,7 @@ use list::types::ENTRIES;
 use windows::types::WindowSet;
 
 // The first minute of a plan that place k has, the plan's length for none.
+// Not an Option, nor the next: the definitions give these numbers, and of no minutes the sum below never fits.
 fn start_in(plan: &[u8], k: u8) -> usize
     ensures { result ≡ start_of (length plan.now) (places_in plan.now) k }
 {
@@ -34,6 +35,7 @@ fn one_broken(whole: bool, windows: WindowSet, plan: &[u8], k: usize) -> u8
         return 0;
     }
     let minutes = &plan[..usize::from(windows.h)];
+    // Below 64, so that it fits.
     let place = k as u8;
     let p = usize::from(windows.p[k]);
     u8::from(start_in(minutes, place) + p != end_in(minutes, place))

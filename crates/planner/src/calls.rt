@@ -77,6 +77,7 @@ fn show_plan(shown: Shown, list: DayList, k: usize, plan: &mut [u8]) -> Result<S
 }
 
 // Shows the early plan of place k: Jackson's schedule with k's d set to its least end.
+// Document 01 has two calls, this and the next; what they share is `show_plan`.
 pub fn show_early(list: DayList, k: usize, plan: &mut [u8]) -> Result<ShownPlan, Refusal>
     ensures { ShowsEarly list k plan.old result plan.new }
 {

@@ -37,6 +37,7 @@ impl<const N: usize> Text<N> {
         requires { WellFormed list }
         ensures { PutsOr N (planned_text list) self.old result self.new }
     {
+        // A constant, so no From.
         let mut plan = [0u8; LONGEST_DAY as usize];
         let day = plan_day(list, &mut plan)?;
         self.put_day_text(day, &plan[..usize::from(list.frame.h)]);

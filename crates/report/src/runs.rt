@@ -12,6 +12,7 @@ fn begins_run(plan: &[u8], t: usize) -> bool
     ensures { result ≡ begins_run (places_in plan.now) t }
 {
     let place = plan[t];
+    // 255 is the plan's byte for an idle minute.
     let before = if t == 0 { 255 } else { plan[t - 1] };
     place != 255 && before != place
 }

@@ -56,6 +56,7 @@ impl<const N: usize> Text<N> {
         }
     }
 
+    // Not Display: what is put is promised byte by byte, and a writer of Display may always fail.
     // A number in base ten.
     pub(crate) fn put_decimal(&mut self, x: u64)
         ensures { Puts N self.old (decimal x) self.new }
@@ -63,6 +64,7 @@ impl<const N: usize> Text<N> {
         if x >= 10 {
             self.put_decimal(x / 10);
         }
+        // A digit, so that it fits.
         self.put_byte(b'0' + (x % 10) as u8);
     }
 

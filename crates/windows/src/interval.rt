@@ -43,6 +43,7 @@ impl ByRelease {
     {
         let count = places_held(self.windows.n);
         let mut sum = start_anew(from);
+        // No count: each walk passes all places of one r.
         while sum.passed < count {
             sum = self.walk_down(b, sum);
             if is_overloaded(sum.a, b, sum.kept) {

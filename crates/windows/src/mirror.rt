@@ -9,6 +9,7 @@ use list::places_held;
 use list::types::ENTRIES;
 
 // One side of the mirrored windows: of the first count entries h minus the other side, of the rest the side as it is.
+// One function for both sides, so each side comes with the other.
 fn mirrored_side(
     h: u16,
     count: usize,
