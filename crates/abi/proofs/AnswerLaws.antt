@@ -4,6 +4,7 @@ use mathlib.Core.Path.{◌≡◌, refl, ap, ◌∙◌}
 use mathlib.Core.List.{List, ◌++◌}
 use Prim.Native.Nat.{ℕ, ◌+◌}
 use lib.ListN.{get_or, take}
+use Rattle.base.specs.Outcomes.{answered}
 use Rattle.list.specs.DayLists.{whole_in}
 use Rattle.bounds.specs.Ends.{least_ends, greatest_starts}
 use Rattle.list.proofs.ByPlace.{by_place_first, by_place_second}
@@ -46,10 +47,10 @@ answer_laws =
           (c.narrowed.answer ∙ rw (e, q) refl, ap (take u.h) c.plan ∙ (found_buffer p x).plan u t q);
       whole_start = λ l o x p f s a plan fields starts c u t q i h n is.
           let are : starts ≡ whole_starts (whole_in l) u = c.starts ∙ rw q refl in
-          ap (λ (z : List ℕ). get_or z i 0) are ∙ (starts_law (whole_in l) (found u t)).whole_start u t refl i h n is;
+          ap (λ (z : List ℕ). get_or z i 0) are ∙ (starts_law (whole_in l) (answered (found u t))).whole_start u t refl i h n is;
       pause_start = λ l o x p f s a plan fields starts c u t q i h is.
           let are : starts ≡ whole_starts (whole_in l) u = c.starts ∙ rw q refl in
-          ap (λ (z : List ℕ). get_or z i 0) are ∙ (starts_law (whole_in l) (found u t)).pause_start u t refl i h is;
+          ap (λ (z : List ℕ). get_or z i 0) are ∙ (starts_law (whole_in l) (answered (found u t))).pause_start u t refl i h is;
       none_exists =
           λ l o x p f s a plan fields starts c v e t q.
           (c.narrowed.answer ∙ rw (e, q) refl, c.plan ∙ rw q refl, c.starts ∙ rw q refl);

@@ -6,9 +6,9 @@ use Rattle.list.specs.declared.types.DayList.{DayList}
 use Rattle.narrow.specs.Rounds.{Narrowed}
 use Rattle.narrow.specs.Calls.{listed}
 use Rattle.planner.specs.Calls.{plan_of}
-use Rattle.backtracking.specs.Searches.{Search, found, none, spent, trials_of}
-use Rattle.backtracking.specs.Calls.{ending_of, ending_number}
-use Rattle.unbroken.specs.Calls.{unbroken_of, whole_starts, unbroken_after}
+use Rattle.backtracking.specs.Searches.{Search, found, none, spent}
+use Rattle.backtracking.specs.Calls.{ending_number}
+use Rattle.unbroken.specs.Calls.{unbroken_of, ending_after, trials_after, whole_starts, unbroken_after}
 use Rattle.flat.specs.Flat.{value_of, flat_beside}
 use Rattle.abi.specs.Calls.{NarrowCall}
 use Rattle.abi.specs.declared.Answer.{Answer}
@@ -20,20 +20,11 @@ starts_given whole old (answered (none t)) = old
 starts_given whole old (answered (spent t)) = old
 starts_given whole old (refused k) = old
 
--- how the search ended, as a number, and its trials; a refusal tells neither
-abbrev pub ending_told : Outcome Search → ℕ
-ending_told (answered x) = ending_number (ending_of x)
-ending_told (refused k) = 0
-
-abbrev pub trials_told : Outcome Search → ℕ
-trials_told (answered x) = trials_of x
-trials_told (refused k) = 0
-
 -- an answer where narrowing the list l has the outcome o and the search in its settled windows ended with x: the moves, the ending and the
 -- trials; and what is left in a plan buffer, a row and starts that held the old ones
 pub record SearchedCall (l : DayList) (o : Outcome Narrowed) (x : Outcome Search) (old_plan old_fields old_starts : List ℕ)
     (a : Answer) (new_plan new_fields new_starts : List ℕ) : Type 0 where
-  pub narrowed : NarrowCall (listed l o) (ending_told x) (trials_told x) old_fields a new_fields
+  pub narrowed : NarrowCall (listed l o) (ending_number (ending_after x)) (trials_after x) old_fields a new_fields
   pub plan : new_plan ≡ unbroken_after old_plan x
   pub starts : new_starts ≡ starts_given (whole_in l) old_starts x
 

@@ -7,7 +7,7 @@ use Rattle.windows.specs.declared.types.WindowSet.{WindowSet}
 use Rattle.backtracking.specs.Searches.{Search, found, none, spent, trials_of, search_within}
 use Rattle.backtracking.specs.Laws.{LimitLaw, UnbrokenLaw}
 use Rattle.backtracking.specs.declared.types.Ending.{Ending}
-use Rattle.backtracking.specs.declared.types.Ending.TheVariants.{DayFound, NoneExists, TrialsSpent}
+use Rattle.backtracking.specs.declared.types.Ending.TheVariants.{Unsearched, DayFound, NoneExists, TrialsSpent}
 use Rattle.backtracking.specs.declared.types.SearchAnswer.{SearchAnswer}
 
 -- how it is said that a search ended
@@ -18,12 +18,14 @@ ending_of (spent t) = TrialsSpent
 
 -- whether a day was found
 abbrev pub is_found : Ending → Bool
+is_found Unsearched = false
 is_found DayFound = true
 is_found NoneExists = false
 is_found TrialsSpent = false
 
--- how it ended as a number, for other languages
+-- how it ended as a number, for other languages; 0 is never told there, since a refusal tells its own values
 abbrev pub ending_number : Ending → ℕ
+ending_number Unsearched = 0
 ending_number DayFound = 1
 ending_number NoneExists = 2
 ending_number TrialsSpent = 3

@@ -36,6 +36,7 @@ pub fn ending_number(ending: Ending) -> u64
     ensures { result ≡ ending_number ending }
 {
     match ending {
+        Ending::Unsearched => 0,
         Ending::DayFound => 1,
         Ending::NoneExists => 2,
         Ending::TrialsSpent => 3,

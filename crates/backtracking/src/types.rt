@@ -1,9 +1,11 @@
 // What a search for an unbroken day answers.
 use windows::types::WindowSet;
 
-// How it ended: a day was found, in windows that have a plan; none exists; or all trials were made and another is needed.
+// How it ended: nothing was searched; a day was found, in windows that have a plan; none exists; or all trials were made and another is
+// needed.
 #[derive(Clone, Copy, Debug, PartialEq, Eq)]
 pub enum Ending {
+    Unsearched,
     DayFound,
     NoneExists,
     TrialsSpent,

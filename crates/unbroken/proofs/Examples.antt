@@ -32,4 +32,5 @@ unbroken_examples =
       short = refl;
       nine = refl;
       ten = refl;
+      ten_unsearched = refl;
     }

@@ -51,9 +51,13 @@ module _ (l : DayList) (limit : ℕ) (old : List ℕ) (a : Result UnbrokenSearch
         answers = after.answers;
         holds = after.holds;
         search = λ u q. absurd (not_both q e);
+        ending = rw (e, is) refl;
+        trials = rw (e, is) refl;
+        starts = rw (e, is) refl;
         buffer = rw is refl;
         tells = λ u q. absurd (not_both q e);
         unsearched = λ j q. (rw is (ap refused (refused_same (ap outcome_of e) (ap outcome_of q))), refl);
+        not_searched = λ j q. rw q (refl, refl, refl);
         law = λ passed. rw after.holds.narrowed (plan_law l (length old) passed);
         refused_none =
             λ passed j q.
@@ -204,10 +208,14 @@ module _ (l : DayList) (limit : ℕ) (old : List ℕ) (n : NarrowedList) (after 
         answers = after.answers;
         holds = after.holds;
         search = λ u e. subst (HoldsSearch whole (unbroken_of l limit (length old))) (the_ok e) held;
+        ending = rw outcome says.ending;
+        trials = rw outcome says.trials;
+        starts = rw outcome starts_are;
         buffer = rw outcome stored;
         tells =
             λ u e. subst (λ (b : UnbrokenSearch). TellsUnbroken whole (windows_of l) limit b (take l.frame.h new)) (the_ok e) tells;
         unsearched = λ k e. absurd (not_both refl e);
+        not_searched = λ k e. absurd (not_both refl e);
         law = λ passed. rw after.holds.narrowed (plan_law l (length old) passed);
         refused_none = λ _ k e. absurd (not_both refl e);
         larger = λ not. larger (not a refl);

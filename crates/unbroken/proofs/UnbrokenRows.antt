@@ -7,14 +7,14 @@ use Prim.Native.Nat.{ℕ, ◌<◌}
 use borrow.Author.Tests.{lt-ltb, le-ltb}
 use lib.Dec.{ltb}
 use lib.ListN.{length, get_or, length-replicate, get_or-replicate}
-use Rattle.base.specs.Outcomes.{Outcome, answered}
+use Rattle.base.specs.Outcomes.{Outcome, answered, refused}
 use Rattle.base.proofs.Listed.{list_length}
 use Rattle.list.proofs.ByPlace.{by_place_at}
 use Rattle.windows.specs.Windows.{Windows}
 use Rattle.list.specs.declared.types.DayList.{DayList}
 use Rattle.planner.proofs.CallLaws.{call_rows_law, plan_buffer}
 use Rattle.backtracking.specs.Searches.{Search, found, none, spent}
-use Rattle.unbroken.specs.Calls.{unbroken_of, UnbrokenRowsLaw, whole_starts, starts_found, StartsLaw, FoundBufferLaw}
+use Rattle.unbroken.specs.Calls.{unbroken_of, UnbrokenRowsLaw, whole_starts, starts_after, StartsLaw, FoundBufferLaw}
 
 pub unbroken_rows_law : (l : DayList) (limit room : ℕ) → UnbrokenRowsLaw l limit room
 unfolding unbroken_of
@@ -39,15 +39,16 @@ found_buffer old o =
       after = λ u t e j h. rw e ((plan_buffer old (answered (record { windows = u; moves = 0 }))).after _ refl j h);
     }
 
-pub starts_law : (whole : ℕ → Bool) (x : Search) → StartsLaw whole x
-starts_law whole x =
+pub starts_law : (whole : ℕ → Bool) (o : Outcome Search) → StartsLaw whole o
+starts_law whole o =
     record {
-      long = long x;
+      long = long o;
       whole_start = λ u t e i h n is. rw e (at u i h ∙ rw (lt-ltb i u.n n, is) refl);
       pause_start = λ u t e i h is. rw e (at u i h ∙ pause u i (ltb i u.n) is);
       past_start = λ u t e i h n. rw e (at u i h ∙ rw (le-ltb i u.n n) refl);
       none_start = λ t e i h. rw e (get_or-replicate 64 i 0 0 h);
       spent_start = λ t e i h. rw e (get_or-replicate 64 i 0 0 h);
+      refused_start = λ c e i h. rw e (get_or-replicate 64 i 0 0 h);
     }
   where
     at : (u : Windows) (i : ℕ) → i < 64 → get_or (whole_starts whole u) i 0 ≡ cond (ltb i u.n) (cond (whole i) (u.r i) 0) 0
@@ -57,7 +58,8 @@ starts_law whole x =
     pause u i true e = rw e refl
     pause u i false e = refl
 
-    long : (y : Search) → length (starts_found whole y) ≡ 64
-    long (found u t) = list_length 64 _
-    long (none t) = length-replicate {A = ℕ} 64 0
-    long (spent t) = length-replicate {A = ℕ} 64 0
+    long : (o : Outcome Search) → length (starts_after whole o) ≡ 64
+    long (answered (found u t)) = list_length 64 _
+    long (answered (none t)) = length-replicate {A = ℕ} 64 0
+    long (answered (spent t)) = length-replicate {A = ℕ} 64 0
+    long (refused k) = length-replicate {A = ℕ} 64 0

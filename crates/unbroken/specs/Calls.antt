@@ -18,7 +18,8 @@ use Rattle.planner.specs.Calls.{plan_checks, plan_of, planned}
 use Rattle.backtracking.specs.Searches.{Search, found, none, spent, trials_of, search_all, search_within}
 use Rattle.backtracking.specs.Laws.{UnbrokenDay, NoneUnbroken, with_starts, LeastDay, LimitLaw}
 use Rattle.backtracking.specs.Calls.{ending_of}
-use Rattle.backtracking.specs.declared.types.Ending.TheVariants.{DayFound, NoneExists, TrialsSpent}
+use Rattle.backtracking.specs.declared.types.Ending.{Ending}
+use Rattle.backtracking.specs.declared.types.Ending.TheVariants.{Unsearched, DayFound, NoneExists, TrialsSpent}
 use Rattle.unbroken.specs.declared.types.UnbrokenSearch.{UnbrokenSearch}
 
 -- the rows of planning, that is the value check, 11, 9 and 10; then "Search inside the settled windows", with "a limit of trials"
@@ -33,6 +34,16 @@ pub record UnbrokenRowsLaw (l : DayList) (limit room : ℕ) : Type 0 where
   pub then : WellFormed l → l.frame.h ≤ room → (v : Narrowed) → settle_of l ≡ answered v
       → unbroken_of l limit room ≡ answered (search_within overload_of limit (whole_in l) v.windows)
 
+-- how the search ended; beside a refusal nothing was searched
+abbrev pub ending_after : Outcome Search → Ending
+ending_after (answered x) = ending_of x
+ending_after (refused k) = Unsearched
+
+-- "Trials are returned"; beside a refusal 0
+abbrev pub trials_after : Outcome Search → ℕ
+trials_after (answered x) = trials_of x
+trials_after (refused k) = 0
+
 -- the starts of the whole entries, where they are fixed in u; 0 for pause entries, and from n on
 abbrev pub whole_starts : (ℕ → Bool) → Windows → List ℕ
 whole_starts whole u = by_place u.n (λ i. cond (whole i) (u.r i) 0)
@@ -43,15 +54,21 @@ starts_found whole (found u t) = whole_starts whole u
 starts_found whole (none t) = replicate most_entries 0
 starts_found whole (spent t) = replicate most_entries 0
 
+abbrev pub starts_after : (ℕ → Bool) → Outcome Search → List ℕ
+starts_after whole (answered x) = starts_found whole x
+starts_after whole (refused k) = replicate most_entries 0
+
 -- the same in facts. `starts_law` of proofs/UnbrokenRows.antt
-pub record StartsLaw (whole : ℕ → Bool) (x : Search) : Type 0 where
-  pub long : length (starts_found whole x) ≡ 64
-  pub whole_start : (u : Windows) (t : ℕ) → x ≡ found u t → (i : ℕ) → i < 64 → i < u.n → whole i ≡ true
-      → get_or (starts_found whole x) i 0 ≡ u.r i
-  pub pause_start : (u : Windows) (t : ℕ) → x ≡ found u t → (i : ℕ) → i < 64 → whole i ≡ false → get_or (starts_found whole x) i 0 ≡ 0
-  pub past_start : (u : Windows) (t : ℕ) → x ≡ found u t → (i : ℕ) → i < 64 → u.n ≤ i → get_or (starts_found whole x) i 0 ≡ 0
-  pub none_start : (t : ℕ) → x ≡ none t → (i : ℕ) → i < 64 → get_or (starts_found whole x) i 0 ≡ 0
-  pub spent_start : (t : ℕ) → x ≡ spent t → (i : ℕ) → i < 64 → get_or (starts_found whole x) i 0 ≡ 0
+pub record StartsLaw (whole : ℕ → Bool) (o : Outcome Search) : Type 0 where
+  pub long : length (starts_after whole o) ≡ 64
+  pub whole_start : (u : Windows) (t : ℕ) → o ≡ answered (found u t) → (i : ℕ) → i < 64 → i < u.n → whole i ≡ true
+      → get_or (starts_after whole o) i 0 ≡ u.r i
+  pub pause_start : (u : Windows) (t : ℕ) → o ≡ answered (found u t) → (i : ℕ) → i < 64 → whole i ≡ false
+      → get_or (starts_after whole o) i 0 ≡ 0
+  pub past_start : (u : Windows) (t : ℕ) → o ≡ answered (found u t) → (i : ℕ) → i < 64 → u.n ≤ i → get_or (starts_after whole o) i 0 ≡ 0
+  pub none_start : (t : ℕ) → o ≡ answered (none t) → (i : ℕ) → i < 64 → get_or (starts_after whole o) i 0 ≡ 0
+  pub spent_start : (t : ℕ) → o ≡ answered (spent t) → (i : ℕ) → i < 64 → get_or (starts_after whole o) i 0 ≡ 0
+  pub refused_start : (c : Code) → o ≡ refused c → (i : ℕ) → i < 64 → get_or (starts_after whole o) i 0 ≡ 0
 
 -- "Found: the plan is Jackson's with the starts fixed": what a buffer that held old holds then, its bytes after H kept. "None and spent
 -- leave the plan buffer as it was."
@@ -69,6 +86,19 @@ unbroken_after old (refused k) = old
 abbrev pub narrowed_by_search : Result UnbrokenSearch Refusal → Result NarrowedList Refusal
 narrowed_by_search (Ok u) = Ok u.narrowed
 narrowed_by_search (Err k) = Err k
+
+-- how the search ended, its trials and its starts, of each answer; beside a refusal nothing was searched
+abbrev pub ending_in : Result UnbrokenSearch Refusal → Ending
+ending_in (Ok u) = u.ending
+ending_in (Err k) = Unsearched
+
+abbrev pub trials_in : Result UnbrokenSearch Refusal → ℕ
+trials_in (Ok u) = u.trials
+trials_in (Err k) = 0
+
+abbrev pub starts_in : Result UnbrokenSearch Refusal → List ℕ
+starts_in (Ok u) = u.starts
+starts_in (Err k) = replicate most_entries 0
 
 -- the trials of the search without a limit in the settled windows, which are those of the list answered
 abbrev pub trials_needed : (ℕ → Bool) → UnbrokenSearch → ℕ
@@ -107,11 +137,15 @@ pub record FindsUnbroken (l : DayList) (limit : ℕ) (old : List ℕ) (a : Resul
   pub answers : AnswersAs l (plan_of l (length old)) (narrowed_by_search a)
   pub holds : HoldsAnswer l (plan_of l (length old)) (narrowed_by_search a)
   pub search : (u : UnbrokenSearch) → a ≡ Ok u → HoldsSearch (whole_in l) (unbroken_of l limit (length old)) u
+  pub ending : ending_in a ≡ ending_after (unbroken_of l limit (length old))
+  pub trials : trials_in a ≡ trials_after (unbroken_of l limit (length old))
+  pub starts : starts_in a ≡ starts_after (whole_in l) (unbroken_of l limit (length old))
   pub buffer : new ≡ unbroken_after old (unbroken_of l limit (length old))
   -- where 9 and 10 were not given
   pub tells : (u : UnbrokenSearch) → a ≡ Ok u → TellsUnbroken (whole_in l) (windows_of l) limit u (take l.frame.h new)
   -- a refusal is that of the rows, and nothing was searched
   pub unsearched : (k : Refusal) → a ≡ Err k → (unbroken_of l limit (length old) ≡ refused (code_of k)) × (new ≡ old)
+  pub not_searched : (k : Refusal) → a ≡ Err k → (ending_in a ≡ Unsearched) × (trials_in a ≡ 0) × (starts_in a ≡ replicate most_entries 0)
   -- the law of narrowing, of the windows and moves answered, for a list and a buffer that pass the checks before 9
   pub law : plan_checks l (length old) ≡ answered tt
       → NarrowLaw overload_of (whole_in l) (windows_of l) (narrowed_in (narrowed_by_search a))

@@ -6,8 +6,8 @@ use Rattle.list.specs.declared.types.DayList.{DayList}
 use Rattle.planner.specs.Examples.{pause_entry, whole_entry, day, list_a, list_c, list_e}
 use Rattle.backtracking.specs.Searches.{Search, none, spent, trials_of}
 use Rattle.backtracking.specs.Calls.{ending_of}
-use Rattle.backtracking.specs.declared.types.Ending.TheVariants.{DayFound}
-use Rattle.unbroken.specs.Calls.{unbroken_of, starts_found, unbroken_after}
+use Rattle.backtracking.specs.declared.types.Ending.TheVariants.{Unsearched, DayFound}
+use Rattle.unbroken.specs.Calls.{unbroken_of, ending_after, starts_found, unbroken_after}
 
 -- a pause entry [1, 3) p 1, then a whole one [0, 3) p 2, then a whole one [3, 5) p 1
 abbrev pub pause_first : DayList
@@ -42,3 +42,4 @@ pub record UnbrokenExamples : Type 0 where
   pub short : unbroken_of list_a 2 3 ≡ refused (code 11 (4 ∷ []))
   pub nine : unbroken_of list_c 0 10 ≡ refused (code 9 (2 ∷ 5 ∷ 4 ∷ []))
   pub ten : unbroken_of list_e 0 6 ≡ refused (code 10 (0 ∷ []))
+  pub ten_unsearched : ending_after (unbroken_of list_e 0 6) ≡ Unsearched
