@@ -20,6 +20,7 @@ unfolding sum first_below last_below best list_of entry_fault first_clash header
 commit_examples =
     record {
       fresh = refl;
+      beside = refl;
       not_planned = refl;
       asks = refl;
       plan = refl;

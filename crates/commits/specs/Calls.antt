@@ -1,7 +1,7 @@
 -- What the calls on a day answer: "Ask for a late box, then commit it."
 use Rattle.std.specs.Prelude.{ℕ, ◌≡◌, not, List, [], ◌∷◌, length, eqb, leb, Result, Ok}
 use Rattle.base.specs.Outcomes.{Row, row, Outcome, answered, refused, first_of, and_then}
-use Rattle.list.specs.DayLists.{most_entries, SameList}
+use Rattle.list.specs.DayLists.{most_entries, empty_list, SameList}
 use Rattle.list.specs.Refusals.{outcome_of}
 use Rattle.list.specs.declared.types.Entry.{Entry}
 use Rattle.list.specs.declared.types.DayList.{DayList}
@@ -17,6 +17,10 @@ use Rattle.commits.specs.declared.types.CommitAnswer.{CommitAnswer}
 -- "A fresh day is made from a list that can be planned, else that list's refusal is given." No plan buffer is lent.
 abbrev pub fresh_of : DayList → Outcome StampedDay
 fresh_of l = and_then (planning l) (λ _. answered (record { list = trimmed l; stamp = 0 }))
+
+-- the day of the empty list, with the stamp 0
+abbrev pub empty_day : StampedDay
+empty_day = record { list = empty_list; stamp = 0 }
 
 -- what `fresh_day` answers of the list l
 abbrev pub MakesDay : DayList → Result StampedDay Refusal → Type 0

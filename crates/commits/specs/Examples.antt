@@ -10,7 +10,7 @@ use Rattle.narrow.specs.Calls.{listed}
 use Rattle.planner.specs.Calls.{settled_or}
 use Rattle.planner.specs.Examples.{pause_entry, whole_entry, day}
 use Rattle.commits.specs.Days.{with_entry}
-use Rattle.commits.specs.Calls.{fresh_of, ask_of, commit_of, day_after}
+use Rattle.commits.specs.Calls.{fresh_of, empty_day, ask_of, commit_of, day_after}
 use Rattle.commits.specs.declared.types.StampedDay.{StampedDay}
 
 -- the list in the morning, with serials 1 and 2, and two late boxes, serials 3 and 4
@@ -40,6 +40,7 @@ last_day = record { list = morning; stamp = 65535 }
 
 pub record CommitExamples : Type 0 where
   pub fresh : fresh_of morning ≡ answered day_zero
+  pub beside : empty_day ≡ record { list = day 0 []; stamp = 0 }
   pub not_planned : fresh_of (day 1 (pause_entry 1 0 1 1 ∷ pause_entry 2 0 1 1 ∷ [])) ≡ refused (code 9 (0 ∷ 1 ∷ 2 ∷ []))
   -- asking for serial 3, which is narrowed to [3, 6), in one move
   pub asks : listed (with_entry morning third) (ask_of day_zero third 6)

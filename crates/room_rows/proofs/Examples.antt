@@ -20,6 +20,8 @@ row_examples =
       nothing = refl;
       answer = refl;
       turn_refused = refl;
+      answer_values = refl;
+      turn_refusal = refl;
       refused_carries = refl;
       nothing_carries = refl;
     }

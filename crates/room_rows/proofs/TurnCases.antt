@@ -31,7 +31,7 @@ use Rattle.room_rows.proofs.RoomTrip.{rooms_count, rooms_stored}
 pub numbers_refused : (xs lists carried : List ℕ) (o : Outcome Turn) {x : Refusal} → o ≡ refused (code_of x)
     → NumbersTurn (lent_in xs lists) o xs carried (Err x) xs lists carried
 numbers_refused xs lists carried o e =
-    record { answer = rw e; left = record { rooms = rw e; lists = rw e; carried = rw e; back = rw e } }
+    record { answer = rw e; told = rw e; left = record { rooms = rw e; lists = rw e; carried = rw e; back = rw e } }
 
 module _ (xs : List ℕ) {lists : List ℕ} {number : ℕ} {first : List Room} (eight : first ≡ eight_rows (rooms_in xs) no_row)
     {held : HeldAnswer} {new : List ℕ} (turned : TurnsHeld first (length xs / room_numbers) lists number held new) (b : Bytes lists) where
@@ -105,6 +105,7 @@ module _ (xs : List ℕ) {lists : List ℕ} {number : ℕ} {first : List Room} (
       let o = outcome_is (Ok (NoneUnfinished used)) is in
       record {
         answer = rw (o, rooms_count xs);
+        told = rw (o, rooms_count xs);
         left = record { rooms = rw o; lists = rw o (lists_are (Ok (NoneUnfinished used)) is); carried = rw o; back = rw o };
       }
 
@@ -157,6 +158,7 @@ module _ (xs : List ℕ) {lists : List ℕ} {number : ℕ} {first : List Room} (
         stored ∙ ap (λ (y : Room). sets xs (room_numbers * k) (room_row y)) (at ∙ row_is) in
         record {
           answer = rw (o, number_is);
+          told = rw (o, number_is);
           left =
               record {
                 rooms = rw o same;

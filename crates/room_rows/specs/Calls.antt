@@ -1,10 +1,11 @@
 -- A turn over rows of numbers: what it answers, and what it leaves in all that is lent.
-use Rattle.std.specs.Prelude.{ℕ, ◌+◌, ◌*◌, ◌<◌, ◌≤◌, ◌≡◌, ◌⊎◌, List, [], ◌∷◌, length, get_or, Result}
+use Rattle.std.specs.Prelude.{ℕ, ◌+◌, ◌*◌, ◌<◌, ◌≤◌, ◌≡◌, ◌⊎◌, List, [], ◌∷◌, length, get_or, Result, Ok, Err}
 use Rattle.std.proofs.lemmas.List.Edits.{sets}
 use Rattle.base.specs.Outcomes.{Outcome, answered, refused, and_then}
-use Rattle.list.specs.Refusals.{outcome_of}
+use Rattle.list.specs.Refusals.{code_of, outcome_of}
 use Rattle.list.specs.declared.types.Refusal.{Refusal}
 use Rattle.codes.specs.Codes.{three}
+use Rattle.codes.specs.declared.RefusalCode.{RefusalCode}
 use Rattle.rooms.specs.Turns.{Lent, row_in, Turn, took, none_unfinished, turn_of, lent_by}
 use Rattle.room_rows.specs.RoomRows.{room_numbers, rooms_in, room_row, rooms_fault}
 
@@ -32,8 +33,18 @@ turn_values m (took k said next) = k ∷ said_number said ∷ next ∷ []
 turn_values m (none_unfinished used) = m ∷ 0 ∷ used ∷ []
 
 -- those values, or the turn's own refusal
-abbrev pub numbers_by : ℕ → Outcome Turn → Outcome (List ℕ)
-numbers_by m o = and_then o (λ t. answered (turn_values m t))
+abbrev pub values_by : ℕ → Outcome Turn → Outcome (List ℕ)
+values_by m o = and_then o (λ t. answered (turn_values m t))
+
+-- 0 with those values, or the number of the turn's own refusal with what it carries
+abbrev pub numbers_by : ℕ → Outcome Turn → RefusalCode
+numbers_by m (answered t) = record { number = 0; values = turn_values m t }
+numbers_by m (refused k) = record { number = k.number; values = three k.carries }
+
+-- the same of an answer: 0 with its values, or its refusal's number with what it carries
+abbrev pub numbers_told : Result (List ℕ) Refusal → RefusalCode
+numbers_told (Ok v) = record { number = 0; values = v }
+numbers_told (Err x) = record { number = (code_of x).number; values = three (code_of x).carries }
 
 -- the rooms' numbers after a turn with this outcome: those of the room that had it are its row's, and no other changes
 abbrev pub rooms_by : Outcome Turn → Lent → List ℕ → List ℕ
@@ -63,7 +74,8 @@ RoomsLaw =
 -- what it answers, and leaves
 pub record NumbersTurn (x : Lent) (o : Outcome Turn) (xs old_carried : List ℕ) (a : Result (List ℕ) Refusal)
     (new_rooms new_lists new_carried : List ℕ) : Type 0 where
-  pub answer : outcome_of a ≡ numbers_by (length x.rows) o
+  pub answer : outcome_of a ≡ values_by (length x.rows) o
+  pub told : numbers_told a ≡ numbers_by (length x.rows) o
   pub left : RoomsLeft x o xs old_carried new_rooms new_lists new_carried
 
 -- what `turn_numbers` answers of rooms as numbers, their lists and a number, and leaves there
