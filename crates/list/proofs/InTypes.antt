@@ -21,7 +21,7 @@ use Rattle.list.specs.contracts.types.Entry.{the_row}
 abbrev pub Owned : List Entry → List Val → Type 0
 Owned es us = shadow (each the_row.Denot the_row.own_val es us)
 
-each_serial : (es : List Entry) (us : List Val) → Owned es us → (i : ℕ) → (get_or es i blank).serial < 2 ^ 32
+pub each_serial : (es : List Entry) (us : List Val) → Owned es us → (i : ℕ) → (get_or es i blank).serial < 2 ^ 32
 each_serial [] us s i = omega arith
 each_serial (e ∷ es) [] s i = absurd s
 each_serial (e ∷ es) (u ∷ us) s zero = s.0.1.1.0.1
@@ -31,7 +31,7 @@ seal_fits : (x : Option ℕ) (vs : List Val) → shadow ((the_field u32).row.own
 seal_fits None vs s = tt
 seal_fits (Some x) vs s = s.1.1.1.1.0.1
 
-each_seal : (es : List Entry) (us : List Val) → Owned es us → (i : ℕ) → SealFits (get_or es i blank).seal
+pub each_seal : (es : List Entry) (us : List Val) → Owned es us → (i : ℕ) → SealFits (get_or es i blank).seal
 each_seal [] us s i = tt
 each_seal (e ∷ es) [] s i = absurd s
 each_seal (e ∷ es) (u ∷ us) s zero = seal_fits e.seal _ s.0.1.1.1.0

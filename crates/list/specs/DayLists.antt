@@ -18,7 +18,7 @@ longest_day = 1440
 abbrev pub entries_of : DayList → List Entry
 entries_of l = take l.n l.entries
 
--- what stands at every place from n on in a list that is answered
+-- what stands at every place from n on in a list that is read from its bytes, narrowed, trimmed or made longer
 abbrev pub blank : Entry
 blank = record { serial = 0; seal = None; r = 0; d = 0; p = 0; kind = Pause }
 
@@ -43,7 +43,7 @@ by_place n f = list_of most_entries (λ i. cond (ltb i n) (f i) 0)
 abbrev pub day_list : Frame → List Entry → DayList
 day_list f es = record { frame = f; n = length es; entries = es ++ replicate (most_entries - length es) blank }
 
--- the list value that stands beside a refusal
+-- the list value with no entry: H 0 and opening minute 0, and a blank entry at each of the 64 places
 abbrev pub empty_list : DayList
 empty_list = day_list (record { h = 0; opening = 0 }) []
 

@@ -207,7 +207,7 @@ pub record Planning (checks : Outcome (Unit {0})) (l : DayList) (old : List ℕ)
   pub kinds : marked marks ≡ whole_in l
   pub room : l.frame.h ≤ length old
 
-is_planning : {checks : Outcome (Unit {0})} {l : DayList} {old : List ℕ} {marks : List Bool} (found : NarrowedWindows)
+pub is_planning : {checks : Outcome (Unit {0})} {l : DayList} {old : List ℕ} {marks : List Bool} (found : NarrowedWindows)
     → (checks ≡ answered tt → plan_checks l (length old) ≡ answered tt) → marked marks ≡ whole_in l
     → answered (narrowed_by found) ≡ narrow_after checks l → Planning checks l old marks found
 is_planning {checks} {l} {old} found plan kinds is =

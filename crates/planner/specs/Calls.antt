@@ -41,7 +41,7 @@ shown_checks l k room = before_nine l (place_row l.n k ∷ buffer_row l.frame.h 
 abbrev pub narrow_after : Outcome (Unit {0}) → DayList → Outcome Narrowed
 narrow_after checks l = and_then checks (λ _. narrowing overload_of (whole_in l) (windows_of l))
 
--- what f gives of the settled windows, or what stands beside a refusal
+-- what f gives of the settled windows, or x where they are refused
 abbrev pub settled_or : {A : Type 0} → A → (Windows → A) → Outcome Narrowed → A
 settled_or x f (answered v) = f v.windows
 settled_or x f (refused k) = x
@@ -68,7 +68,7 @@ plan_of l room = narrow_after (plan_checks l room) l
 abbrev pub planning : DayList → Outcome Narrowed
 planning l = plan_of l l.frame.h
 
--- the least ends, greatest starts and broken entries beside the windows answered; 0 beside a refusal
+-- the least ends, greatest starts and broken entries beside the windows answered; 0 where they are refused, which no answer gives
 abbrev pub ends_of : (ℕ → Bool) → Outcome Narrowed → List ℕ
 ends_of whole = settled_or (replicate most_entries 0) (least_ends whole)
 

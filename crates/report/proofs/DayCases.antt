@@ -104,7 +104,7 @@ module _ (l : DayList) (well : WellFormed l) (old new : List ℕ) (long : length
     day_is : length bytes ≡ (list_with l w).frame.h
     day_is = held.demand2.plan.long ∙ ap (λ (x : DayList). x.frame.h) list_is
 
-    bytes_long : l.frame.h ≡ length (take l.frame.h new)
+    pub bytes_long : l.frame.h ≡ length (take l.frame.h new)
     unfolding list_with
     bytes_long = sym day_is
 

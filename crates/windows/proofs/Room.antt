@@ -6,6 +6,7 @@ use mathlib.Core.List.{[], ◌∷◌}
 use Prim.Native.Nat.{ℕ, ◌+◌, ◌<◌, ◌≤◌}
 use native.Mathlib.Omega.{arith}
 use borrow.Author.Tests.{le-leb, lt-leb, lt-ltb, le-ltb, eq-eqb, ne_eqb}
+use lib.Dec.{leb}
 use Rattle.base.specs.Outcomes.{code, answered, refused}
 use Rattle.base.specs.Counting.{first_below}
 use Rattle.base.proofs.Inversion.{answered_refused}
@@ -31,6 +32,10 @@ module _ (h r d p : ℕ) where
 
   pub room_too_short : 1 ≤ p → d ≤ h → d < r + p → has_room h r d p ≡ false
   room_too_short some in_day less = rw (le-leb 1 p some, le-leb d h in_day, lt-leb (r + p) d less)
+
+  -- with a minute needed and d in the day, the sum decides
+  pub room_sum : 1 ≤ p → d ≤ h → leb (r + p) d ≡ has_room h r d p
+  room_sum some in_day = rw (le-leb 1 p some, le-leb d h in_day)
 
   pub room_has : has_room h r d p ≡ true → Room h r d p
   room_has e =

@@ -130,6 +130,7 @@ pub record Walking (w : Windows) (o : ℕ → ℕ) (b : ℕ) (s s' : RunningSum)
   pub from : PlacesFrom w o s.passed places
   pub passed_is : s'.passed ≡ s.passed + j
   pub adds : Adds w o b s s'
+  pub within : s'.passed ≤ w.n
   pub small : s'.kept ≤ 65535 * s'.passed
   pub counted : s'.additions ≤ s'.passed
   pub a_is : s'.a ≡ w.r (o s.passed)
@@ -148,6 +149,7 @@ module _ (w : Windows) (o : ℕ → ℕ) (order : LatestReleaseFirst w o) (b : �
           from = from;
           passed_is = omega arith;
           adds = record { kept = refl; additions = refl; earlier = refl };
+          within = omega (arith, more);
           small = small;
           counted = counted;
           a_is = refl;
@@ -174,6 +176,7 @@ module _ (w : Windows) (o : ℕ → ℕ) (order : LatestReleaseFirst w o) (b : �
                 additions = rw (passes.passed, add-one, ← is_next) (omega (arith, so.adds.additions, passes.additions));
                 earlier = passes.earlier ∙ so.adds.earlier;
               };
+              within = omega (arith, so.passed_is, passes.passed, so.from.all, h);
               small =
                   let one = cond_most (leb (w.d i) b) (w.p i) 0 65535 passes.small (omega arith) in
                   omega (arith, passes.passed, passes.kept, so.small, one);
@@ -188,6 +191,32 @@ module _ (w : Windows) (o : ℕ → ℕ) (order : LatestReleaseFirst w o) (b : �
                   (λ e _. rw (so.a_is, e, ← is_next) high)
                   (λ ne _. so.over y (omega (arith, ne, passes.passed))));
             }
+
+      -- it ends where the next r is smaller, or no place is left
+      walked : s.passed < s'.passed → ((y : ℕ) → s'.passed ≤ y → y < w.n → w.r (o y) < s'.a) → WalksDown w o b s s'
+      walked further under =
+          record {
+            adds = record { kept = so.adds.kept; additions = so.adds.additions; earlier = so.adds.earlier };
+            small = so.small;
+            a_is = so.a_is;
+            further = further;
+            within = so.within;
+            same_r =
+                λ x l u.
+                omega (arith, so.over x u, so.a_is, falls w o order s.passed x l (omega (arith, so.within)));
+            smaller_r = under;
+          }
+
+      pub walked_below : s'.passed < w.n → w.r (o s'.passed) < w.r (o s.passed) → WalksDown w o b s s'
+      walked_below less low =
+          walked
+          (same_cases s.passed s'.passed
+          (λ e _. absurd (omega (arith, low, ap (λ (z : ℕ). w.r (o z)) e)))
+          (λ ne _. omega (arith, so.passed_is, ne)))
+          (λ y l u. omega (arith, low, so.a_is, falls w o order s'.passed y l u))
+
+      pub walked_all : w.n ≤ s'.passed → WalksDown w o b s s'
+      walked_all end = walked (omega (arith, more)) (λ y l u. absurd (omega (arith, u)))
 
 -- Along the whole walk the sum is that of the places passed, and at each left end reached the interval's.
 module _ (w : Windows) (o : ℕ → ℕ) (order : LatestReleaseFirst w o) (b : ℕ) (s : RunningSum) where
