@@ -3,8 +3,9 @@
 use mathlib.Core.Path.{◌≡◌}
 use mathlib.Core.Bool.{true}
 use Prim.Native.Nat.{ℕ, ◌<◌, ◌≤◌}
+use borrow.Author.Rules.{rules}
 use Rattle.windows.specs.Plans.{idle}
-use Rattle.jackson.specs.Minutes.{State, is_ready, comes_before, earliest_deadline}
+use Rattle.jackson.specs.Minutes.{State, is_ready, comes_before, earliest_deadline, chosen}
 use Rattle.jackson.specs.Internal.{IsAfterMinutes, IsAfter}
 use Rattle.jackson.specs.declared.types.Day.{Day}
 use Rattle.base.proofs.Scans.{best_some}
@@ -14,6 +15,11 @@ use Rattle.jackson.proofs.Choices.{comes_before_ranks}
 pub found_place : (s : State) → s.windows.n ≤ 255 → s.last < s.windows.n → is_ready s s.last ≡ true → earliest_deadline s < s.windows.n
 found_place s few held ready =
     (best_some idle (is_ready s) (comes_before s) (comes_before_ranks s) s.windows.n few s.last held ready).below
+
+-- another place's d that is strictly smaller interrupts the entry that had the minute before
+pub smaller_interrupts : (s : State) → s.windows.d (earliest_deadline s) < s.windows.d s.last → chosen s ≡ earliest_deadline s
+unfolding chosen
+smaller_interrupts s smaller = search rules
 
 -- one minute
 pub after_one : (day : Day) (k : ℕ) (next : Day) → IsAfterMinutes day k 1 next → IsAfter day k next
